@@ -31,10 +31,10 @@ STORED = """\
 //! What the plain model in Python says that schedules come to. `tools/model/stored_replays.py` prints this file.
 
 /// A schedule, and what it comes to: its chart, its races and its notes.
-pub type Told = (&'static [u8], &'static [u8]);
+pub type StoredReplay = (&'static [u8], &'static [u8]);
 
 /// Schedules of `cases/`, and one more.
-pub static WORKED: [Told; %d] = [
+pub static WORKED: [StoredReplay; %d] = [
 %s];
 
 /// The SHA-256 digest of what the orders that the seeds 0 to 999 draw of twenty rounds come to, text behind text.

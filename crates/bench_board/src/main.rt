@@ -27,7 +27,7 @@ const ROUNDS: [(Traffic, usize, usize); 5] = [
 ];
 
 /// Passes a round by turns, and tells how many messages came and what their reports list, which the traffic decides.
-fn tell_report<R: Threads + Sync + Clock + AllocGlobal + Print>(
+fn print_report<R: Threads + Sync + Clock + AllocGlobal + Print>(
     rt: &R,
     peer: Peer,
     plan: &Plan,
@@ -45,7 +45,7 @@ fn tell_report<R: Threads + Sync + Clock + AllocGlobal + Print>(
 }
 
 /// The same of each of the rounds.
-fn tell_reports<R: Threads + Sync + Clock + AllocGlobal + Print>(
+fn print_reports<R: Threads + Sync + Clock + AllocGlobal + Print>(
     rt: &R,
     peer: Peer,
 ) -> anyhow::Result<()> {
@@ -58,7 +58,7 @@ fn tell_reports<R: Threads + Sync + Clock + AllocGlobal + Print>(
             body: 0,
             messages: 4000,
         };
-        tell_report(rt, peer, &plan)?;
+        print_report(rt, peer, &plan)?;
     }
     Ok(())
 }
@@ -144,7 +144,7 @@ fn read_words<R: Env + AllocGlobal>(rt: &R) -> anyhow::Result<Asked> {
 }
 
 /// Runs so many rounds, and tells of each the nanoseconds, how many messages came, and what their reports list.
-fn tell_rounds<R: Threads + Sync + Clock + AllocGlobal + Print>(
+fn print_rounds<R: Threads + Sync + Clock + AllocGlobal + Print>(
     rt: &R,
     peer: Peer,
     plan: &Plan,
@@ -166,9 +166,9 @@ fn main(rt: HostRuntime) -> anyhow::Result<()> {
     match read_words(&rt)? {
         Asked::Reports => {
             println!(rt; "traffic,peer,instances,capacity,messages,listed,firsts")?;
-            tell_reports(&rt, Peer::Board)?;
-            tell_reports(&rt, Peer::Rings)
+            print_reports(&rt, Peer::Board)?;
+            print_reports(&rt, Peer::Rings)
         }
-        Asked::Rounds { peer, plan, rounds } => tell_rounds(&rt, peer, &plan, rounds),
+        Asked::Rounds { peer, plan, rounds } => print_rounds(&rt, peer, &plan, rounds),
     }
 }

@@ -189,7 +189,11 @@ fn pass_batches<E: End>(
 }
 
 /// The outcome of instances that have passed all, in so many nanoseconds.
-fn told<E>(plan: &Plan, players: &Vec<Player<E>>, nanoseconds: u64) -> anyhow::Result<Outcome> {
+fn print_outcome<E>(
+    plan: &Plan,
+    players: &Vec<Player<E>>,
+    nanoseconds: u64,
+) -> anyhow::Result<Outcome> {
     let mut messages = 0u64;
     let mut seen = Seen {
         listed: 0,
@@ -259,7 +263,7 @@ fn run_here<R: Clock, E: End + Drop>(
     mut players: Vec<Player<E>>,
 ) -> anyhow::Result<Outcome> {
     let nanoseconds = time_here(rt, plan, players.as_mut_slice())?;
-    told(plan, &players, nanoseconds)
+    print_outcome(plan, &players, nanoseconds)
 }
 
 /// Waits until all threads are there, and passes the messages of an instance. Answers how many nanoseconds it took.
@@ -321,7 +325,7 @@ fn run_threads<R: Threads + Sync + Clock, E: End + Send + Drop>(
             None => anyhow::bail!("an instance failed"),
         }
     }
-    told(plan, &players, slowest)
+    print_outcome(plan, &players, slowest)
 }
 
 fn run_ends<R: Threads + Sync + Clock, E: End + Send + Drop>(

@@ -7,8 +7,8 @@ use Rattle.clock.proofs.EntryLemmas.{length-with_entry}
 use Rattle.bench_library.specs.Partners.{ArePartners}
 
 -- whichever is named first
-pub turned : (a b : RecorderView) → ArePartners a b → ArePartners b a
-turned a b h = record {
+pub swapped : (a b : RecorderView) → ArePartners a b → ArePartners b a
+swapped a b h = record {
   different = λ same. h.different (sym same);
   entries = sym h.entries;
   has_first = h.has_second;

@@ -116,7 +116,7 @@ pub fn make_chart<R: Print>(rt: &R, pattern: Pattern) -> anyhow::Result<()> {
 }
 
 /// Tells the times on standard error and writes the text to standard output.
-fn tell_times<R: Clock + AllocGlobal + Print + Eprint>(
+fn print_times<R: Clock + AllocGlobal + Print + Eprint>(
     rt: &R,
     text: &[u8],
     names: &Names,
@@ -132,7 +132,7 @@ fn tell_times<R: Clock + AllocGlobal + Print + Eprint>(
 }
 
 /// Tells how many races there are.
-fn tell_races<R: AllocGlobal + Print>(rt: &R, chart: &Chart) -> anyhow::Result<()> {
+fn print_races<R: AllocGlobal + Print>(rt: &R, chart: &Chart) -> anyhow::Result<()> {
     let instances = chart.lines().len();
     let races = races_in(rt.alloc(), chart)?;
     println!(rt; "{instances} instances, {races} races")?;
@@ -140,15 +140,15 @@ fn tell_races<R: AllocGlobal + Print>(rt: &R, chart: &Chart) -> anyhow::Result<(
 }
 
 /// Tells the times and writes the text, or else tells how many races there are.
-pub fn tell_charts<R: Clock + AllocGlobal + Print + Eprint>(
+pub fn print_charts<R: Clock + AllocGlobal + Print + Eprint>(
     rt: &R,
     text: &[u8],
     timed: bool,
 ) -> anyhow::Result<()> {
     let (names, chart) = chart_in(rt.alloc(), text)?;
     if timed {
-        tell_times(rt, text, &names, &chart)
+        print_times(rt, text, &names, &chart)
     } else {
-        tell_races(rt, &chart)
+        print_races(rt, &chart)
     }
 }

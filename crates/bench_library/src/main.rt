@@ -23,16 +23,16 @@ mod threads;
 mod timing;
 
 use anyhow::bail;
-use charts::{make_chart, tell_charts};
+use charts::{make_chart, print_charts};
 use patterns::pattern_in;
-use recorders::tell_recorders;
-use replays::tell_replays;
+use recorders::print_recorders;
+use replays::print_replays;
 use std::convert::AsStr;
 use std::rt::{Env, Files};
 use std::thread::Threads;
 use std::time::Clock;
 use std::{env, fs};
-use threads::tell_threads;
+use threads::print_threads;
 
 /// Whether times are asked for: by the one word `time`.
 fn is_timed(words: &[String]) -> anyhow::Result<bool> {
@@ -59,7 +59,7 @@ fn replays_of<R: Clock + AllocGlobal + Print + Eprint + Files>(
     times: Option<u32>,
 ) -> anyhow::Result<()> {
     let text = fs::read(rt, file)?;
-    tell_replays(rt, text.as_slice(), times)
+    print_replays(rt, text.as_slice(), times)
 }
 
 /// Tells of a chart that is in a file.
@@ -69,7 +69,7 @@ fn charts_of<R: Clock + AllocGlobal + Print + Eprint + Files>(
     timed: bool,
 ) -> anyhow::Result<()> {
     let text = fs::read(rt, file)?;
-    tell_charts(rt, text.as_slice(), timed)
+    print_charts(rt, text.as_slice(), timed)
 }
 
 /// Writes the chart with the traffic of this name.
@@ -81,15 +81,15 @@ fn make_named<R: Print>(rt: &R, name: &str) -> anyhow::Result<()> {
 }
 
 /// Tells what each of the four would time.
-fn tell_all<R: Threads + Sync + Clock + AllocGlobal + Print + Eprint>(
+fn print_all<R: Threads + Sync + Clock + AllocGlobal + Print + Eprint>(
     rt: &R,
     chart: &[u8],
     schedule: &[u8],
 ) -> anyhow::Result<()> {
-    tell_recorders(rt, false)?;
-    tell_threads(rt, false)?;
-    tell_replays(rt, schedule, None)?;
-    tell_charts(rt, chart, false)
+    print_recorders(rt, false)?;
+    print_threads(rt, false)?;
+    print_replays(rt, schedule, None)?;
+    print_charts(rt, chart, false)
 }
 
 /// The same of a chart and a schedule that are in files.
@@ -100,19 +100,19 @@ fn all<R: Threads + Sync + Clock + AllocGlobal + Print + Eprint + Files>(
 ) -> anyhow::Result<()> {
     let chart = fs::read(rt, chart)?;
     let schedule = fs::read(rt, schedule)?;
-    tell_all(rt, chart.as_slice(), schedule.as_slice())
+    print_all(rt, chart.as_slice(), schedule.as_slice())
 }
 
 /// Does what the words say.
-fn tell<R: Threads + Sync + Clock + AllocGlobal + Print + Eprint + Files>(
+fn print_group<R: Threads + Sync + Clock + AllocGlobal + Print + Eprint + Files>(
     rt: &R,
     words: &[String],
 ) -> anyhow::Result<()> {
     match words {
         [_, word, rest @ ..] if word.as_str() == "recorders" => {
-            tell_recorders(rt, is_timed(rest)?)
+            print_recorders(rt, is_timed(rest)?)
         }
-        [_, word, rest @ ..] if word.as_str() == "threads" => tell_threads(rt, is_timed(rest)?),
+        [_, word, rest @ ..] if word.as_str() == "threads" => print_threads(rt, is_timed(rest)?),
         [_, word, file, rest @ ..] if word.as_str() == "replays" => {
             replays_of(rt, file.as_str(), times_in(rest)?)
         }
@@ -129,5 +129,5 @@ fn tell<R: Threads + Sync + Clock + AllocGlobal + Print + Eprint + Files>(
 
 fn main(rt: HostRuntime) -> anyhow::Result<()> {
     let words: Vec<String> = env::args(&rt)?.collect(rt.alloc())?;
-    tell(&rt, words.as_slice())
+    print_group(&rt, words.as_slice())
 }

@@ -75,7 +75,7 @@ fn repetition<R: Clock + AllocGlobal>(rt: &R, load: Load, events: usize) -> anyh
 }
 
 /// Tells what a message costs on short lines and on long ones, which are timed in turn.
-fn tell_times<R: Clock + AllocGlobal + Print>(rt: &R, load: Load) -> anyhow::Result<()>
+fn print_times<R: Clock + AllocGlobal + Print>(rt: &R, load: Load) -> anyhow::Result<()>
     requires at_least_two { 2 ≤ load.instances }
     requires at_most { load.instances ≤ MAX_INSTANCES }
 {
@@ -97,7 +97,7 @@ fn tell_times<R: Clock + AllocGlobal + Print>(rt: &R, load: Load) -> anyhow::Res
 }
 
 /// Passes the messages once, and tells how many would be timed.
-fn tell_messages<R: Clock + AllocGlobal + Print>(rt: &R, load: Load) -> anyhow::Result<()>
+fn print_messages<R: Clock + AllocGlobal + Print>(rt: &R, load: Load) -> anyhow::Result<()>
     requires at_least_two { 2 ≤ load.instances }
     requires at_most { load.instances ≤ MAX_INSTANCES }
 {
@@ -112,7 +112,7 @@ fn tell_messages<R: Clock + AllocGlobal + Print>(rt: &R, load: Load) -> anyhow::
 }
 
 /// Tells of both patterns among so many instances.
-fn tell_among<R: Clock + AllocGlobal + Print>(
+fn print_among<R: Clock + AllocGlobal + Print>(
     rt: &R,
     timed: bool,
     instances: usize,
@@ -123,17 +123,17 @@ fn tell_among<R: Clock + AllocGlobal + Print>(
     for pattern in [Pattern::OneWay, Pattern::Replies] {
         let load = Load { pattern, instances };
         if timed {
-            tell_times(rt, load)?;
+            print_times(rt, load)?;
         } else {
-            tell_messages(rt, load)?;
+            print_messages(rt, load)?;
         }
     }
     Ok(())
 }
 
 /// Tells of recorders among two instances, as many as a clock keeps without memory, and one more.
-pub fn tell_recorders<R: Clock + AllocGlobal + Print>(rt: &R, timed: bool) -> anyhow::Result<()> {
-    tell_among(rt, timed, 2)?;
-    tell_among(rt, timed, INLINE_ENTRIES)?;
-    tell_among(rt, timed, INLINE_ENTRIES + 1)
+pub fn print_recorders<R: Clock + AllocGlobal + Print>(rt: &R, timed: bool) -> anyhow::Result<()> {
+    print_among(rt, timed, 2)?;
+    print_among(rt, timed, INLINE_ENTRIES)?;
+    print_among(rt, timed, INLINE_ENTRIES + 1)
 }

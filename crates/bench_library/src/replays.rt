@@ -40,7 +40,7 @@ fn time<R: Clock + AllocGlobal>(rt: &R, schedule: &Schedule, times: u32) -> anyh
 }
 
 /// Tells on standard error what so many replays take.
-fn tell_times<R: Clock + AllocGlobal + Eprint>(
+fn print_times<R: Clock + AllocGlobal + Eprint>(
     rt: &R,
     schedule: &Schedule,
     times: u32,
@@ -51,7 +51,7 @@ fn tell_times<R: Clock + AllocGlobal + Eprint>(
 }
 
 /// Tells what the schedule comes to: how many events, and how many notes.
-fn tell_counts<R: AllocGlobal + Print>(rt: &R, schedule: &Schedule) -> anyhow::Result<()> {
+fn print_counts<R: AllocGlobal + Print>(rt: &R, schedule: &Schedule) -> anyhow::Result<()> {
     let outcome = replay(rt.alloc(), schedule)?;
     let events = events_of(outcome.chart());
     let notes = outcome.notes().len();
@@ -60,14 +60,14 @@ fn tell_counts<R: AllocGlobal + Print>(rt: &R, schedule: &Schedule) -> anyhow::R
 }
 
 /// Tells what so many replays take, or else what the schedule comes to.
-pub fn tell_replays<R: Clock + AllocGlobal + Print + Eprint>(
+pub fn print_replays<R: Clock + AllocGlobal + Print + Eprint>(
     rt: &R,
     text: &[u8],
     times: Option<u32>,
 ) -> anyhow::Result<()> {
     let schedule = schedule_in(rt.alloc(), text)?;
     match times {
-        Some(times) => tell_times(rt, &schedule, times),
-        None => tell_counts(rt, &schedule),
+        Some(times) => print_times(rt, &schedule, times),
+        None => print_counts(rt, &schedule),
     }
 }

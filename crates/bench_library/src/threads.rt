@@ -38,7 +38,7 @@ fn per_second(many: usize, took: u64) -> u64 {
 }
 
 /// Tells how many messages and events a second are passed, by behaviours and by posts in turn.
-fn tell_times<R: Threads + Sync + Clock + AllocGlobal + Print>(
+fn print_times<R: Threads + Sync + Clock + AllocGlobal + Print>(
     rt: &R,
     load: Load,
 ) -> anyhow::Result<()> {
@@ -59,7 +59,7 @@ fn tell_times<R: Threads + Sync + Clock + AllocGlobal + Print>(
 }
 
 /// Passes some of the messages once by each, and tells how many would be timed.
-fn tell_messages<R: Threads + Sync + Clock + AllocGlobal + Print>(
+fn print_messages<R: Threads + Sync + Clock + AllocGlobal + Print>(
     rt: &R,
     load: Load,
 ) -> anyhow::Result<()> {
@@ -71,7 +71,7 @@ fn tell_messages<R: Threads + Sync + Clock + AllocGlobal + Print>(
 }
 
 /// Tells of each pattern among few and several instances, on lanes of few and of many slots.
-pub fn tell_threads<R: Threads + Sync + Clock + AllocGlobal + Print>(
+pub fn print_threads<R: Threads + Sync + Clock + AllocGlobal + Print>(
     rt: &R,
     timed: bool,
 ) -> anyhow::Result<()> {
@@ -84,9 +84,9 @@ pub fn tell_threads<R: Threads + Sync + Clock + AllocGlobal + Print>(
     }
     for number in 0..LOADS {
         if timed {
-            tell_times(rt, load_at(number))?;
+            print_times(rt, load_at(number))?;
         } else {
-            tell_messages(rt, load_at(number))?;
+            print_messages(rt, load_at(number))?;
         }
     }
     Ok(())

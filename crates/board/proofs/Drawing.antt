@@ -8,7 +8,7 @@ use Rattle.board_table.specs.declared.packet.Packet.{Packet}
 use Rattle.board_table.specs.Layout.{LaneView, slot_of}
 use Rattle.board_table.specs.Carrying.{full_slots}
 use Rattle.board_table.specs.Leaving.{ComeFirst}
-use Rattle.board.specs.Parting.{Slots, messages_in, HasDrawn}
+use Rattle.board.specs.Parting.{Slots, messages_in, HasDrained}
 
 -- a list behind its first elements
 split_next : {X : Type 0} (i : ℕ) (xs : List X) (y : X) (ys : List X) → drop i xs ≡ y ∷ ys → (take (suc i) xs ≡ take i xs ++ y ∷ []) × (drop (suc i) xs ≡ ys)
@@ -24,14 +24,14 @@ content_of d (x ∷ xs) = x.1
 some_packet : (x y : Packet) → Some x ≡ Some y → x ≡ y
 some_packet x y same = cc
 
-pub drawn_none : (l : LaneView) (taken many : ℕ) (first : Slots) → HasDrawn l taken many 0 first first []
-drawn_none l taken many first = record {
-  drawn = λ packets others come long.
+pub drained_none : (l : LaneView) (taken many : ℕ) (first : Slots) → HasDrained l taken many 0 first first []
+drained_none l taken many first = record {
+  drained = λ packets others come long.
       let none : taken + 0 ≡ taken = omega arith in
       (refl, [], record { are = come.are ∙ ap₂ (λ c zs. full_slots l.instances l.capacity l.sender l.receiver c packets ++ zs) (sym none) (sym (append-nil others)) });
 }
 
-module _ (l : LaneView) (taken many place : ℕ) (first now : Slots) (messages : List Content) (its : HasDrawn l taken many place first now messages) (less : place < many) where
+module _ (l : LaneView) (taken many place : ℕ) (first now : Slots) (messages : List Content) (its : HasDrained l taken many place first now messages) (less : place < many) where
   abbrev slot : ℕ
   slot = slot_of l.instances l.capacity l.sender l.receiver (taken + place)
 
@@ -41,11 +41,11 @@ module _ (l : LaneView) (taken many place : ℕ) (first now : Slots) (messages :
     later : List Packet
     more : Slots
     cut : drop place packets ≡ next ∷ later
-    said : messages ≡ take place (messages_in packets)
+    stated : messages ≡ take place (messages_in packets)
     slots : now ≡ (slot, Some next) ∷ (full_slots l.instances l.capacity l.sender l.receiver (suc (taken + place)) later ++ (others ++ more))
 
   has_next : (packets : List Packet) (others : Slots) → ComeFirst l taken packets first others → length packets ≡ many → HasNext packets others
-  has_next packets others come long = go (drop place packets) refl (its.drawn packets others come long)
+  has_next packets others come long = go (drop place packets) refl (its.drained packets others come long)
     where
       go : (ys : List Packet) → drop place packets ≡ ys
           → (messages ≡ take place (messages_in packets)) × (more : Slots) × ComeFirst l (taken + place) (drop place packets) now (others ++ more) → HasNext packets others
@@ -55,18 +55,18 @@ module _ (l : LaneView) (taken many place : ℕ) (first now : Slots) (messages :
         later = ys;
         more = so.1;
         cut = cut;
-        said = so.0;
+        stated = so.0;
         slots = so.2.are ∙ ap (λ zs. full_slots l.instances l.capacity l.sender l.receiver (taken + place) zs ++ (others ++ so.1)) cut;
       }
 
-  pub drawn_first : (packets : List Packet) × (others : Slots) × ComeFirst l taken packets first others × (length packets ≡ many) → (x : Packet) × (now ≡ (slot, Some x) ∷ rest now)
-  drawn_first (packets, others, come, long) =
+  pub drained_first : (packets : List Packet) × (others : Slots) × ComeFirst l taken packets first others × (length packets ≡ many) → (x : Packet) × (now ≡ (slot, Some x) ∷ rest now)
+  drained_first (packets, others, come, long) =
       let it = has_next packets others come long in
       (it.next, it.slots ∙ ap (λ zs. (slot, Some it.next) ∷ zs) (sym (ap rest it.slots)))
 
-  pub drawn_next : (x : Packet) (after : Slots) → now ≡ (slot, Some x) ∷ rest now → after ≡ rest now ++ (slot, None) ∷ [] → HasDrawn l taken many (place + 1) first after (messages ++ x.message ∷ [])
-  drawn_next x after front turned = record {
-    drawn = λ packets others come long.
+  pub drained_next : (x : Packet) (after : Slots) → now ≡ (slot, Some x) ∷ rest now → after ≡ rest now ++ (slot, None) ∷ [] → HasDrained l taken many (place + 1) first after (messages ++ x.message ∷ [])
+  drained_next x after front turned = record {
+    drained = λ packets others come long.
         let it = has_next packets others come long in
         let same : it.next ≡ x = some_packet it.next x (ap (content_of None) (sym it.slots ∙ front)) in
         let onward : place + 1 ≡ suc place = omega arith in
@@ -76,7 +76,7 @@ module _ (l : LaneView) (taken many place : ℕ) (first now : Slots) (messages :
         let filled = full_slots l.instances l.capacity l.sender l.receiver (suc (taken + place)) it.later in
         let slots : after ≡ filled ++ (others ++ (it.more ++ (slot, None) ∷ [])) =
         turned ∙ ap (λ zs. zs ++ (slot, None) ∷ []) (ap rest it.slots) ∙ append_assoc filled (others ++ it.more) ((slot, None) ∷ []) ∙ ap (λ zs. filled ++ zs) (append_assoc others it.more ((slot, None) ∷ [])) in (
-          ap₂ (λ ms m. ms ++ m ∷ []) it.said (ap (λ (z : Packet). z.message) (sym same)) ∙ sym named.0 ∙ ap (λ i. take i (messages_in packets)) (sym onward),
+          ap₂ (λ ms m. ms ++ m ∷ []) it.stated (ap (λ (z : Packet). z.message) (sym same)) ∙ sym named.0 ∙ ap (λ i. take i (messages_in packets)) (sym onward),
           it.more ++ (slot, None) ∷ [],
           record { are = slots ∙ ap₂ (λ c zs. full_slots l.instances l.capacity l.sender l.receiver c zs ++ (others ++ (it.more ++ (slot, None) ∷ []))) (sym further) (sym cut.1 ∙ ap (λ i. drop i packets) (sym onward)) },
         );

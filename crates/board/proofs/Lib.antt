@@ -3,8 +3,8 @@ pub mod Claiming
 pub mod ClosedLanes
 pub mod Closes
 pub mod DidLemmas
+pub mod DrainedLanes
 pub mod Drawing
-pub mod DrawnLanes
 pub mod EndLemmas
 pub mod FilledSlots
 pub mod Finding

@@ -56,8 +56,8 @@ pub longer_settled : (g h : List Occurrence) → Begins g h → longer g h ≡ h
 longer_settled g h (more, same) = ⊎_elim (λ its. its.0) (λ its. absurd (omega (arith, its.1, ap length same, length-append more g))) (longer_is g h)
 
 -- one post more has heard
-pub heard_next : (i : ℕ) (old now : List PostView) (first told after : List Occurrence) (x y : PostView) → HaveHeard i old first now told → slice_get now i ≡ Some x → Hears told x y → after ≡ y.seen → HaveHeard (suc i) old first (set now i y) after
-heard_next i old now first told after x y its at hears same = record {
+pub heard_next : (i : ℕ) (old now : List PostView) (first known after : List Occurrence) (x y : PostView) → HaveHeard i old first now known → slice_get now i ≡ Some x → Hears known x y → after ≡ y.seen → HaveHeard (suc i) old first (set now i y) after
+heard_next i old now first known after x y its at hears same = record {
   as_many = length-set now i y ∙ its.as_many;
   heard = λ j a b lt at_old at_new. each j a b lt at_old (at_set now i j y b at_new);
   others = λ j le. set_apart now i j y (λ e. absurd (omega (arith, e, le))) ∙ its.others j (omega (arith, le));
@@ -70,8 +70,8 @@ heard_next i old now first told after x y its at hears same = record {
     was : slice_get old i ≡ Some x
     was = sym (its.others i (omega arith)) ∙ at
 
-    onward : Begins told after
-    onward = subst (λ h. Begins told h) (sym same) hears.later_told
+    onward : Begins known after
+    onward = subst (λ h. Begins known h) (sym same) hears.later_known
 
     each : (j : ℕ) (a b : PostView) → j < suc i → slice_get old j ≡ Some a → ((j ≡ i) × (y ≡ b)) ⊎ ((j ≢ i) × (slice_get now j ≡ Some b)) → HasHeard after a b
     each j a b lt at_old (inl (here, new)) =
@@ -81,7 +81,7 @@ heard_next i old now first told after x y its at hears same = record {
           later = hears.later;
           legal = hears.legal;
           own = hears.own;
-          told = subst (λ h. Begins y.seen h) (sym same) (begins_same y.seen);
+          known = subst (λ h. Begins y.seen h) (sym same) (begins_same y.seen);
         }))
     each j a b lt at_old (inr (ne, there)) =
         let before = its.heard j a b (omega (arith, lt, ne)) at_old there in
@@ -90,7 +90,7 @@ heard_next i old now first told after x y its at hears same = record {
           later = before.later;
           legal = before.legal;
           own = before.own;
-          told = begins_onward b.seen told after before.told onward;
+          known = begins_onward b.seen known after before.known onward;
         }
 
     now_seen : ((j : ℕ) (z : PostView) → slice_get old j ≡ Some z → Begins z.seen first) → y.seen ≡ first
@@ -110,11 +110,11 @@ heard_none old first = record {
 }
 
 -- after two rounds they have met
-pub have_met : (old mid new : List PostView) (first told last : List Occurrence) → HaveHeard (length old) old first mid told → HaveHeard (length mid) mid told new last → HaveMet old new
-have_met old mid new first told last one two = record {
-  history = told;
+pub have_met : (old mid new : List PostView) (first known last : List Occurrence) → HaveHeard (length old) old first mid known → HaveHeard (length mid) mid known new last → HaveMet old new
+have_met old mid new first known last one two = record {
+  history = known;
   joint = joint;
-  seen = same_map (λ (post : PostView). record post { seen = told }) old new (two.as_many ∙ one.as_many) each;
+  seen = same_map (λ (post : PostView). record post { seen = known }) old new (two.as_many ∙ one.as_many) each;
 }
   where
     at_mid : (i : ℕ) (x : PostView) → slice_get old i ≡ Some x → slice_get mid i ≡ Some (get_or mid i x)
@@ -123,35 +123,35 @@ have_met old mid new first told last one two = record {
     at_new : (i : ℕ) (x : PostView) → slice_get old i ≡ Some x → slice_get new i ≡ Some (get_or new i x)
     at_new i x at = let lt = at_within old i x at in slice_get-get_or new i x (omega (arith, lt, one.as_many, two.as_many))
 
-    all : (i : ℕ) (y : PostView) → slice_get mid i ≡ Some y → Begins y.seen told
+    all : (i : ℕ) (y : PostView) → slice_get mid i ≡ Some y → Begins y.seen known
     all i y at =
         let lt = at_within mid i y at in
         let was : slice_get old i ≡ Some (get_or old i y) = slice_get-get_or old i y (omega (arith, lt, one.as_many)) in
-        (one.heard i (get_or old i y) y (omega (arith, lt, one.as_many)) was at).told
+        (one.heard i (get_or old i y) y (omega (arith, lt, one.as_many)) was at).known
 
-    seen : (i : ℕ) (z : PostView) → slice_get new i ≡ Some z → z.seen ≡ told
+    seen : (i : ℕ) (z : PostView) → slice_get new i ≡ Some z → z.seen ≡ known
     seen i z at = let lt = at_within new i z at in (two.settled all).1 i z (omega (arith, lt, two.as_many)) at
 
-    first_heard : (i : ℕ) (x : PostView) → slice_get old i ≡ Some x → HasHeard told x (get_or mid i x)
+    first_heard : (i : ℕ) (x : PostView) → slice_get old i ≡ Some x → HasHeard known x (get_or mid i x)
     first_heard i x at = one.heard i x (get_or mid i x) (at_within old i x at) at (at_mid i x at)
 
     then_heard : (i : ℕ) (x : PostView) → slice_get old i ≡ Some x → HasHeard last (get_or mid i x) (get_or new i x)
     then_heard i x at = let lt = at_within old i x at in two.heard i (get_or mid i x) (get_or new i x) (omega (arith, lt, one.as_many)) (at_mid i x at) (at_new i x at)
 
-    twice : (i : ℕ) (x : PostView) → slice_get old i ≡ Some x → get_or new i x ≡ record x { seen = told }
+    twice : (i : ℕ) (x : PostView) → slice_get old i ≡ Some x → get_or new i x ≡ record x { seen = known }
     twice i x at = (then_heard i x at).rest ∙ ap (λ (post : PostView). record post { seen = (get_or new i x).seen }) (first_heard i x at).rest ∙ ap (λ (h : List Occurrence). record x { seen = h }) (seen i (get_or new i x) (at_new i x at))
 
-    each : (i : ℕ) (x : PostView) → slice_get old i ≡ Some x → slice_get new i ≡ Some (record x { seen = told })
+    each : (i : ℕ) (x : PostView) → slice_get old i ≡ Some x → slice_get new i ≡ Some (record x { seen = known })
     each i x at = at_new i x at ∙ ap (λ (post : PostView). Some post) (twice i x at)
 
-    joint : (i : ℕ) (x : PostView) → slice_get old i ≡ Some x → IsJoint told x
+    joint : (i : ℕ) (x : PostView) → slice_get old i ≡ Some x → IsJoint known x
     joint i x at =
         let h1 = first_heard i x at in
         let h2 = then_heard i x at in
-        let is : (get_or new i x).seen ≡ told = seen i (get_or new i x) (at_new i x at) in
+        let is : (get_or new i x).seen ≡ known = seen i (get_or new i x) (at_new i x at) in
         let mid_is = h1.rest in
         record {
-          later = begins_onward x.seen (get_or mid i x).seen told h1.later h1.told;
+          later = begins_onward x.seen (get_or mid i x).seen known h1.later h1.known;
           legal = subst (λ (h : List Occurrence). IsLegal x.board.size x.board.capacity h) is (subst (λ (post : PostView). IsLegal post.board.size post.board.capacity (get_or new i x).seen) mid_is h2.legal);
           own = subst (λ (h : List Occurrence). own h x.number ≡ x.made) is (subst (λ (post : PostView). own (get_or new i x).seen post.number ≡ post.made) mid_is h2.own);
         }
@@ -166,11 +166,11 @@ note_for t u m w x y one two its = record {
 }
 
 -- after one round too, where the note told of all that they had seen
-module _ (old new : List PostView) (first told : List Occurrence) (one : HaveHeard (length old) old first new told) (all : (i : ℕ) (x : PostView) → slice_get old i ≡ Some x → Begins x.seen first) where
+module _ (old new : List PostView) (first known : List Occurrence) (one : HaveHeard (length old) old first new known) (all : (i : ℕ) (x : PostView) → slice_get old i ≡ Some x → Begins x.seen first) where
   at_new : (i : ℕ) (x : PostView) → slice_get old i ≡ Some x → slice_get new i ≡ Some (get_or new i x)
   at_new i x at = let lt = at_within old i x at in slice_get-get_or new i x (omega (arith, lt, one.as_many))
 
-  has_heard : (i : ℕ) (x : PostView) → slice_get old i ≡ Some x → HasHeard told x (get_or new i x)
+  has_heard : (i : ℕ) (x : PostView) → slice_get old i ≡ Some x → HasHeard known x (get_or new i x)
   has_heard i x at = one.heard i x (get_or new i x) (at_within old i x at) at (at_new i x at)
 
   seen_first : (i : ℕ) (x : PostView) → slice_get old i ≡ Some x → (get_or new i x).seen ≡ first
@@ -191,8 +191,8 @@ module _ (old new : List PostView) (first told : List Occurrence) (one : HaveHea
     seen = all_seen;
   }
 
-pub still_notes : (old mid : List PostView) (first told : List Occurrence) (t : TableId) (m : Mine) → HaveHeard (length old) old first mid told → ((i : ℕ) (post : PostView) → slice_get old i ≡ Some post → IsNoteOf t m post) → (i : ℕ) (post : PostView) → slice_get mid i ≡ Some post → IsNoteOf t m post
-still_notes old mid first told t m its notes i post at =
+pub still_notes : (old mid : List PostView) (first known : List Occurrence) (t : TableId) (m : Mine) → HaveHeard (length old) old first mid known → ((i : ℕ) (post : PostView) → slice_get old i ≡ Some post → IsNoteOf t m post) → (i : ℕ) (post : PostView) → slice_get mid i ≡ Some post → IsNoteOf t m post
+still_notes old mid first known t m its notes i post at =
     let lt = at_within mid i post at in
     let was : slice_get old i ≡ Some (get_or old i post) = slice_get-get_or old i post (omega (arith, lt, its.as_many)) in
     let rest = (its.heard i (get_or old i post) post (omega (arith, lt, its.as_many)) was at).rest in

@@ -53,7 +53,7 @@ module _ (m w : Mine) (n k p : ℕ) (r : RecorderView) (region : ℕ) (outgoing 
     rest = ap (λ (e : Held). view_of table (e ∷ [], []) n k p region r.room) meets.rest;
     seen = meets.seen;
     later = meets.later;
-    later_told = meets.later_note;
+    later_known = meets.later_note;
     legal = met_legal;
     own = met_own;
   }

@@ -27,7 +27,7 @@ use Rattle.board_core.specs.Differences.{zeros}
 use Rattle.board_core.proofs.GoodsLemmas.{goods_many, goods_grow, goods_clocks, waiting_goods as goods_waiting}
 use Rattle.board_core.proofs.OwnEvents.{same_line, same_instance}
 use Rattle.board_core.proofs.Several.{AreReceived as Received, several_received}
-use Rattle.board_core.proofs.Told.{reports_received}
+use Rattle.board_core.proofs.Knowledge.{reports_received}
 use Rattle.board_table.specs.declared.held.Held.{Held}
 use Rattle.board_table.specs.declared.packet.Packet.{Packet}
 use Rattle.board_table.specs.Layout.{LaneView}

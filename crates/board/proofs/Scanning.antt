@@ -9,7 +9,7 @@ use Rattle.chart.proofs.Histories.{begins_onward, begins_same, none_begins}
 use Rattle.chart.proofs.Scans.{range-next}
 use Rattle.board.specs.Views.{PostView, Sound, Stays}
 use Rattle.board.specs.Taking.{IsFoundEmpty, Waits}
-use Rattle.board.specs.Glancing.{others, AreGlanced, IsFirstWaiting}
+use Rattle.board.specs.Peeking.{others, ArePeeked, IsFirstWaiting}
 
 pub and_true : (b : Bool) → b && true ≡ b
 and_true true = refl
@@ -41,39 +41,39 @@ pub next-own : (p a b : ℕ) → a < b → a + 1 ≡ p → others p a b ≡ othe
 next-own p a b less own = let same = eq-eqb (a + 1) p own in rw (range-next a b less, same)
 
 -- one lane more
-glanced-next : (old mid new : PostView) (order : List ℕ) (its_end : Bool) (q : ℕ) (b : Bool) → AreGlanced old order its_end mid → Sound mid new → Stays mid new → IsFoundEmpty mid q b new → AreGlanced old (order ++ q ∷ []) (its_end && b) new
-glanced-next old mid new [] its_end q b done sound stays empty =
+peeked-next : (old mid new : PostView) (order : List ℕ) (its_end : Bool) (q : ℕ) (b : Bool) → ArePeeked old order its_end mid → Sound mid new → Stays mid new → IsFoundEmpty mid q b new → ArePeeked old (order ++ q ∷ []) (its_end && b) new
+peeked-next old mid new [] its_end q b done sound stays empty =
     (new, b, true, subst (λ x. Sound x new) done.0 sound, subst (λ x. Stays x new) done.0 stays, subst (λ x. IsFoundEmpty x q b new) done.0 empty, (refl, refl), ap (λ e. e && b) done.1 ∙ sym (and_true b))
-glanced-next old mid new (x ∷ order) its_end q b done sound stays empty =
-    (done.0, done.1, done.2 && b, done.3, done.4, done.5, glanced-next done.0 mid new order done.2 q b done.6 sound stays empty, ap (λ e. e && b) done.7 ∙ and_assoc done.1 done.2 b)
+peeked-next old mid new (x ∷ order) its_end q b done sound stays empty =
+    (done.0, done.1, done.2 && b, done.3, done.4, done.5, peeked-next done.0 mid new order done.2 q b done.6 sound stays empty, ap (λ e. e && b) done.7 ∙ and_assoc done.1 done.2 b)
 
 -- A post after looks at the first of these lanes, of which the rest are left, that found no message.
-pub record HasGlanced (old : PostView) (order rest : List ℕ) (its_end : Bool) (now : PostView) : Type 0 where
+pub record HasPeeked (old : PostView) (order rest : List ℕ) (its_end : Bool) (now : PostView) : Type 0 where
   pub sound : Sound old now
-  pub done : (done : List ℕ) × (done ++ rest ≡ order) × AreGlanced old done its_end now
+  pub done : (done : List ℕ) × (done ++ rest ≡ order) × ArePeeked old done its_end now
 
-module _ (old mid : PostView) (order : List ℕ) (p a b : ℕ) (its_end : Bool) (less : a < b) (glanced : HasGlanced old order (others p a b) its_end mid) where
+module _ (old mid : PostView) (order : List ℕ) (p a b : ℕ) (its_end : Bool) (less : a < b) (peeked : HasPeeked old order (others p a b) its_end mid) where
   -- a number that isn't another's is passed over
-  pub own-passed : suc a ≡ p → HasGlanced old order (others p (a + 1) b) its_end mid
-  own-passed own = subst (λ rest. HasGlanced old order rest its_end mid) (next-own p a b less (omega (arith, own))) glanced
+  pub own-passed : suc a ≡ p → HasPeeked old order (others p (a + 1) b) its_end mid
+  own-passed own = subst (λ rest. HasPeeked old order rest its_end mid) (next-own p a b less (omega (arith, own))) peeked
 
   module _ (other : suc a ≢ p) (new : PostView) (later : Sound mid new) (stays : Stays mid new) where
     first : others p a b ≡ suc a ∷ others p (a + 1) b
     first = let number : a + 1 ≡ suc a = omega arith in next-other p a b less (λ same. other (omega (arith, same))) ∙ ap (λ q. q ∷ others p (a + 1) b) number
 
     -- no message at the next of them
-    pub none-there : (found : Bool) → IsFoundEmpty mid (suc a) found new → HasGlanced old order (others p (a + 1) b) (its_end && found) new
+    pub none-there : (found : Bool) → IsFoundEmpty mid (suc a) found new → HasPeeked old order (others p (a + 1) b) (its_end && found) new
     none-there found empty =
-        let w = glanced.done in
+        let w = peeked.done in
         record {
-          sound = sound-onward old mid new glanced.sound later;
-          done = (w.0 ++ suc a ∷ [], append_assoc w.0 (suc a ∷ []) (others p (a + 1) b) ∙ ap (λ rest. w.0 ++ rest) (sym first) ∙ w.1, glanced-next old mid new w.0 its_end (suc a) found w.2 later stays empty);
+          sound = sound-onward old mid new peeked.sound later;
+          done = (w.0 ++ suc a ∷ [], append_assoc w.0 (suc a ∷ []) (others p (a + 1) b) ∙ ap (λ rest. w.0 ++ rest) (sym first) ∙ w.1, peeked-next old mid new w.0 its_end (suc a) found w.2 later stays empty);
         }
 
     -- a message there
     pub first-there : Waits mid (suc a) new → IsFirstWaiting old order (suc a) new
     first-there waits =
-        let w = glanced.done in
+        let w = peeked.done in
         record { before = w.0; after = others p (a + 1) b; order_is = sym w.1 ∙ ap (λ rest. w.0 ++ rest) first; mid = mid; its_end = its_end; empty = w.2; later = later; stays = stays; waits = waits }
 
 -- the numbers from s on, in two parts
@@ -108,46 +108,46 @@ others-none : (p a : ℕ) → others p a a ≡ []
 others-none p a = let none : a - a ≡ 0 = omega arith in ap (λ m. filter (λ q. not (q == p)) (range_with_len (a + 1) m)) none
 
 -- looks, and then more looks
-pub glanced-append : (old mid new : PostView) (order more : List ℕ) (e f : Bool) → AreGlanced old order e mid → AreGlanced mid more f new → AreGlanced old (order ++ more) (e && f) new
-glanced-append old mid new [] more e f done later = subst (λ b. AreGlanced old more b new) (ap (λ b. b && f) (sym done.1)) (subst (λ x. AreGlanced x more f new) done.0 later)
-glanced-append old mid new (x ∷ order) more e f done later =
-    (done.0, done.1, done.2 && f, done.3, done.4, done.5, glanced-append done.0 mid new order more done.2 f done.6 later, ap (λ b. b && f) done.7 ∙ and_assoc done.1 done.2 f)
+pub peeked-append : (old mid new : PostView) (order more : List ℕ) (e f : Bool) → ArePeeked old order e mid → ArePeeked mid more f new → ArePeeked old (order ++ more) (e && f) new
+peeked-append old mid new [] more e f done later = subst (λ b. ArePeeked old more b new) (ap (λ b. b && f) (sym done.1)) (subst (λ x. ArePeeked x more f new) done.0 later)
+peeked-append old mid new (x ∷ order) more e f done later =
+    (done.0, done.1, done.2 && f, done.3, done.4, done.5, peeked-append done.0 mid new order more done.2 f done.6 later, ap (λ b. b && f) done.7 ∙ and_assoc done.1 done.2 f)
 
 -- A post after looks at the lanes from the numbers above a and up to b, which aren't p: all found them open, with no
 -- message.
 pub record HasPassed (old : PostView) (p a b : ℕ) (now : PostView) : Type 0 where
   pub sound : Sound old now
   pub within : a ≤ b
-  pub glanced : AreGlanced old (others p a b) (b == a) now
+  pub peeked : ArePeeked old (others p a b) (b == a) now
 
 -- none yet
 pub passed-none : (old : PostView) (p a : ℕ) → Sound old old → HasPassed old p a a old
 passed-none old p a sound = record {
   sound = sound;
   within = omega arith;
-  glanced = subst (λ xs. AreGlanced old xs (a == a) old) (sym (others-none p a)) (refl, eq-eqb a a refl);
+  peeked = subst (λ xs. ArePeeked old xs (a == a) old) (sym (others-none p a)) (refl, eq-eqb a a refl);
 }
 
 -- one lane more
 pub passed-next : (old mid new : PostView) (p a b c : ℕ) → HasPassed old p a b mid → suc b ≢ p → Sound mid new → Stays mid new → IsFoundEmpty mid (suc b) false new → c ≡ suc b → HasPassed old p a c new
 passed-next old mid new p a b c passed other later stays empty next =
     let more : a ≤ suc b = omega (arith, passed.within) in
-    let open_ = glanced-next old mid new (others p a b) (b == a) (suc b) false passed.glanced later stays empty in
+    let open_ = peeked-next old mid new (others p a b) (b == a) (suc b) false passed.peeked later stays empty in
     let lanes : others p a b ++ suc b ∷ [] ≡ others p a (suc b) = ap (λ xs. others p a b ++ xs) (sym (others-one p b other)) ∙ others-cut p a b (suc b) passed.within (omega arith) in
     let ends : (b == a) && false ≡ (suc b == a) = and_false (b == a) ∙ sym (ne_eqb (suc b) a (λ same. absurd (omega (arith, same, passed.within)))) in
     subst (λ x. HasPassed old p a x new) (sym next) (record {
       sound = sound-onward old mid new passed.sound later;
       within = more;
-      glanced = subst (λ e. AreGlanced old (others p a (suc b)) e new) ends (subst (λ xs. AreGlanced old xs ((b == a) && false) new) lanes open_);
+      peeked = subst (λ e. ArePeeked old (others p a (suc b)) e new) ends (subst (λ xs. ArePeeked old xs ((b == a) && false) new) lanes open_);
     })
 
 -- passed lanes among the rest of a scan's
-pub lanes-passed : (old mid new : PostView) (order : List ℕ) (p a b to : ℕ) (its_end : Bool) → HasGlanced old order (others p a to) its_end mid → Sound mid new → a ≤ b → b ≤ to → AreGlanced mid (others p a b) (b == a) new → HasGlanced old order (others p b to) (its_end && (b == a)) new
-lanes-passed old mid new order p a b to its_end glanced later low high passed =
-    let w = glanced.done in
+pub lanes-passed : (old mid new : PostView) (order : List ℕ) (p a b to : ℕ) (its_end : Bool) → HasPeeked old order (others p a to) its_end mid → Sound mid new → a ≤ b → b ≤ to → ArePeeked mid (others p a b) (b == a) new → HasPeeked old order (others p b to) (its_end && (b == a)) new
+lanes-passed old mid new order p a b to its_end peeked later low high passed =
+    let w = peeked.done in
     record {
-      sound = sound-onward old mid new glanced.sound later;
-      done = (w.0 ++ others p a b, append_assoc w.0 (others p a b) (others p b to) ∙ ap (λ xs. w.0 ++ xs) (others-cut p a b to low high) ∙ w.1, glanced-append old mid new w.0 (others p a b) its_end (b == a) w.2 passed);
+      sound = sound-onward old mid new peeked.sound later;
+      done = (w.0 ++ others p a b, append_assoc w.0 (others p a b) (others p b to) ∙ ap (λ xs. w.0 ++ xs) (others-cut p a b to low high) ∙ w.1, peeked-append old mid new w.0 (others p a b) its_end (b == a) w.2 passed);
     }
 
 -- a post is sound after itself

@@ -48,9 +48,9 @@ knows_itself n (Receive a b c ∷ h) p none = go (p == a) refl (knows_itself n h
 knows_itself n (Close a b ∷ h) p none = knows_itself n h p (untaught_before (Close a b) h p none)
 
 -- so its messages tell nothing of others
-pub tells_itself : (n : ℕ) (h : List Occurrence) (p q : ℕ) → Untaught h p → AgreeBut p (zeros n) (sent_base n h p q)
-tells_itself n [] p q none = λ r other. refl
-tells_itself n (Send a b m ∷ h) p q none = go (is_lane a b p q) refl (tells_itself n h p q (untaught_before (Send a b m) h p none))
+pub informs_itself : (n : ℕ) (h : List Occurrence) (p q : ℕ) → Untaught h p → AgreeBut p (zeros n) (sent_base n h p q)
+informs_itself n [] p q none = λ r other. refl
+informs_itself n (Send a b m ∷ h) p q none = go (is_lane a b p q) refl (informs_itself n h p q (untaught_before (Send a b m) h p none))
   where
     y : Parcel
     y = record { message = m; clock = next_clock n h a }
@@ -61,11 +61,11 @@ tells_itself n (Send a b m ∷ h) p q none = go (is_lane a b p q) refl (tells_it
         subst (λ (clock : List ℕ). AgreeBut p (zeros n) clock) (sym (last_clock-append (zeros n) (goods n h p q) (y ∷ [])))
         (subst (λ x. AgreeBut p (zeros n) (next_clock n h x)) (sym (eqb-true a p (and_parts (a == p) (b == q) same).0)) stamped)
     go false same before = before
-tells_itself n (Receive a b c ∷ h) p q none = tells_itself n h p q (untaught_before (Receive a b c) h p none)
-tells_itself n (Close a b ∷ h) p q none = tells_itself n h p q (untaught_before (Close a b) h p none)
+informs_itself n (Receive a b c ∷ h) p q none = informs_itself n h p q (untaught_before (Receive a b c) h p none)
+informs_itself n (Close a b ∷ h) p q none = informs_itself n h p q (untaught_before (Close a b) h p none)
 
 -- and nothing new is known of others since the last message on a lane
 pub nothing_new : (n : ℕ) (h : List Occurrence) (p q : ℕ) (end : Outgoing) (r : RecorderView) → Untaught h p → IsOutgoing n h p q end → IsRecorder n h p r → AgreeBut p end.base r.knowledge
 nothing_new n h p q end r none outgoing recorder x other =
     ap (λ (clock : List ℕ). entry_of clock x) recorder.knowledge ∙ knows_itself n h p none x other
-    ∙ sym (ap (λ (clock : List ℕ). entry_of clock x) outgoing.base ∙ tells_itself n h p q none x other)
+    ∙ sym (ap (λ (clock : List ℕ). entry_of clock x) outgoing.base ∙ informs_itself n h p q none x other)

@@ -17,7 +17,7 @@ use Rattle.board.specs.Meeting.{AreOfOneBoard, HaveMet, HasPost, AreAll}
 use Rattle.board.specs.Gathering.{LaneEnds, AreJoint, size_of, all_lanes, waiting_lanes, closed_lanes, closed_view}
 use Rattle.board.specs.Parting.{AreOf, HaveRooms, AreClosed, HaveSeen, HaveParted, AreReady, AreForLines, room_lane}
 use Rattle.board.specs.Provisions.{IsProvision}
-use Rattle.board.proofs.DrawnLanes.{next_first}
+use Rattle.board.proofs.DrainedLanes.{next_first}
 use Rattle.board.proofs.Meetings.{at_within}
 use Rattle.board.proofs.RoomsMade.{joint_legal}
 

@@ -3,13 +3,13 @@ pub mod Boards
 pub mod Closing
 pub mod Found
 pub mod Gathering
-pub mod Glancing
 pub mod Known
 pub mod LongRuns
 pub mod Meeting
 pub mod Parked
 pub mod Parting
 pub mod Parts
+pub mod Peeking
 pub mod Provisions
 pub mod Receipts
 pub mod Sending

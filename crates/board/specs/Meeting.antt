@@ -69,11 +69,11 @@ pub record IsNoteOf (table : TableId) (me : Mine) (post : PostView) : Type 0 whe
   pub note : IsNote post.board.size post.board.capacity me
 
 -- the post has met a note of a history: it has seen the longer of both, and nothing else has changed
-pub record Hears (told : List Occurrence) (old new : PostView) : Type 0 where
+pub record Hears (known : List Occurrence) (old new : PostView) : Type 0 where
   pub rest : new ≡ record old { seen = new.seen }
-  pub seen : new.seen ≡ longer old.seen told
+  pub seen : new.seen ≡ longer old.seen known
   pub later : Begins old.seen new.seen
-  pub later_told : Begins told new.seen
+  pub later_known : Begins known new.seen
   pub legal : IsLegal old.board.size old.board.capacity new.seen
   pub own : own new.seen old.number ≡ old.made
 
@@ -83,15 +83,15 @@ pub record HasHeard (now : List Occurrence) (old new : PostView) : Type 0 where
   pub later : Begins old.seen new.seen
   pub legal : IsLegal old.board.size old.board.capacity new.seen
   pub own : own new.seen old.number ≡ old.made
-  pub told : Begins new.seen now
+  pub known : Begins new.seen now
 
 -- the first so many posts have met the note, which told one history at first and tells another now
 pub record HaveHeard (many : ℕ) (old : List PostView) (first : List Occurrence) (new : List PostView)
-    (told : List Occurrence) : Type 0 where
+    (known : List Occurrence) : Type 0 where
   pub as_many : length new ≡ length old
   pub heard : (i : ℕ) (x y : PostView) → i < many → slice_get old i ≡ Some x → slice_get new i ≡ Some y
-      → HasHeard told x y
+      → HasHeard known x y
   pub others : (i : ℕ) → many ≤ i → slice_get new i ≡ slice_get old i
   -- the note that told of all that they had seen tells it still, and they have all seen it
   pub settled : ((i : ℕ) (x : PostView) → slice_get old i ≡ Some x → Begins x.seen first)
-      → (told ≡ first) × ((i : ℕ) (y : PostView) → i < many → slice_get new i ≡ Some y → y.seen ≡ first)
+      → (known ≡ first) × ((i : ℕ) (y : PostView) → i < many → slice_get new i ≡ Some y → y.seen ≡ first)

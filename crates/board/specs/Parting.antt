@@ -28,8 +28,8 @@ messages_in packets = map (λ (x : Packet). x.message) packets
 
 -- of the packets of a lane that came first, so many, the first ones have been drawn, and their slots are behind the
 -- others
-pub record HasDrawn (l : LaneView) (taken many place : ℕ) (first now : Slots) (messages : List Content) : Type 0 where
-  pub drawn : (packets : List Packet) (others : Slots)
+pub record HasDrained (l : LaneView) (taken many place : ℕ) (first now : Slots) (messages : List Content) : Type 0 where
+  pub drained : (packets : List Packet) (others : Slots)
       → ComeFirst l taken packets first others → length packets ≡ many
       → (messages ≡ take place (messages_in packets)) × (more : Slots)
       × ComeFirst l (taken + place) (drop place packets) now (others ++ more)

@@ -20,7 +20,7 @@ pub struct Arrival {
 
 /// What a look at a lane finds.
 #[derive(Clone, Copy, Debug, PartialEq, Eq)]
-pub enum Glance {
+pub enum Peek {
     /// A message waits, or several.
     Message,
     /// None waits, and the lane is open.

@@ -16,7 +16,7 @@ use chart::{MAX_CAPACITY, MAX_INSTANCES};
 use std::alloc::{AllocError, Global};
 use std::marker::Model;
 
-/// A board of instances, each with a lane to each other one.
+/// A board of instances, each with a lane to each other one: a network of channels, in others' words.
 ///
 /// A contract sees which board it is, and whether its posts were asked for.
 pub struct Board {

@@ -6,13 +6,13 @@ ghost use Rattle.board.specs.Closing.{Closes};
 use crate::error::CloseError;
 use crate::parked::Parked;
 use crate::post::Post;
-use board_table::{Lane, Words, close};
+use board_table::{Lane, SharedTable, close};
 use chart::InstanceNo;
 
 impl Parked {
     /// Closes the lane to an instance, be it full or not: nothing more is sent on it. It is the first of F14, F13 and
     /// F12 that refuses it, and then nothing has changed. It takes no memory.
-    pub fn close(&mut self, words: &Words, to: InstanceNo) -> Result<(), CloseError>
+    pub fn close(&mut self, words: &SharedTable, to: InstanceNo) -> Result<(), CloseError>
         requires board { IsAtBoard words.now.key words.now.table_id self.old }
         ensures sound { Sound self.old self.new }
         ensures answer { Closes self.old to result self.new }

@@ -14,7 +14,7 @@ use crate::meeting::{are_all, meet};
 use crate::parting::{Leaver, Room, draw_lanes, part_all};
 use crate::post::Post;
 use crate::reserving::{make_own_events, make_reports, make_rooms};
-use board_table::Words;
+use board_table::SharedTable;
 use chart::{Chart, Event, InstanceNo, Line, Message, Report};
 use std::alloc::{AllocError, Global};
 
@@ -69,7 +69,7 @@ pub(crate) struct Provision {
 
 impl<'a> Post<'a> {
     /// The words of its board.
-    fn words(&self) -> &'a Words
+    fn words(&self) -> &'a SharedTable
         ensures { result.now.table_id ≡ self.now.board.table }
     {
         self.words

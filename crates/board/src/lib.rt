@@ -29,12 +29,12 @@ mod closed_lanes;
 mod ends;
 mod error;
 mod gathering;
-mod glance;
 pub mod long_runs;
 mod meeting;
 mod opening;
 mod parked;
 mod parting;
+mod peek;
 mod post;
 mod receive;
 mod receive_up_to;
@@ -48,9 +48,9 @@ mod sending;
 mod sending_several;
 mod waking;
 
-pub use answer::{Arrival, Glance, Scan, Sent, Stop, Taken, TakenMany};
+pub use answer::{Arrival, Peek, Scan, Sent, Stop, Taken, TakenMany};
 pub use board::{Board, open_parked};
-pub use board_table::{BoardTable, Words};
+pub use board_table::{BoardTable, SharedTable};
 pub use error::{
     BoardError, CloseError, GatherCause, MeetError, Memory, PostsError, RegionError, SendError,
     TakeError,

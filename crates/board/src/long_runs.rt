@@ -5,9 +5,9 @@
 //! sender, and closes the lanes that were closed. Then each lane is as it was, and each board has a chart of its
 //! own.
 //!
-//! `specs/CarriedHistories.antt` has the history that this makes, `CarryingOver` says what the call answers, and
-//! [`laws`] what a caller needs: that what [`crate::gather`] answers may be carried over (`premise_law`), and that
-//! the lanes stay as they were left (`carried_law`).
+//! `specs/LongRuns/CarriedHistories.antt` has the history that this makes, `CarryingOver` says what the call
+//! answers, and [`laws`] what a caller needs: that what [`crate::gather`] answers may be carried over
+//! (`premise_law`), and that the lanes stay as they were left (`carried_law`).
 
 mod carrying;
 pub mod laws;

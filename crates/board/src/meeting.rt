@@ -10,11 +10,11 @@ ghost use Rattle.board.specs.Meeting.{AreNotAll, IsAt, Hears, IsNoteOf, MeetsAll
 use crate::error::MeetError;
 use crate::parked::Parked;
 use crate::post::Post;
-use board_table::{Seat, Words, meet_note, note};
+use board_table::{Seat, SharedTable, meet_note, note};
 
 impl Parked {
     /// A note of what it has seen.
-    fn note(&mut self, words: &Words) -> Seat
+    fn note(&mut self, words: &SharedTable) -> Seat
         requires board { IsAtBoard words.now.key words.now.table_id self.old }
         ensures same { self.new ≡ self.old }
         ensures note { IsNoteOf result.table_id result.me self.old }
@@ -24,7 +24,7 @@ impl Parked {
     }
 
     /// Meets the note, and hands it on.
-    fn hear(&mut self, words: &Words, note: Seat) -> Seat
+    fn hear(&mut self, words: &SharedTable, note: Seat) -> Seat
         requires board { IsAtBoard words.now.key words.now.table_id self.old }
         requires note { IsNoteOf note.table_id note.me self.old }
         ensures hears { Hears (held note.me).seen self.old self.new }

@@ -7,7 +7,7 @@ ghost use Rattle.board.specs.Boards.{AreNewPosts, AreNewEnds, IsWholeSeat, new_s
 
 use crate::ends::{Incoming, Outgoing};
 use crate::parked::Parked;
-use board_table::{Seat, Shape, Words, deal};
+use board_table::{Seat, Shape, SharedTable, deal};
 use chart::{InstanceNo, MAX_INSTANCES};
 use clock::Clock;
 use line_recorder::Recorder;
@@ -15,7 +15,7 @@ use std::alloc::{AllocError, Global};
 
 /// Deals a seat to each post of a board, before their first calls. F6: it fails only where there is no memory.
 pub(crate) fn deal_posts(
-    words: &Words,
+    words: &SharedTable,
     seat: Seat,
     alloc: Global,
     shape: Shape,

@@ -11,7 +11,7 @@ ghost use Rattle.board.specs.declared.error.RegionError.TheVariants.{CoregionOpe
 use crate::ends::{Incoming, Outgoing};
 use crate::error::RegionError;
 use crate::parting::Leaver;
-use board_table::{Seat, Shape, Words, leave};
+use board_table::{Seat, Shape, SharedTable, leave};
 use chart::{Event, GrowingLine, InstanceNo, Line, MAX_EVENTS};
 use line_recorder::Recorder;
 use std::alloc::Global;
@@ -129,7 +129,7 @@ impl Parked {
 
     /// Leaves its board, with the messages that wait for it. Its events go into this list, which has room for them. It
     /// takes no memory.
-    pub(crate) fn part(self, words: &Words, events: Vec<Event>) -> (Line, Leaver)
+    pub(crate) fn part(self, words: &SharedTable, events: Vec<Event>) -> (Line, Leaver)
         requires empty { events.items ≡ [] }
         requires room { length (line_of self) ≤ vec_capacity events }
         requires board { IsAtBoard words.now.key words.now.table_id self }

@@ -14,7 +14,7 @@ ghost use Rattle.board.specs.Parting.{HaveSeen, HaveParted, AreReady};
 use crate::gathering::Left;
 use crate::meeting::place_of;
 use crate::post::Post;
-use board_table::{Lane, Seat, Words, draw};
+use board_table::{Lane, Seat, SharedTable, draw};
 use chart::{Event, InstanceNo, Line, Message};
 
 /// Room for the messages of a lane that wait.
@@ -55,7 +55,7 @@ impl<'a> Post<'a> {
 }
 
 /// Draws the messages that have room, which come first of those that left with the seat.
-pub(crate) fn draw_all(words: &Words, seat: &mut Seat, room: Room) -> Left
+pub(crate) fn draw_all(words: &SharedTable, seat: &mut Seat, room: Room) -> Left
     requires table { seat.old.table_id ≡ words.now.table_id }
     requires first { (packets : List Packet) × (others : List (ℕ × Option Packet))
         × ComeFirst room.lane room.taken packets
@@ -66,7 +66,7 @@ pub(crate) fn draw_all(words: &Words, seat: &mut Seat, room: Room) -> Left
     ensures table { seat.new.table_id ≡ seat.old.table_id }
     ensures sender { result.sender ≡ room.sender }
     ensures receiver { result.receiver ≡ room.receiver }
-    ensures drawn { (packets : List Packet) (others : List (ℕ × Option Packet))
+    ensures drained { (packets : List Packet) (others : List (ℕ × Option Packet))
         → ComeFirst room.lane room.taken packets
         seat.old.me.1 others → length packets ≡ room.many
         → (result.messages.items ≡ map (λ x. x.message) packets)
@@ -137,7 +137,7 @@ pub(crate) fn part_all(
 
 /// Draws the messages of each lane that has room, in this order. There is room for as many lanes.
 pub(crate) fn draw_lanes(
-    words: &Words,
+    words: &SharedTable,
     leavers: &mut [Leaver],
     rooms: Vec<Room>,
     left: &mut Vec<Left>,

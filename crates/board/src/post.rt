@@ -8,11 +8,12 @@ ghost use Rattle.board.specs.declared.error.RegionError.TheVariants.{CoregionOpe
 
 use crate::error::RegionError;
 use crate::parked::Parked;
-use board_table::Words;
+use board_table::SharedTable;
 use chart::{GrowingLine, InstanceNo};
 use std::marker::Model;
 
-/// What an instance of a board acts by: it sends, receives and closes lanes. It can be moved to a thread.
+/// What an instance of a board acts by (its endpoint): it sends, receives and closes lanes. It can be moved to a
+/// thread.
 ///
 /// A contract sees its board, its number, the history that it has seen and the events that its own calls made, how
 /// often it looked at what others wrote, its open coregion, and the room that was made on its line. After each call
@@ -20,7 +21,7 @@ use std::marker::Model;
 /// that its calls made.
 #[derive(Drop)]
 pub struct Post<'a> {
-    pub(crate) words: &'a Words,
+    pub(crate) words: &'a SharedTable,
     pub(crate) parked: Parked,
 }
 

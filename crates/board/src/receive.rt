@@ -2,7 +2,7 @@
 ghost use Rattle.std.specs.Prelude.{IfOk, IfErr};
 ghost use Rattle.board.specs.Views.{Sound};
 ghost use Rattle.board.specs.Parked.{IsAtBoard};
-ghost use Rattle.board.specs.Glancing.{IsNoLane};
+ghost use Rattle.board.specs.Peeking.{IsNoLane};
 ghost use Rattle.board.specs.Taking.{IsLaneFrom, IsUntaken, Takes};
 
 use crate::answer::Taken;
@@ -10,7 +10,7 @@ use crate::error::TakeError;
 use crate::parked::Parked;
 use crate::post::Post;
 use crate::receiving::{Found, find_messages, receive_one};
-use board_table::{Lane, Words};
+use board_table::{Lane, SharedTable};
 use chart::InstanceNo;
 
 impl Parked {
@@ -18,7 +18,7 @@ impl Parked {
     /// or the end, where no message waits, and this comes only after a look; then F7 and F6 refuse it, and the
     /// message is still the first of its lane.
     #[inline(always)]
-    pub fn receive(&mut self, words: &Words, from: InstanceNo) -> Result<Taken, TakeError>
+    pub fn receive(&mut self, words: &SharedTable, from: InstanceNo) -> Result<Taken, TakeError>
         requires board { IsAtBoard words.now.key words.now.table_id self.old }
         ensures sound { Sound self.old self.new }
         ensures answer { Takes self.old from result self.new }

@@ -10,7 +10,7 @@ use crate::parked::Parked;
 use crate::post::Post;
 use crate::receiving::{Found, find_messages};
 use crate::receiving_several::receive_several;
-use board_table::Words;
+use board_table::SharedTable;
 use chart::InstanceNo;
 
 impl Parked {
@@ -22,7 +22,7 @@ impl Parked {
     /// It looks at what was sent only where it knows of fewer messages than it was asked for.
     pub fn receive_up_to(
         &mut self,
-        words: &Words,
+        words: &SharedTable,
         from: InstanceNo,
         max: usize,
     ) -> Result<TakenMany, TakeError>

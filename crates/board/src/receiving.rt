@@ -15,7 +15,7 @@ use crate::answer::Arrival;
 use crate::ends::Incoming;
 use crate::error::TakeError;
 use board_table::{
-    Lane, Seat, Words, find_again, find_anew, free, give_back_full, look, take_recorded,
+    Lane, Seat, SharedTable, find_again, find_anew, free, give_back_full, look, take_recorded,
 };
 use chart::{InstanceNo, MAX_EVENTS};
 use line_recorder::Recorder;
@@ -38,7 +38,7 @@ pub(crate) enum Found {
 /// Where it knows of none, it looks before it takes a slot: then an empty lane costs one load.
 #[inline(always)]
 pub(crate) fn find_messages(
-    words: &Words,
+    words: &SharedTable,
     seat: &mut Seat,
     lane: &Lane,
     end: &mut Incoming,
@@ -76,7 +76,13 @@ pub(crate) fn find_messages(
 /// Takes the slots of all messages that wait on the lane. It looks at the sender's word only where it knows of fewer
 /// than so many.
 #[inline(always)]
-fn find_more(words: &Words, seat: &mut Seat, lane: &Lane, end: &mut Incoming, many: u64) -> Found
+fn find_more(
+    words: &SharedTable,
+    seat: &mut Seat,
+    lane: &Lane,
+    end: &mut Incoming,
+    many: u64,
+) -> Found
     requires table { seat.old.table_id ≡ words.now.table_id }
     requires board { IsBoard lane.now.instances lane.now.capacity words.now.key words.now.table_id }
     requires rests { Rests lane.now.instances lane.now.capacity lane.now.receiver seat.old.me }
@@ -114,7 +120,7 @@ fn find_more(words: &Words, seat: &mut Seat, lane: &Lane, end: &mut Incoming, ma
 /// The first of F7 and F6 refuses it: then the message is still the first of its lane.
 #[inline(always)]
 pub(crate) fn receive_one(
-    words: &Words,
+    words: &SharedTable,
     seat: &mut Seat,
     lane: &Lane,
     recorder: &mut Recorder,
@@ -152,7 +158,7 @@ pub(crate) fn receive_one(
 /// F6: it fails only where there is no memory, and then nothing has changed.
 #[inline(always)]
 pub(crate) fn take_next(
-    words: &Words,
+    words: &SharedTable,
     seat: &mut Seat,
     lane: &Lane,
     recorder: &mut Recorder,

@@ -11,7 +11,7 @@ use crate::answer::{Arrival, Stop};
 use crate::ends::Incoming;
 use crate::error::TakeError;
 use crate::receiving::take_next;
-use board_table::{Lane, Seat, Words, free, give_back_full};
+use board_table::{Lane, Seat, SharedTable, free, give_back_full};
 use chart::{InstanceNo, MAX_EVENTS};
 use line_recorder::Recorder;
 use std::alloc::Global;
@@ -22,7 +22,7 @@ use std::alloc::Global;
 /// The first of F7 and F6 refuses it, if it stands in the way of the first message: then that is still the first of
 /// its lane.
 pub(crate) fn receive_several(
-    words: &Words,
+    words: &SharedTable,
     seat: &mut Seat,
     lane: &Lane,
     alloc: Global,
@@ -77,7 +77,7 @@ pub(crate) fn receive_several(
 /// Takes the first of the messages that are known of out of their slots, at most so many, and records their receives.
 /// It answers why no more: then the next message is still in its slot.
 fn take_several(
-    words: &Words,
+    words: &SharedTable,
     seat: &mut Seat,
     lane: &Lane,
     recorder: &mut Recorder,

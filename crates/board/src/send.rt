@@ -11,7 +11,7 @@ use crate::error::SendError;
 use crate::parked::Parked;
 use crate::post::Post;
 use crate::sending::send_one;
-use board_table::{Lane, Words};
+use board_table::{Lane, SharedTable};
 use chart::{EventNo, InstanceNo, MAX_EVENTS, Message};
 
 impl Parked {
@@ -23,7 +23,7 @@ impl Parked {
     #[inline(always)]
     pub fn send(
         &mut self,
-        words: &Words,
+        words: &SharedTable,
         to: InstanceNo,
         message: Message,
     ) -> Result<Sent, (Message, SendError)>

@@ -8,7 +8,7 @@ use crate::error::SendError;
 use crate::parked::Parked;
 use crate::post::Post;
 use crate::sending_several::send_several;
-use board_table::{Lane, Words};
+use board_table::{Lane, SharedTable};
 use chart::{InstanceNo, Message};
 
 impl Parked {
@@ -19,7 +19,7 @@ impl Parked {
     /// F11 comes only after a look at what the receiver has received.
     pub fn send_all(
         &mut self,
-        words: &Words,
+        words: &SharedTable,
         to: InstanceNo,
         messages: Vec<Message>,
     ) -> Result<Vec<Sent>, (Vec<Message>, SendError)>

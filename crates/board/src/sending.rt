@@ -15,7 +15,7 @@ ghost use Rattle.board.specs.Parts.{MayPut, HasSlots, HasNoSlots, IsUnmade};
 use crate::ends::Outgoing;
 use crate::error::SendError;
 use board_table::{
-    Lane, Seat, Words, claim_again, claim_anew, fill_begun, give_back_vacant, publish,
+    Lane, Seat, SharedTable, claim_again, claim_anew, fill_begun, give_back_vacant, publish,
 };
 use chart::Message;
 use line_recorder::Recorder;
@@ -24,7 +24,7 @@ use line_recorder::Recorder;
 /// only where the number that is known leaves too few.
 #[inline(always)]
 pub(crate) fn claim_slots(
-    words: &Words,
+    words: &SharedTable,
     seat: &mut Seat,
     lane: &Lane,
     end: &mut Outgoing,
@@ -63,11 +63,11 @@ pub(crate) fn claim_slots(
     false
 }
 
-/// Sends a message on an open lane, whose sender's line has room for it. It is on its way before it is recorded: all that
-/// can be refused comes first.
+/// Sends a message on an open lane, whose sender's line has room for it. It is on its way before it is recorded: all
+/// that can be refused comes first.
 #[inline(always)]
 pub(crate) fn send_one(
-    words: &Words,
+    words: &SharedTable,
     seat: &mut Seat,
     lane: &Lane,
     recorder: &mut Recorder,

@@ -16,7 +16,7 @@ use crate::answer::Sent;
 use crate::ends::Outgoing;
 use crate::error::SendError;
 use crate::sending::claim_slots;
-use board_table::{Lane, Packet, Seat, Words, fill, fill_next, give_back_vacant, publish};
+use board_table::{Lane, Packet, Seat, SharedTable, fill, fill_next, give_back_vacant, publish};
 use chart::{EventNo, GrowingLine, MAX_EVENTS, Message};
 use clock::{Clock, Diff};
 use line_recorder::Recorder;
@@ -73,11 +73,11 @@ fn prepare(
     Ok(Prepared { first, sents })
 }
 
-/// Puts each message into its slot and records its send, in their order, from that slot on before which `count` messages
-/// were put on the lane. The first one has this difference; each other one differs from the one before it in the sender's
-/// own entry alone. It answers how many were put with these.
+/// Puts each message into its slot and records its send, in their order, from that slot on before which `count`
+/// messages were put on the lane. The first one has this difference; each other one differs from the one before it in
+/// the sender's own entry alone. It answers how many were put with these.
 fn fill_slots(
-    words: &Words,
+    words: &SharedTable,
     seat: &mut Seat,
     lane: &Lane,
     recorder: &mut Recorder,
@@ -121,7 +121,7 @@ fn fill_slots(
 /// Sends these messages by one store, on an open lane, whose sender's line has room for them. F11 or F6 refuses them,
 /// and then they come back. All memory is there before the first is in its slot, and no clock is copied.
 pub(crate) fn send_several(
-    words: &Words,
+    words: &SharedTable,
     seat: &mut Seat,
     lane: &Lane,
     recorder: &mut Recorder,

@@ -4,12 +4,12 @@ ghost use Rattle.board.specs.Parked.{IsAtBoard, AreAtBoard};
 
 use crate::parked::Parked;
 use crate::post::Post;
-use board_table::Words;
+use board_table::SharedTable;
 use std::alloc::Global;
 
 impl Parked {
     /// The same post, at its own board's words.
-    pub fn wake<'a>(self, words: &'a Words) -> Post<'a>
+    pub fn wake<'a>(self, words: &'a SharedTable) -> Post<'a>
         requires board { IsAtBoard words.now.key words.now.table_id self }
         ensures { result ≡ self }
     {
@@ -33,7 +33,7 @@ impl<'a> Post<'a> {
 /// they come back as they were.
 pub fn wake_all<'a>(
     alloc: Global,
-    words: &'a Words,
+    words: &'a SharedTable,
     posts: Vec<Parked>,
 ) -> Result<Vec<Post<'a>>, Vec<Parked>>
     requires board { AreAtBoard words.now.key words.now.table_id posts.items }

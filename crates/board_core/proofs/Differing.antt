@@ -19,9 +19,9 @@ use Rattle.clock.proofs.EntryLemmas.{entry_of-with_entry, entry_of-with_entry_ot
 use Rattle.board_core.specs.Parcels.{clocks, goods}
 use Rattle.board_core.specs.Differences.{zeros, AreDiffs, restored}
 use Rattle.board_core.specs.Runs.{history_of}
-use Rattle.board_core.specs.Laws.{DifferencesLaw, RestoringLaw, TellingLaw, RunRestoringLaw}
+use Rattle.board_core.specs.Laws.{DifferencesLaw, RestoringLaw, KnowledgeLaw, RunRestoringLaw}
 use Rattle.board_core.proofs.GoodsLemmas.{goods_clocks}
-use Rattle.board_core.proofs.Told.{legal, lanes}
+use Rattle.board_core.proofs.Knowledge.{legal, lanes}
 
 -- Of two clocks with as many entries.
 
@@ -117,8 +117,8 @@ exist n k h legal q p = differences n (zeros n) (clocks (goods n h q p)) (length
 pub restore : RestoringLaw
 restore n k h legal q p diffs are = differences_restore n (zeros n) (clocks (goods n h q p)) diffs (length-replicate n 0) (goods_long n k h legal q p) are
 
-pub tell : TellingLaw
-tell n k h legal q p diffs are i j send =
+pub know : KnowledgeLaw
+know n k h legal q p diffs are i j send =
     let within : i < length (clocks_of n h q p) = omega (arith, send.1, tally-le-count_by (is_send_to p) (chart_of h q) j, sent_count h q p, clocks_many n h q p) in
     let clock = get_or (clocks_of n h q p) i [] in
     let there : slice_get (clocks_of n h q p) i ≡ Some clock = slice_get-get_or (clocks_of n h q p) i [] within in (

@@ -8,4 +8,4 @@ pub mod Resting
 pub mod SendCall
 pub mod Several
 pub mod Standing
-pub mod Told
+pub mod Knowledge

@@ -8,7 +8,7 @@ use Rattle.chart.specs.declared.instance.EventNo.{EventNo}
 use Rattle.chart.specs.Charts.{LineView}
 use Rattle.chart.specs.Histories.{sent, received, AreTwo, MayFollow as MayHappen}
 use Rattle.chart.specs.Reports.{ReportView}
-use Rattle.chart.specs.Order.{IsRaces}
+use Rattle.chart.specs.Order.{AreLineRaces}
 use Rattle.chart.proofs.Existence.{races_exist}
 use Rattle.clock.specs.Clocks.{entry_of}
 use Rattle.lane_core.specs.Steps as lane
@@ -32,7 +32,7 @@ has_report r q region clock =
       record { receive = place (length r.line.events + 1); earlier = map place races.0 },
       record {
         receive = refl;
-        races = subst (IsRaces r.line.events (entry_of clock r.line.instance) q region) (sym (places races.0)) races.1;
+        races = subst (AreLineRaces r.line.events (entry_of clock r.line.instance) q region) (sym (places races.0)) races.1;
         own = of_line races.0;
       },
     )

@@ -78,8 +78,8 @@ RestoringLaw = (n k : ℕ) (h : List Occurrence) → IsLegal n k h
     → restored (zeros n) diffs ≡ clocks (goods n h q p)
 
 -- and so the i-th gives what that send knows of each of n instances
-abbrev pub TellingLaw : Type 0
-TellingLaw = (n k : ℕ) (h : List Occurrence) → IsLegal n k h
+abbrev pub KnowledgeLaw : Type 0
+KnowledgeLaw = (n k : ℕ) (h : List Occurrence) → IsLegal n k h
     → (q p : ℕ) (diffs : List (List Change)) → AreDiffs (zeros n) (clocks (goods n h q p)) diffs
     → (i j : ℕ) → IsSendAfter (chart_of h q) p i j
     → (clock : Clock) × (slice_get (restored (zeros n) diffs) i ≡ Some clock)

@@ -1,7 +1,7 @@
 //! What holds of every run of all instances on a board, and of what their lanes carry: the contracts of functions
 //! that do nothing.
 ghost use Rattle.board_core.specs.Laws.{LegalLaw, LaneLaw, ClockLaw, ReportLaw, RecorderLaw, GoodsLaw, DifferencesLaw};
-ghost use Rattle.board_core.specs.Laws.{RestoringLaw, TellingLaw, RunRestoringLaw, GoodsGrowthLaw, OthersLaw};
+ghost use Rattle.board_core.specs.Laws.{RestoringLaw, KnowledgeLaw, RunRestoringLaw, GoodsGrowthLaw, OthersLaw};
 ghost use Rattle.board_core.specs.Laws.{ClockGrowthLaw, ReportGrowthLaw, HistoryLaw};
 
 /// Of every run, with any number of instances and lanes of any capacity, in any order of their steps: what was sent,
@@ -29,7 +29,7 @@ pub fn goods_law()
 pub fn differences_law()
     ensures exist { DifferencesLaw }
     ensures restore { RestoringLaw }
-    ensures tell { TellingLaw }
+    ensures know { KnowledgeLaw }
     ensures runs { RunRestoringLaw }
 {}
 

@@ -130,7 +130,7 @@ module _ (n k q p : ℕ) (two : AreTwo n q p) (some_place : 0 < k) where
         there = λ a b these other. record { goods = refl; received = refl; closed = refl; put = refl; taken = refl; slots = λ c. refl };
       } in
       let kept = kept_by_receiver n k q p s r id e f log now s.words s.homes 0 0 step only only st.emptying refl in
-      let told : LooksAt (board_lane n k q p) (e ∷ [], []) (slice_index s.words i) (f ∷ [], []) = record {
+      let stated : LooksAt (board_lane n k q p) (e ∷ [], []) (slice_index s.words i) (f ∷ [], []) = record {
         sees = record { same = record { instances = refl; capacity = refl; number = refl }; later = st.fits.seen; legal = r.legal; made = refl; own = st.fits.made };
         rests = record { post = record { alone = refl; instances = instances; capacity = capacity; number = number }; hold = none; slots = refl };
         found = ap (slice_index s.words) word ∙ st.lane.put_is ∙ ap (λ (many : ℕ). 2 * many + closed_bit (is_closed log q p)) st.count;
@@ -140,13 +140,13 @@ module _ (n k q p : ℕ) (two : AreTwo n q p) (some_place : 0 < k) where
         keeps,
         tt,
         subst (λ (ws : List ℕ). Kept n k record { words = ws; homes = s.homes; views = set s.views id (f ∷ []) }) (sym (set-get_or s.words i 0)) kept,
-        told,
+        stated,
       )
 
-  pub finds : (slots id i : ℕ) (e : Held) (looks : ℕ) (told : ℕ → Mine → Type 0) → e.instances ≡ n → e.capacity ≡ k → e.number ≡ p → many_out e.hold ≡ 0
-      → ((s : State (Option Packet) (List Held)) (r : Kept n k s) (w : Mine) → Finds (board_lane n k q p) (e ∷ [], []) w → (held w).seen ≡ r.log → (held w).looks ≡ looks → told (slice_index s.words i) w)
-      → Allows (Kept n k) slots id (e ∷ [], []) i (λ x. x) told
-  finds slots id i e looks told instances capacity number none tell s r size at bound =
+  pub finds : (slots id i : ℕ) (e : Held) (looks : ℕ) (stated : ℕ → Mine → Type 0) → e.instances ≡ n → e.capacity ≡ k → e.number ≡ p → many_out e.hold ≡ 0
+      → ((s : State (Option Packet) (List Held)) (r : Kept n k s) (w : Mine) → Finds (board_lane n k q p) (e ∷ [], []) w → (held w).seen ≡ r.log → (held w).looks ≡ looks → stated (slice_index s.words i) w)
+      → Allows (Kept n k) slots id (e ∷ [], []) i (λ x. x) stated
+  finds slots id i e looks stated instances capacity number none states s r size at bound =
       let st = standing s r id e 0 at number (rests_emptying e.hold q none) in
       let lane = st.lane in
       let log = r.log in
@@ -203,7 +203,7 @@ module _ (n k q p : ℕ) (two : AreTwo n q p) (some_place : 0 < k) where
       let gs = goods n log q p in
       let all : m + 0 + length xs ≡ length (sent log q p) = omega (arith, many, enough, st.count) in
       let carries : AreCarried (last_clock (zeros n) (take (m + 0) gs)) xs (drop (m + 0) gs) = subst (λ i. AreCarried (last_clock (zeros n) (take i gs)) xs (drop i gs)) (let z : m ≡ m + 0 = omega arith in z) (behind_first packets gs m (omega (arith, enough, goods_many n log q p, st.count)) lane.carried) in
-      let told_finds : Finds (board_lane n k q p) (e ∷ [], []) seat = record {
+      let stated_finds : Finds (board_lane n k q p) (e ∷ [], []) seat = record {
         sees = record { same = record { instances = refl; capacity = refl; number = refl }; later = st.fits.seen; legal = r.legal; made = refl; own = st.fits.made };
         emptying = is_emptying (board_lane n k q p) f 0 xs (record { alone = refl; instances = instances; capacity = capacity; number = number }) refl all carries;
         nothing_emptied = emptying_vacant n k q p m 0 xs;
@@ -213,7 +213,7 @@ module _ (n k q p : ℕ) (two : AreTwo n q p) (some_place : 0 < k) where
         takes_all out,
         valid_full n k q p two some_place xs s.homes m few (λ j d x same is. lane.full d x (omega (arith, st.emptying, same)) (ap (get_elem? packets) same ∙ sym (at_drop m packets j) ∙ is)),
         subst (λ z. Kept n k record { words = z.0; homes = z.1; views = set s.views id (f ∷ []) }) same kept,
-        subst (λ z. told (slice_index s.words i) (f ∷ [], z)) (sym whole ∙ sym (takes_all-carried out)) (tell s r seat told_finds refl refl),
+        subst (λ z. stated (slice_index s.words i) (f ∷ [], z)) (sym whole ∙ sym (takes_all-carried out)) (states s r seat stated_finds refl refl),
       )
 
   -- the packets of the lane, with these behind so many first ones

@@ -71,10 +71,10 @@ module _ (n k q p : ℕ) (two : AreTwo n q p) (some_place : 0 < k) where
         count = carried_many (zeros n) (r.packets q p) (goods n r.log q p) lane.carried ∙ goods_many n r.log q p;
       }
 
-  pub claims : (slots id i : ℕ) (e : Held) (looks : ℕ) (told : ℕ → Mine → Type 0) → e.instances ≡ n → e.capacity ≡ k → e.number ≡ q → many_out e.hold ≡ 0
-      → ((s : State (Option Packet) (List Held)) (r : Kept n k s) (w : Mine) → Claims (board_lane n k q p) (e ∷ [], []) w → (held w).seen ≡ r.log → (held w).looks ≡ looks → told (slice_index s.words i) w)
-      → Allows (Kept n k) slots id (e ∷ [], []) i (λ x. x) told
-  claims slots id i e looks told instances capacity number none tell s r size at bound =
+  pub claims : (slots id i : ℕ) (e : Held) (looks : ℕ) (stated : ℕ → Mine → Type 0) → e.instances ≡ n → e.capacity ≡ k → e.number ≡ q → many_out e.hold ≡ 0
+      → ((s : State (Option Packet) (List Held)) (r : Kept n k s) (w : Mine) → Claims (board_lane n k q p) (e ∷ [], []) w → (held w).seen ≡ r.log → (held w).looks ≡ looks → stated (slice_index s.words i) w)
+      → Allows (Kept n k) slots id (e ∷ [], []) i (λ x. x) stated
+  claims slots id i e looks stated instances capacity number none states s r size at bound =
       let st = standing s r id e 0 at number (rests_filling e.hold p none) in
       let lane = st.lane in
       let log = r.log in
@@ -127,7 +127,7 @@ module _ (n k q p : ℕ) (two : AreTwo n q p) (some_place : 0 < k) where
       let kept = kept_by_sender n k q p s r id e f log now s.words homes 0 (free + 0) step (rests_filling e.hold p none) (only_filling p (free + 0)) refl refl in
       let same : ◌≡◌ {A = List ℕ × Homes} (s.words, homes) (set s.words i (get_or s.words i 0), homes_after s.homes [] (takes_all out)) = λ t. (sym (set-get_or s.words i 0) t, sym (takes_all-homes s.homes [] out) t) in
       let seat : Mine = (f ∷ [], filling_slots n k q p m free []) in
-      let told_claims : Claims (board_lane n k q p) (e ∷ [], []) seat = record {
+      let stated_claims : Claims (board_lane n k q p) (e ∷ [], []) seat = record {
         sees = record { same = record { instances = refl; capacity = refl; number = refl }; later = st.fits.seen; legal = r.legal; made = refl; own = st.fits.made };
         filling = is_filling (board_lane n k q p) f free [] (record { alone = refl; instances = instances; capacity = capacity; number = number }) refl;
         nothing_filled = filling_packets n k q p m free [];
@@ -137,7 +137,7 @@ module _ (n k q p : ℕ) (two : AreTwo n q p) (some_place : 0 < k) where
         takes_all out,
         valid_vacant n k q p two some_place free s.homes m few (λ d low high. lane.empty d (omega (arith, st.count, st.filling)) (omega (arith, fit))),
         subst (λ z. Kept n k record { words = z.0; homes = z.1; views = set s.views id (f ∷ []) }) same kept,
-        subst (λ z. told (slice_index s.words i) (f ∷ [], z)) (sym whole ∙ sym (takes_all-carried out)) (tell s r seat told_claims refl refl),
+        subst (λ z. stated (slice_index s.words i) (f ∷ [], z)) (sym whole ∙ sym (takes_all-carried out)) (states s r seat stated_claims refl refl),
       )
 
   -- the lane when its sender has given back its slots, of which it has filled some

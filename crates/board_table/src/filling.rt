@@ -9,13 +9,13 @@ ghost use Rattle.board_table.specs.Layout.{IsBoard};
 ghost use Rattle.board_table.specs.Carrying.{Carries};
 ghost use Rattle.board_table.specs.Knowing.{held, packets_out, vacant_out, IsFilling};
 
-use crate::{Lane, Packet, Seat, Words};
+use crate::{Lane, Packet, Seat, SharedTable};
 use chart::{InstanceNo, Message};
 use clock::Diff;
 use line_recorder::Recorder;
 
-/// Puts a message into an empty slot and records its send, which comes directly after another one. Its difference is made in
-/// the slot: what changed since that one.
+/// Puts a message into an empty slot and records its send, which comes directly after another one. Its difference is
+/// made in the slot: what changed since that one.
 #[inline(always)]
 fn put_next(slot: &mut Option<Packet>, recorder: &mut Recorder, to: InstanceNo, message: Message)
     requires vacant { slot.old ≡ None }
@@ -39,12 +39,12 @@ fn put_next(slot: &mut Option<Packet>, recorder: &mut Recorder, to: InstanceNo, 
     let _changes = packet.diff.len();
 }
 
-/// Puts a message into the first empty slot, which is that of the message before which `count` were put on the lane, and
-/// records its send, which comes directly after another one. With the room that was made on the line it isn't refused,
-/// and takes no memory.
+/// Puts a message into the first empty slot, which is that of the message before which `count` were put on the lane,
+/// and records its send, which comes directly after another one. With the room that was made on the line it isn't
+/// refused, and takes no memory.
 #[inline(always)]
 pub fn fill_next(
-    words: &Words,
+    words: &SharedTable,
     seat: &mut Seat,
     lane: &Lane,
     count: u64,

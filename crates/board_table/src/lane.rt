@@ -9,7 +9,7 @@ use crate::Shape;
 use chart::{InstanceNo, MAX_CAPACITY, MAX_INSTANCES};
 use std::marker::Model;
 
-/// A lane of a board: who sends on it, and who receives.
+/// A lane of a board, which others call a channel: who sends on it, and who receives.
 #[derive(Debug, Drop)]
 pub struct Lane {
     shape: Shape,

@@ -6,12 +6,12 @@ ghost use Rattle.board_table.specs.Knowing.{held, Rests};
 ghost use Rattle.board_table.specs.Leaving.{Leaves};
 
 use crate::rule::Leave;
-use crate::{Lane, Packet, Seat, Words};
+use crate::{Lane, Packet, Seat, SharedTable};
 use chart::Message;
 
 /// A post leaves its board, and makes no step any more: the slots of all messages that wait for it, in what it has
 /// seen, go with its seat, by sender. It takes no memory.
-pub fn leave(words: &Words, seat: &mut Seat)
+pub fn leave(words: &SharedTable, seat: &mut Seat)
     requires table { seat.old.table_id ≡ words.now.table_id }
     requires board { IsBoard (held seat.old.me).instances (held seat.old.me).capacity words.now.key words.now.table_id }
     requires capacity { 1 ≤ (held seat.old.me).capacity }
@@ -26,7 +26,7 @@ pub fn leave(words: &Words, seat: &mut Seat)
 
 /// Takes the message out of the first slot that went with the seat: that of the lane's message before which `count`
 /// were sent. The slot goes behind the others.
-pub fn draw(words: &Words, seat: &mut Seat, lane: &Lane, count: u64) -> Message
+pub fn draw(words: &SharedTable, seat: &mut Seat, lane: &Lane, count: u64) -> Message
     requires table { seat.old.table_id ≡ words.now.table_id }
     requires first { (x : Packet)
         × (seat.old.me.1 ≡ (
@@ -34,7 +34,7 @@ pub fn draw(words: &Words, seat: &mut Seat, lane: &Lane, count: u64) -> Message
           Some x,
         ) ∷ rest seat.old.me.1) }
     ensures table { seat.new.table_id ≡ seat.old.table_id }
-    ensures drawn { (x : Packet)
+    ensures drained { (x : Packet)
         × (seat.old.me.1 ≡ (
           slot_of lane.now.instances lane.now.capacity lane.now.sender lane.now.receiver count,
           Some x,

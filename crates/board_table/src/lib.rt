@@ -36,7 +36,7 @@ pub use leaving::{draw, leave};
 pub use meeting::{meet_note, note};
 pub use packet::Packet;
 pub use receiver::{find_again, find_anew, free, give_back_full, look, look_there, take_recorded};
-pub use rule::{BoardRule, Seat, Words};
+pub use rule::{BoardRule, Seat, SharedTable};
 pub use sender::{claim_again, claim_anew, close, fill, fill_begun, give_back_vacant, publish};
 pub use shape::Shape;
 pub use table::{BoardTable, deal, open};

@@ -5,10 +5,10 @@ ghost use Rattle.board_table.specs.Knowing.{held, IsPost};
 ghost use Rattle.board_table.specs.Plays.{IsNote, Meets};
 
 use crate::rule::{Beside, Copied, Meet, Parted};
-use crate::{Seat, Words};
+use crate::{Seat, SharedTable};
 
 /// A note of what the post has seen. It takes no memory.
-pub fn note(words: &Words, seat: &mut Seat) -> Seat
+pub fn note(words: &SharedTable, seat: &mut Seat) -> Seat
     requires table { seat.old.table_id ≡ words.now.table_id }
     requires board { IsBoard (held seat.old.me).instances (held seat.old.me).capacity words.now.key words.now.table_id }
     requires post { IsPost (held seat.old.me).instances (held seat.old.me).capacity
@@ -24,7 +24,7 @@ pub fn note(words: &Words, seat: &mut Seat) -> Seat
 }
 
 /// Brings a post and a note together: both have then seen the longer of what they had seen. It takes no memory.
-pub fn meet_note(words: &Words, seat: &mut Seat, note: Seat) -> Seat
+pub fn meet_note(words: &SharedTable, seat: &mut Seat, note: Seat) -> Seat
     requires table { (seat.old.table_id ≡ words.now.table_id) × (note.table_id ≡ words.now.table_id) }
     requires board { IsBoard (held seat.old.me).instances (held seat.old.me).capacity words.now.key words.now.table_id }
     requires post { IsPost (held seat.old.me).instances (held seat.old.me).capacity

@@ -10,7 +10,7 @@ ghost use Rattle.board_table.specs.Plays.{FindsAnew, FindsAgain, LooksAt, Frees,
 ghost use Rattle.board_table.specs.Recording.{IsReady, IsRecorded};
 
 use crate::rule::{FindAgain, FindAnew, Free, LookAt, PutBackEmptying, Site};
-use crate::{Lane, Packet, Seat, Words};
+use crate::{Lane, Packet, Seat, SharedTable};
 use chart::{Message, Report};
 use clock::Clock;
 use line_recorder::{RecordError, Recorder};
@@ -19,7 +19,7 @@ use std::marker::Brand;
 /// Takes the slots of all messages that wait, by a look at how many were sent, and whether the lane is closed, which it
 /// answers.
 #[inline(always)]
-pub fn find_anew(words: &Words, seat: &mut Seat, lane: &Lane) -> u64
+pub fn find_anew(words: &SharedTable, seat: &mut Seat, lane: &Lane) -> u64
     requires table { seat.old.table_id ≡ words.now.table_id }
     requires board { IsBoard lane.now.instances lane.now.capacity words.now.key words.now.table_id }
     requires rests { Rests lane.now.instances lane.now.capacity lane.now.receiver seat.old.me }
@@ -30,7 +30,7 @@ pub fn find_anew(words: &Words, seat: &mut Seat, lane: &Lane) -> u64
 }
 
 #[inline(always)]
-fn find_anew_at<A: Site>(words: &Words, seat: &mut Seat, lane: &Lane) -> u64
+fn find_anew_at<A: Site>(words: &SharedTable, seat: &mut Seat, lane: &Lane) -> u64
     requires site { lane.now ≡ A.lane }
     requires table { seat.old.table_id ≡ words.now.table_id }
     requires board { IsBoard lane.now.instances lane.now.capacity words.now.key words.now.table_id }
@@ -43,7 +43,7 @@ fn find_anew_at<A: Site>(words: &Words, seat: &mut Seat, lane: &Lane) -> u64
 
 /// Looks at how many were sent, and whether the lane is closed, which it answers, and takes no slot.
 #[inline(always)]
-pub fn look(words: &Words, seat: &mut Seat, lane: &Lane) -> u64
+pub fn look(words: &SharedTable, seat: &mut Seat, lane: &Lane) -> u64
     requires table { seat.old.table_id ≡ words.now.table_id }
     requires board { IsBoard lane.now.instances lane.now.capacity words.now.key words.now.table_id }
     requires rests { Rests lane.now.instances lane.now.capacity lane.now.receiver seat.old.me }
@@ -55,7 +55,7 @@ pub fn look(words: &Words, seat: &mut Seat, lane: &Lane) -> u64
 
 /// The same, at the word of the lane, which the caller knows.
 #[inline(always)]
-pub fn look_there(words: &Words, seat: &mut Seat, lane: &Lane, word: usize) -> u64
+pub fn look_there(words: &SharedTable, seat: &mut Seat, lane: &Lane, word: usize) -> u64
     requires table { seat.old.table_id ≡ words.now.table_id }
     requires board { IsBoard lane.now.instances lane.now.capacity words.now.key words.now.table_id }
     requires rests { Rests lane.now.instances lane.now.capacity lane.now.receiver seat.old.me }
@@ -67,7 +67,7 @@ pub fn look_there(words: &Words, seat: &mut Seat, lane: &Lane, word: usize) -> u
 }
 
 #[inline(always)]
-fn look_at<A: Site>(words: &Words, seat: &mut Seat, lane: &Lane, word: usize) -> u64
+fn look_at<A: Site>(words: &SharedTable, seat: &mut Seat, lane: &Lane, word: usize) -> u64
     requires site { lane.now ≡ A.lane }
     requires table { seat.old.table_id ≡ words.now.table_id }
     requires board { IsBoard lane.now.instances lane.now.capacity words.now.key words.now.table_id }
@@ -83,7 +83,7 @@ fn look_at<A: Site>(words: &Words, seat: &mut Seat, lane: &Lane, word: usize) ->
 
 /// Takes the slots of all messages that wait, by a load of the receiver's own word, which is no look.
 #[inline(always)]
-pub fn find_again(words: &Words, seat: &mut Seat, lane: &Lane)
+pub fn find_again(words: &SharedTable, seat: &mut Seat, lane: &Lane)
     requires table { seat.old.table_id ≡ words.now.table_id }
     requires board { IsBoard lane.now.instances lane.now.capacity words.now.key words.now.table_id }
     requires rests { Rests lane.now.instances lane.now.capacity lane.now.receiver seat.old.me }
@@ -94,7 +94,7 @@ pub fn find_again(words: &Words, seat: &mut Seat, lane: &Lane)
 }
 
 #[inline(always)]
-fn find_again_at<A: Site>(words: &Words, seat: &mut Seat, lane: &Lane)
+fn find_again_at<A: Site>(words: &SharedTable, seat: &mut Seat, lane: &Lane)
     requires site { lane.now ≡ A.lane }
     requires table { seat.old.table_id ≡ words.now.table_id }
     requires board { IsBoard lane.now.instances lane.now.capacity words.now.key words.now.table_id }
@@ -112,7 +112,7 @@ fn find_again_at<A: Site>(words: &Words, seat: &mut Seat, lane: &Lane)
 /// A refusal, the first of F7 and F6 that applies, changes nothing, and the message is where it was.
 #[inline(always)]
 pub fn take_recorded(
-    words: &Words,
+    words: &SharedTable,
     seat: &mut Seat,
     lane: &Lane,
     count: u64,
@@ -160,7 +160,7 @@ pub fn take_recorded(
 /// Receives the messages that were taken out, one directly after another, in this coregion (0 outside of one), and
 /// gives all slots back. The others wait again. With these, `count` messages were received on the lane.
 #[inline(always)]
-pub fn free(words: &Words, seat: &mut Seat, lane: &Lane, count: u64, region: u32)
+pub fn free(words: &SharedTable, seat: &mut Seat, lane: &Lane, count: u64, region: u32)
     requires table { seat.old.table_id ≡ words.now.table_id }
     requires board { IsBoard lane.now.instances lane.now.capacity words.now.key words.now.table_id }
     requires emptying { IsEmptying lane.now seat.old.me }
@@ -175,7 +175,7 @@ pub fn free(words: &Words, seat: &mut Seat, lane: &Lane, count: u64, region: u32
 }
 
 #[inline(always)]
-fn free_at<A: Site>(words: &Words, seat: &mut Seat, lane: &Lane, count: u64, region: u32)
+fn free_at<A: Site>(words: &SharedTable, seat: &mut Seat, lane: &Lane, count: u64, region: u32)
     requires site { (lane.now ≡ A.lane) × (region ≡ A.region) }
     requires table { seat.old.table_id ≡ words.now.table_id }
     requires board { IsBoard lane.now.instances lane.now.capacity words.now.key words.now.table_id }
@@ -191,7 +191,7 @@ fn free_at<A: Site>(words: &Words, seat: &mut Seat, lane: &Lane, count: u64, reg
 }
 
 /// Gives all slots back, from which nothing was taken out, by a load of the receiver's own word.
-pub fn give_back_full(words: &Words, seat: &mut Seat, lane: &Lane)
+pub fn give_back_full(words: &SharedTable, seat: &mut Seat, lane: &Lane)
     requires table { seat.old.table_id ≡ words.now.table_id }
     requires board { IsBoard lane.now.instances lane.now.capacity words.now.key words.now.table_id }
     requires emptying { IsEmptying lane.now seat.old.me }
@@ -202,7 +202,7 @@ pub fn give_back_full(words: &Words, seat: &mut Seat, lane: &Lane)
     give_back_full_at::<Brand>(words, seat, lane);
 }
 
-fn give_back_full_at<A: Site>(words: &Words, seat: &mut Seat, lane: &Lane)
+fn give_back_full_at<A: Site>(words: &SharedTable, seat: &mut Seat, lane: &Lane)
     requires site { lane.now ≡ A.lane }
     requires table { seat.old.table_id ≡ words.now.table_id }
     requires board { IsBoard lane.now.instances lane.now.capacity words.now.key words.now.table_id }

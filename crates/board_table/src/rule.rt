@@ -22,7 +22,7 @@ impl TableRule<Option<Packet>, LinkedList<Held>, Shape> for BoardRule {
 }
 
 /// A board's table, as threads share it.
-pub type Words = atomic_table::Shared<Option<Packet>, LinkedList<Held>, Shape, BoardRule>;
+pub type SharedTable = atomic_table::Shared<Option<Packet>, LinkedList<Held>, Shape, BoardRule>;
 
 /// A token of no bytes, with which a post steps, and which has what it knows.
 pub type Seat = atomic_table::Seat<Option<Packet>, LinkedList<Held>>;

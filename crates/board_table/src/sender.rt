@@ -13,7 +13,7 @@ ghost use Rattle.board_table.specs.Knowing.{held, packets_out, vacant_out, Rests
 ghost use Rattle.board_table.specs.Plays.{ClaimsAnew, ClaimsAgain, Publishes, Closes, PutsBack};
 
 use crate::rule::{ClaimAgain, ClaimAnew, CloseLane, Publish, PutBackFilling, Site};
-use crate::{Lane, Packet, Seat, Words};
+use crate::{Lane, Packet, Seat, SharedTable};
 use chart::Message;
 use clock::{Clock, Diff};
 use line_recorder::Recorder;
@@ -21,7 +21,7 @@ use std::marker::Brand;
 
 /// Takes all slots that are free, by a look at how many messages were received, which it answers.
 #[inline(always)]
-pub fn claim_anew(words: &Words, seat: &mut Seat, lane: &Lane) -> u64
+pub fn claim_anew(words: &SharedTable, seat: &mut Seat, lane: &Lane) -> u64
     requires table { seat.old.table_id ≡ words.now.table_id }
     requires board { IsBoard lane.now.instances lane.now.capacity words.now.key words.now.table_id }
     requires rests { Rests lane.now.instances lane.now.capacity lane.now.sender seat.old.me }
@@ -32,7 +32,7 @@ pub fn claim_anew(words: &Words, seat: &mut Seat, lane: &Lane) -> u64
 }
 
 #[inline(always)]
-fn claim_anew_at<A: Site>(words: &Words, seat: &mut Seat, lane: &Lane) -> u64
+fn claim_anew_at<A: Site>(words: &SharedTable, seat: &mut Seat, lane: &Lane) -> u64
     requires site { lane.now ≡ A.lane }
     requires table { seat.old.table_id ≡ words.now.table_id }
     requires board { IsBoard lane.now.instances lane.now.capacity words.now.key words.now.table_id }
@@ -45,7 +45,7 @@ fn claim_anew_at<A: Site>(words: &Words, seat: &mut Seat, lane: &Lane) -> u64
 
 /// Takes all slots that are free, by a load of the sender's own word, which is no look.
 #[inline(always)]
-pub fn claim_again(words: &Words, seat: &mut Seat, lane: &Lane)
+pub fn claim_again(words: &SharedTable, seat: &mut Seat, lane: &Lane)
     requires table { seat.old.table_id ≡ words.now.table_id }
     requires board { IsBoard lane.now.instances lane.now.capacity words.now.key words.now.table_id }
     requires rests { Rests lane.now.instances lane.now.capacity lane.now.sender seat.old.me }
@@ -56,7 +56,7 @@ pub fn claim_again(words: &Words, seat: &mut Seat, lane: &Lane)
 }
 
 #[inline(always)]
-fn claim_again_at<A: Site>(words: &Words, seat: &mut Seat, lane: &Lane)
+fn claim_again_at<A: Site>(words: &SharedTable, seat: &mut Seat, lane: &Lane)
     requires site { lane.now ≡ A.lane }
     requires table { seat.old.table_id ≡ words.now.table_id }
     requires board { IsBoard lane.now.instances lane.now.capacity words.now.key words.now.table_id }
@@ -69,7 +69,7 @@ fn claim_again_at<A: Site>(words: &Words, seat: &mut Seat, lane: &Lane)
 
 /// Fills the first empty slot, which is that of the message before which `count` were put on the lane.
 #[inline(always)]
-pub fn fill(words: &Words, seat: &mut Seat, lane: &Lane, count: u64, packet: Packet)
+pub fn fill(words: &SharedTable, seat: &mut Seat, lane: &Lane, count: u64, packet: Packet)
     requires table { seat.old.table_id ≡ words.now.table_id }
     requires board { IsBoard lane.now.instances lane.now.capacity words.now.key words.now.table_id }
     requires filling { IsFilling lane.now seat.old.me }
@@ -145,15 +145,15 @@ fn begin_in(
     Ok(())
 }
 
-/// Puts a message into the first empty slot, which is that of the message before which `count` were put on the lane, and
-/// begins its send, which isn't on the sender's line yet. The base is the clock of the message before it, and is this
-/// one's afterwards.
+/// Puts a message into the first empty slot, which is that of the message before which `count` were put on the lane,
+/// and begins its send, which isn't on the sender's line yet. The base is the clock of the message before it, and is
+/// this one's afterwards.
 ///
-/// F6: where there is no memory, nothing has changed, and the message comes back. With room on the line it takes none up
-/// to [`INLINE_ENTRIES`] instances, and none where nothing new is known of the others since the base.
+/// F6: where there is no memory, nothing has changed, and the message comes back. With room on the line it takes none
+/// up to [`INLINE_ENTRIES`] instances, and none where nothing new is known of the others since the base.
 #[inline(always)]
 pub fn fill_begun(
-    words: &Words,
+    words: &SharedTable,
     seat: &mut Seat,
     lane: &Lane,
     count: u64,
@@ -195,7 +195,7 @@ pub fn fill_begun(
 /// Sends what is in the slots, one message directly after another, and gives all slots back. With these, `count`
 /// messages were sent on the lane.
 #[inline(always)]
-pub fn publish(words: &Words, seat: &mut Seat, lane: &Lane, count: u64)
+pub fn publish(words: &SharedTable, seat: &mut Seat, lane: &Lane, count: u64)
     requires table { seat.old.table_id ≡ words.now.table_id }
     requires board { IsBoard lane.now.instances lane.now.capacity words.now.key words.now.table_id }
     requires filling { IsFilling lane.now seat.old.me }
@@ -215,7 +215,7 @@ pub fn publish(words: &Words, seat: &mut Seat, lane: &Lane, count: u64)
 }
 
 #[inline(always)]
-fn publish_at<A: Site>(words: &Words, seat: &mut Seat, lane: &Lane, count: u64)
+fn publish_at<A: Site>(words: &SharedTable, seat: &mut Seat, lane: &Lane, count: u64)
     requires site { lane.now ≡ A.lane }
     requires table { seat.old.table_id ≡ words.now.table_id }
     requires board { IsBoard lane.now.instances lane.now.capacity words.now.key words.now.table_id }
@@ -236,7 +236,7 @@ fn publish_at<A: Site>(words: &Words, seat: &mut Seat, lane: &Lane, count: u64)
 }
 
 /// Gives all slots back, none of which is filled, by a load of the sender's own word.
-pub fn give_back_vacant(words: &Words, seat: &mut Seat, lane: &Lane)
+pub fn give_back_vacant(words: &SharedTable, seat: &mut Seat, lane: &Lane)
     requires table { seat.old.table_id ≡ words.now.table_id }
     requires board { IsBoard lane.now.instances lane.now.capacity words.now.key words.now.table_id }
     requires filling { IsFilling lane.now seat.old.me }
@@ -247,7 +247,7 @@ pub fn give_back_vacant(words: &Words, seat: &mut Seat, lane: &Lane)
     give_back_vacant_at::<Brand>(words, seat, lane);
 }
 
-fn give_back_vacant_at<A: Site>(words: &Words, seat: &mut Seat, lane: &Lane)
+fn give_back_vacant_at<A: Site>(words: &SharedTable, seat: &mut Seat, lane: &Lane)
     requires site { lane.now ≡ A.lane }
     requires table { seat.old.table_id ≡ words.now.table_id }
     requires board { IsBoard lane.now.instances lane.now.capacity words.now.key words.now.table_id }
@@ -260,7 +260,7 @@ fn give_back_vacant_at<A: Site>(words: &Words, seat: &mut Seat, lane: &Lane)
 }
 
 /// Closes the lane, on which `count` messages were sent.
-pub fn close(words: &Words, seat: &mut Seat, lane: &Lane, count: u64)
+pub fn close(words: &SharedTable, seat: &mut Seat, lane: &Lane, count: u64)
     requires table { seat.old.table_id ≡ words.now.table_id }
     requires board { IsBoard lane.now.instances lane.now.capacity words.now.key words.now.table_id }
     requires rests { Rests lane.now.instances lane.now.capacity lane.now.sender seat.old.me }
@@ -273,7 +273,7 @@ pub fn close(words: &Words, seat: &mut Seat, lane: &Lane, count: u64)
     close_at::<Brand>(words, seat, lane, count);
 }
 
-fn close_at<A: Site>(words: &Words, seat: &mut Seat, lane: &Lane, count: u64)
+fn close_at<A: Site>(words: &SharedTable, seat: &mut Seat, lane: &Lane, count: u64)
     requires site { lane.now ≡ A.lane }
     requires table { seat.old.table_id ≡ words.now.table_id }
     requires board { IsBoard lane.now.instances lane.now.capacity words.now.key words.now.table_id }

@@ -7,7 +7,7 @@ ghost use Rattle.board_table.specs.Knowing.{held, later_helds};
 ghost use Rattle.board_table.specs.Rule.{new_helds};
 
 use crate::rule::{BoardRule, First};
-use crate::{Held, Packet, Seat, Shape, Words};
+use crate::{Held, Packet, Seat, Shape, SharedTable};
 use atomic_table::Table;
 use std::alloc::{AllocError, Global};
 use std::collections::LinkedList;
@@ -32,7 +32,7 @@ pub fn open(alloc: Global, shape: &Shape) -> Result<(BoardTable, Seat), AllocErr
 }
 
 /// Cuts a seat for the first post off one that stands for several.
-pub fn deal(words: &Words, seat: &mut Seat) -> Seat
+pub fn deal(words: &SharedTable, seat: &mut Seat) -> Seat
     requires table { seat.old.table_id ≡ words.now.table_id }
     requires board { IsBoard (held seat.old.me).instances (held seat.old.me).capacity words.now.key words.now.table_id }
     requires size { 1 ≤ (held seat.old.me).instances }

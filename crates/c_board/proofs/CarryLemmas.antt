@@ -22,7 +22,7 @@ use Rattle.c_board.specs.declared.refusal.Refusal.TheVariants as why
 use Rattle.c_board.specs.Chairs.{Fits, AreFit, seats_with, kept_seats, posts_of, KeepPosts, TakesPosts}
 use Rattle.c_board.specs.Carrying.{KeepAll, IsCarried, HaveRoomOver, CarriesGathered, CarriesParked, IsUnborne, refusal_for}
 use Rattle.c_board.specs.Copying.{put_over}
-use Rattle.c_board.specs.Seats.{SeatView}
+use Rattle.c_board.specs.PostStates.{PostStateView}
 use Rattle.c_board.proofs.ChairLemmas.{posts-same}
 
 some_same : {X : Type 0} (x y : X) → Some x ≡ Some y → x ≡ y
@@ -82,13 +82,13 @@ keep_all (c ∷ chairs) (x ∷ posts) (y ∷ new) fit fits = let rest = keep_all
 }
 
 -- the seats of handles that keep posts
-seats_in : (all : List (Option Kept)) → KeepPosts all → (seats : List SeatView) × (all ≡ kept_seats seats)
+seats_in : (all : List (Option Kept)) → KeepPosts all → (seats : List PostStateView) × (all ≡ kept_seats seats)
 seats_in [] keep = ([], refl)
 seats_in (None ∷ all) keep = absurd (different (keep 0 None refl))
   where
     different : false ≡ true → ⊥
     different e = cc
-seats_in (Some (Post seat) ∷ all) keep = let rest = seats_in all (λ i kept at. keep (suc i) kept at) in (seat ∷ rest.0, ap (λ (xs : List (Option Kept)). Some (Post seat) ∷ xs) rest.1)
+seats_in (Some (Post state) ∷ all) keep = let rest = seats_in all (λ i kept at. keep (suc i) kept at) in (state ∷ rest.0, ap (λ (xs : List (Option Kept)). Some (Post state) ∷ xs) rest.1)
 seats_in (Some (Board it) ∷ all) keep = absurd (different (keep 0 (Some (Board it)) refl))
   where
     different : false ≡ true → ⊥
@@ -98,7 +98,7 @@ seats_in (Some Away ∷ all) keep = absurd (different (keep 0 (Some Away) refl))
     different : false ≡ true → ⊥
     different e = cc
 
-keep_same : (seats : List SeatView) → KeepAll seats seats
+keep_same : (seats : List PostStateView) → KeepAll seats seats
 keep_same seats = record { last = refl; came = refl }
 
 -- there was no memory to take them out

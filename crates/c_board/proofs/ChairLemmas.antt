@@ -14,7 +14,7 @@ use Rattle.c_board.specs.Opening.{AreEmpty, kept_by}
 use Rattle.c_board.proofs.KeptLists.{kept_at}
 use Rattle.c_board.proofs.Lists.{put_all, take_none}
 use Rattle.c_board.specs.Chairs.{Fits, AreFit, seat_with, seats_with, kept_seats, posts_of, is_post, AreTaken, KeepOneBoard}
-use Rattle.c_board.specs.Seats.{SeatView}
+use Rattle.c_board.specs.PostStates.{PostStateView}
 
 -- one more
 pub fit-push : (chairs : List Chair) (posts : List PostView) (chair : Chair) (post : PostView) → AreFit chairs posts → Fits chair post → AreFit (chairs ++ chair ∷ []) (posts ++ post ∷ [])
@@ -100,7 +100,7 @@ posts-same (c ∷ chairs) (p ∷ posts) all = ap (λ (xs : List PostView). p ∷
 
 -- one of them, in its seat
 pub seated_at : (chairs : List Chair) (posts : List PostView) (i : ℕ) (post : PostView) → AreFit chairs posts → slice_get posts i ≡ Some post
-    → (seat : SeatView) × (seat.post ≡ post) × (slice_get (kept_seats (seats_with chairs posts)) i ≡ Some (Some (Post seat)))
+    → (state : PostStateView) × (state.post ≡ post) × (slice_get (kept_seats (seats_with chairs posts)) i ≡ Some (Some (Post state)))
 seated_at [] [] i post all there = absurd (never there)
   where
     never : {X : Type 0} {x : X} → None ≡ Some x → ⊥

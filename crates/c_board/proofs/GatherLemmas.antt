@@ -8,10 +8,10 @@ use Rattle.c_board.specs.declared.refusal.Refusal.{Refusal}
 use Rattle.c_board.specs.declared.refusal.Refusal.TheVariants as why
 use Rattle.c_board.specs.Chairs.{kept_seats, posts_of}
 use Rattle.c_board.specs.Gathering.{Gathers, IsUngathered}
-use Rattle.c_board.specs.Seats.{SeatView}
+use Rattle.c_board.specs.PostStates.{PostStateView}
 
 -- the posts are where they were
-pub back_again : (refusal : Refusal) (olds news : List (Option Kept)) (board : Option Kept) (seats : List SeatView) (posts : List PostView) → olds ≡ kept_seats seats → posts_of seats ≡ posts
+pub back_again : (refusal : Refusal) (olds news : List (Option Kept)) (board : Option Kept) (seats : List PostStateView) (posts : List PostView) → olds ≡ kept_seats seats → posts_of seats ≡ posts
     → IsUngathered posts refusal → news ≡ olds → board ≡ None → Gathers olds board (Err refusal) news board
 back_again why.NotAllPosts olds news board seats posts kept of its same none = (record { same = same; vacant = none; unmade = none }, record { seats = seats; kept = kept; lacking = subst AreNotAll (sym of) its })
 back_again why.Memory olds news board seats posts kept of its same none = record { same = same; vacant = none; unmade = none }

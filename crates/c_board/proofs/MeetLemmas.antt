@@ -11,7 +11,7 @@ use Rattle.c_board.specs.declared.refusal.Refusal.{Refusal}
 use Rattle.c_board.specs.declared.refusal.Refusal.TheVariants as why
 use Rattle.c_board.specs.Chairs.{Fits, AreFit, seat_with, seats_with, kept_seats, is_post, KeepPosts}
 use Rattle.c_board.specs.Meeting.{Meets, MeetsParked, seat_seen}
-use Rattle.c_board.specs.Seats.{SeatView}
+use Rattle.c_board.specs.PostStates.{PostStateView}
 use Rattle.c_board.proofs.ChairLemmas.{posts-same}
 
 abbrev post_seen : List Occurrence → PostView → PostView
@@ -31,7 +31,7 @@ seats-seen : (chairs : List Chair) (posts : List PostView) (h : List Occurrence)
 seats-seen [] [] h all = refl
 seats-seen [] (p ∷ posts) h all = absurd all
 seats-seen (c ∷ chairs) [] h all = absurd all
-seats-seen (c ∷ chairs) (p ∷ posts) h all = ap (λ (xs : List SeatView). seat_seen h (seat_with c p) ∷ xs) (seats-seen chairs posts h all.1)
+seats-seen (c ∷ chairs) (p ∷ posts) h all = ap (λ (xs : List PostStateView). seat_seen h (seat_with c p) ∷ xs) (seats-seen chairs posts h all.1)
 
 -- whatever the meeting answered
 pub fit-met : (chairs : List Chair) (posts new : List PostView) (answer : Result (Unit {0}) Refusal) → AreFit chairs posts → MeetsParked posts answer new → AreFit chairs new
@@ -52,16 +52,16 @@ fit-met chairs posts new (Err (why.Closing error)) fit its = absurd its
 fit-met chairs posts new (Err (why.Region error)) fit its = absurd its
 
 -- handles that keep seats keep posts
-pub seats_kept : (seats : List SeatView) → KeepPosts (kept_seats seats)
+pub seats_kept : (seats : List PostStateView) → KeepPosts (kept_seats seats)
 seats_kept [] i kept there = absurd (never there)
   where
     never : {X : Type 0} {x : X} → None ≡ Some x → ⊥
     never e = cc
-seats_kept (seat ∷ seats) zero kept there = subst (λ (it : Option Kept). is_post it ≡ true) (same (Some (Post seat)) kept there) refl
+seats_kept (state ∷ seats) zero kept there = subst (λ (it : Option Kept). is_post it ≡ true) (same (Some (Post state)) kept there) refl
   where
     same : (a b : Option Kept) → Some a ≡ Some b → a ≡ b
     same a b e = cc
-seats_kept (seat ∷ seats) (suc i) kept there = seats_kept seats i kept there
+seats_kept (state ∷ seats) (suc i) kept there = seats_kept seats i kept there
 
 -- and the posts are put back
 pub met_again : (chairs : List Chair) (posts new : List PostView) (olds news : List (Option Kept)) (answer : Result (Unit {0}) Refusal) → AreFit chairs posts → olds ≡ kept_seats (seats_with chairs posts)

@@ -1,3 +1,3 @@
-pub mod BoardTelling
+pub mod BoardCopies
 pub mod BoardText
 pub mod Naming

@@ -18,16 +18,16 @@ use Rattle.c_board.specs.declared.refusal.Refusal.TheVariants as why
 use Rattle.c_board.specs.Chairs.{kept_seats, posts_of, KeepPosts, IsOneNoPost}
 use Rattle.c_board.specs.Copying.{put_over}
 use Rattle.c_board.specs.Gathering.{LackPosts}
-use Rattle.c_board.specs.Seats.{SeatView}
+use Rattle.c_board.specs.PostStates.{PostStateView}
 
 -- what the board left may be carried over to the posts that are kept
 abbrev pub MayCarryAll : Gathered → List (Option Kept) → Type 0
-MayCarryAll it all = (seats : List SeatView) → all ≡ kept_seats seats
+MayCarryAll it all = (seats : List PostStateView) → all ≡ kept_seats seats
     → MayAllCarry (map left_view it.left.items) (map closed_view it.closed.items) (posts_of seats)
 
 abbrev pub MayCarryKept : Kept → List (Option Kept) → Type 0
 MayCarryKept (Board it) all = MayCarryAll it all
-MayCarryKept (Post seat) all = Unit {0}
+MayCarryKept (Post state) all = Unit {0}
 MayCarryKept Away all = Unit {0}
 
 abbrev pub MayCarryOver : Option Kept → List (Option Kept) → Type 0
@@ -35,17 +35,17 @@ MayCarryOver None all = Unit {0}
 MayCarryOver (Some kept) all = MayCarryKept kept all
 
 -- the messages that came last stay in their seats
-pub record KeepAll (old new : List SeatView) : Type 0 where
-  pub last : map (λ (seat : SeatView). seat.last) new ≡ map (λ (seat : SeatView). seat.last) old
-  pub came : map (λ (seat : SeatView). seat.came) new ≡ map (λ (seat : SeatView). seat.came) old
+pub record KeepAll (old new : List PostStateView) : Type 0 where
+  pub last : map (λ (state : PostStateView). state.last) new ≡ map (λ (state : PostStateView). state.last) old
+  pub came : map (λ (state : PostStateView). state.came) new ≡ map (λ (state : PostStateView). state.came) old
 
 -- the posts have carried over what the board left, which is left no more; how many sends each instance carried is
 -- copied out
 pub record IsCarried (it : Gathered) (old : List (Option Kept)) (room : List ℕ) (many : ℕ) (now : Gathered)
     (new : List (Option Kept)) (out : List ℕ) : Type 0 where
-  pub seats : List SeatView
+  pub seats : List PostStateView
   pub kept : old ≡ kept_seats seats
-  pub after : List SeatView
+  pub after : List PostStateView
   pub carried : Carried
   pub over : CarriesOver it.left.items it.closed.items (posts_of seats) (Ok carried) (posts_of after)
   pub stay : KeepAll seats after
@@ -63,9 +63,9 @@ pub record IsUncarried (it : Gathered) (room : List ℕ) (now : Gathered) (out :
 
 -- nothing has changed but that there may be more room for events
 pub record HaveRoomOver (old new : List (Option Kept)) : Type 0 where
-  pub seats : List SeatView
+  pub seats : List PostStateView
   pub kept : old ≡ kept_seats seats
-  pub after : List SeatView
+  pub after : List PostStateView
   pub more : HaveMoreRoom (posts_of seats) (posts_of after)
   pub stay : KeepAll seats after
   pub new_is : new ≡ kept_seats after
@@ -85,7 +85,7 @@ abbrev pub CarriesKept : Kept → List (Option Kept) → List ℕ → Result ℕ
     → Type 0
 CarriesKept (Board it) old room result now new out = (its : Gathered) × (now ≡ Board its)
     × CarriesGathered it old room result its new out
-CarriesKept (Post seat) old room result now new out = (now ≡ Post seat) × (new ≡ old) × (out ≡ room)
+CarriesKept (Post state) old room result now new out = (now ≡ Post state) × (new ≡ old) × (out ≡ room)
     × (result ≡ Err why.Misuse)
 CarriesKept Away old room result now new out = (now ≡ Away) × (new ≡ old) × (out ≡ room) × (result ≡ Err why.Misuse)
 

@@ -10,7 +10,7 @@ use Rattle.c_board.specs.declared.kept.Kept.TheVariants.{Post, Board, Away}
 use Rattle.c_board.specs.declared.refusal.Refusal.{Refusal}
 use Rattle.c_board.specs.declared.refusal.Refusal.TheVariants as why
 use Rattle.c_board.specs.Opening.{AreEmpty}
-use Rattle.c_board.specs.Seats.{SeatView}
+use Rattle.c_board.specs.PostStates.{PostStateView}
 
 -- the seat is that of this post, or of another one at the same board
 pub record Fits (chair : Chair) (post : PostView) : Type 0 where
@@ -18,7 +18,7 @@ pub record Fits (chair : Chair) (post : PostView) : Type 0 where
   pub known : unwrap_or chair.last 0 ≤ post.board.size
 
 -- the seat with the post
-abbrev pub seat_with : Chair → PostView → SeatView
+abbrev pub seat_with : Chair → PostView → PostStateView
 seat_with chair post = record { post = post; last = unwrap_or chair.last 0; came = came_list chair.came }
 
 -- a post was taken out of its seat
@@ -33,22 +33,22 @@ AreFit [] (post ∷ posts) = ⊥
 AreFit (chair ∷ chairs) [] = ⊥
 AreFit (chair ∷ chairs) (post ∷ posts) = Fits chair post × AreFit chairs posts
 
-abbrev pub seats_with : List Chair → List PostView → List SeatView
+abbrev pub seats_with : List Chair → List PostView → List PostStateView
 seats_with [] posts = []
 seats_with (chair ∷ chairs) [] = []
 seats_with (chair ∷ chairs) (post ∷ posts) = seat_with chair post ∷ seats_with chairs posts
 
 -- what handles keep that keep these seats, in their order, and the posts of these seats
-abbrev pub kept_seats : List SeatView → List (Option Kept)
-kept_seats seats = map (λ (seat : SeatView). Some (Post seat)) seats
+abbrev pub kept_seats : List PostStateView → List (Option Kept)
+kept_seats seats = map (λ (state : PostStateView). Some (Post state)) seats
 
-abbrev pub posts_of : List SeatView → List PostView
-posts_of seats = map (λ (seat : SeatView). seat.post) seats
+abbrev pub posts_of : List PostStateView → List PostView
+posts_of seats = map (λ (state : PostStateView). state.post) seats
 
 -- it is a post
 abbrev pub is_post : Option Kept → Bool
 is_post None = false
-is_post (Some (Post seat)) = true
+is_post (Some (Post state)) = true
 is_post (Some (Board it)) = false
 is_post (Some Away) = false
 
@@ -62,7 +62,7 @@ IsOneNoPost all = (i : ℕ) × (kept : Option Kept) × (slice_get all i ≡ Some
 
 -- the posts that are kept are of one board
 abbrev pub KeepOneBoard : List (Option Kept) → Type 0
-KeepOneBoard all = (i j : ℕ) (x y : SeatView) → slice_get all i ≡ Some (Some (Post x))
+KeepOneBoard all = (i j : ℕ) (x y : PostStateView) → slice_get all i ≡ Some (Some (Post x))
     → slice_get all j ≡ Some (Some (Post y))
     → x.post.board ≡ y.post.board
 

@@ -6,11 +6,11 @@ use Rattle.c_board.specs.declared.kept.Kept.{Kept}
 use Rattle.c_board.specs.declared.kept.Kept.TheVariants.{Post, Board, Away}
 use Rattle.c_board.specs.declared.refusal.Refusal.{Refusal}
 use Rattle.c_board.specs.declared.refusal.Refusal.TheVariants as why
-use Rattle.c_board.specs.Seats.{SeatView, Keeps}
+use Rattle.c_board.specs.PostStates.{PostStateView, Keeps}
 use Rattle.c_board.specs.Sending.{IsNoInstance, IsNoPost}
 
 -- what closing a lane over a seated post answers: what the post's own call does
-abbrev pub SeatCloses : SeatView → ℕ → Result (Unit {0}) Refusal → SeatView → Type 0
+abbrev pub SeatCloses : PostStateView → ℕ → Result (Unit {0}) Refusal → PostStateView → Type 0
 SeatCloses old to (Ok done) new = Keeps old new × Sound old.post new.post × IsClosed old.post to new.post
 SeatCloses old to (Err why.NoInstance) new = (new ≡ old) × IsNoInstance to
 SeatCloses old to (Err (why.Closing error)) new = (new ≡ old) × IsUnclosed old.post to error
@@ -28,7 +28,7 @@ SeatCloses old to (Err (why.Taking error)) new = ⊥
 SeatCloses old to (Err (why.Region error)) new = ⊥
 
 abbrev pub KeptCloses : Kept → ℕ → Result (Unit {0}) Refusal → Kept → Type 0
-KeptCloses (Post old) to result new = (seat : SeatView) × (new ≡ Post seat) × SeatCloses old to result seat
+KeptCloses (Post old) to result new = (state : PostStateView) × (new ≡ Post state) × SeatCloses old to result state
 KeptCloses (Board it) to result new = (new ≡ Board it) × (result ≡ Err why.Misuse)
 KeptCloses Away to result new = (new ≡ Away) × (result ≡ Err why.Misuse)
 

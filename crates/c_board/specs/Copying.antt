@@ -15,7 +15,7 @@ put_over items room = take (length room) items ++ drop (length items) room
 
 -- this one of the messages that came last to what a handle keeps
 abbrev pub picked_of : Which → Kept → Option Arrival
-picked_of which (Post seat) = picked which seat.came
+picked_of which (Post state) = picked which state.came
 picked_of which (Board it) = None
 picked_of which Away = None
 

@@ -13,11 +13,11 @@ use Rattle.c_board.specs.declared.refusal.Refusal.{Refusal}
 use Rattle.c_board.specs.declared.refusal.Refusal.TheVariants as why
 use Rattle.c_board.specs.Opening.{AreEmpty}
 use Rattle.c_board.specs.Chairs.{kept_seats, posts_of, KeepPosts, IsOneNoPost}
-use Rattle.c_board.specs.Seats.{SeatView}
+use Rattle.c_board.specs.PostStates.{PostStateView}
 
 -- the handles keep these posts, which are not all of their board
 pub record LackPosts (all : List (Option Kept)) : Type 0 where
-  pub seats : List SeatView
+  pub seats : List PostStateView
   pub kept : all ≡ kept_seats seats
   pub lacking : AreNotAll (posts_of seats)
 
@@ -26,7 +26,7 @@ pub record LackPosts (all : List (Option Kept)) : Type 0 where
 pub record IsGathered (old : List (Option Kept)) (board : Option Kept) (new : List (Option Kept))
     (made : Option Kept) : Type 0 where
   pub vacant : board ≡ None
-  pub seats : List SeatView
+  pub seats : List PostStateView
   pub kept : old ≡ kept_seats seats
   pub it : Gathered
   pub whole : IsWhole (posts_of seats) it

@@ -8,15 +8,15 @@ use Rattle.c_board.specs.declared.refusal.Refusal.{Refusal}
 use Rattle.c_board.specs.declared.refusal.Refusal.TheVariants as why
 use Rattle.c_board.specs.Chairs.{kept_seats, posts_of, KeepPosts, IsOneNoPost}
 use Rattle.c_board.specs.Gathering.{LackPosts}
-use Rattle.c_board.specs.Seats.{SeatView}
+use Rattle.c_board.specs.PostStates.{PostStateView}
 
 -- the seat whose post has seen this history
-abbrev pub seat_seen : List Occurrence → SeatView → SeatView
-seat_seen history seat = record seat { post = record seat.post { seen = history } }
+abbrev pub seat_seen : List Occurrence → PostStateView → PostStateView
+seat_seen history state = record state { post = record state.post { seen = history } }
 
 -- the handles keep all posts of a board, which have now seen one history, and nothing else has changed
 pub record HaveMetOver (old new : List (Option Kept)) : Type 0 where
-  pub seats : List SeatView
+  pub seats : List PostStateView
   pub kept : old ≡ kept_seats seats
   pub all : AreAll (posts_of seats)
   pub history : List Occurrence

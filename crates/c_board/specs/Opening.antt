@@ -12,7 +12,7 @@ use Rattle.c_board.specs.declared.kept.Kept.{Kept}
 use Rattle.c_board.specs.declared.kept.Kept.TheVariants.{Post}
 use Rattle.c_board.specs.declared.refusal.Refusal.{Refusal}
 use Rattle.c_board.specs.declared.refusal.Refusal.TheVariants as why
-use Rattle.c_board.specs.Seats.{SeatView}
+use Rattle.c_board.specs.PostStates.{PostStateView}
 
 -- what each of these handles keeps
 abbrev pub kept_by : List Handle → List (Option Kept)
@@ -27,7 +27,7 @@ abbrev pub IsOneFull : List (Option Kept) → Type 0
 IsOneFull all = (i : ℕ) × (kept : Kept) × (slice_get all i ≡ Some (Some kept))
 
 -- a seated post before its first call
-abbrev pub seated : PostView → SeatView
+abbrev pub seated : PostView → PostStateView
 seated post = record { post = post; last = 0; came = [] }
 
 -- they keep the posts of a new board, in order of their instances

@@ -3,8 +3,8 @@ use Rattle.std.specs.Prelude.{◌≡◌, ℕ, ◌-◌, ◌^◌, true, false, Lis
 use Rattle.chart.specs.declared.event.Event.{Event}
 use Rattle.chart.specs.Events.{name_of}
 use Rattle.board.specs.declared.answer.Arrival.{Arrival}
-use Rattle.board.specs.declared.answer.Glance.{Glance}
-use Rattle.board.specs.declared.answer.Glance.TheVariants as glance
+use Rattle.board.specs.declared.answer.Peek.{Peek}
+use Rattle.board.specs.declared.answer.Peek.TheVariants as peek
 use Rattle.board.specs.declared.answer.Taken.TheVariants as taken
 use Rattle.board.specs.Views.{PostView, Sound, Stays, line_of}
 use Rattle.board.specs.Taking.{IsGot, IsFoundEmpty, IsUntaken}
@@ -16,7 +16,7 @@ use Rattle.c_board.specs.declared.kept.Kept.{Kept}
 use Rattle.c_board.specs.declared.kept.Kept.TheVariants.{Post, Board, Away}
 use Rattle.c_board.specs.declared.refusal.Refusal.{Refusal}
 use Rattle.c_board.specs.declared.refusal.Refusal.TheVariants as why
-use Rattle.c_board.specs.Seats.{SeatView, Keeps}
+use Rattle.c_board.specs.PostStates.{PostStateView, Keeps}
 use Rattle.c_board.specs.Sending.{IsNoInstance, IsNoPost}
 
 -- what is told of a message: who sent it, the number of its receive, how long its name and its body are, and how many
@@ -31,18 +31,18 @@ arrived_of arrival = record {
 }
 
 -- what a receive finds, where what is told of the message stands in a place of its own
-abbrev pub found_with : Result Glance Refusal → Arrived → Result Found Refusal
-found_with (Ok glance.Message) told = Ok (Message told)
-found_with (Ok glance.Nothing) told = Ok Nothing
-found_with (Ok glance.Ended) told = Ok Ended
-found_with (Err refusal) told = Err refusal
+abbrev pub found_with : Result Peek Refusal → Arrived → Result Found Refusal
+found_with (Ok peek.Message) output = Ok (Message output)
+found_with (Ok peek.Nothing) output = Ok Nothing
+found_with (Ok peek.Ended) output = Ok Ended
+found_with (Err refusal) output = Err refusal
 
 -- what is told after a receive: of the message that came, and else what was told before
-abbrev pub told_after : Arrived → Result Found Refusal → Arrived
-told_after before (Ok (Message arrived)) = arrived
-told_after before (Ok Nothing) = before
-told_after before (Ok Ended) = before
-told_after before (Err refusal) = before
+abbrev pub arrived_after : Arrived → Result Found Refusal → Arrived
+arrived_after before (Ok (Message arrived)) = arrived
+arrived_after before (Ok Nothing) = before
+arrived_after before (Ok Ended) = before
+arrived_after before (Err refusal) = before
 
 -- the last event of the post's line has this name
 abbrev pub IsLastNamed : PostView → List ℕ → Type 0
@@ -50,14 +50,14 @@ IsLastNamed post name = (event : Event) × (slice_get (line_of post) (length (li
     × (name_of event ≡ name)
 
 -- the message stays in the handle, which tells of it
-pub record IsTold (arrival : Arrival) (arrived : Arrived) (new : SeatView) : Type 0 where
-  pub told : arrived ≡ arrived_of arrival
+pub record IsOutput (arrival : Arrival) (arrived : Arrived) (new : PostStateView) : Type 0 where
+  pub output : arrived ≡ arrived_of arrival
   pub stays : new.came ≡ arrival ∷ []
   pub last : new.last ≡ arrival.from
 
 -- what a receive over a seated post answers: what the post's own receive does
-abbrev pub SeatTakes : SeatView → ℕ → Result Found Refusal → SeatView → Type 0
-SeatTakes old from (Ok (Message arrived)) new = (arrival : Arrival) × IsTold arrival arrived new
+abbrev pub SeatTakes : PostStateView → ℕ → Result Found Refusal → PostStateView → Type 0
+SeatTakes old from (Ok (Message arrived)) new = (arrival : Arrival) × IsOutput arrival arrived new
     × Sound old.post new.post × IsGot old.post from arrival new.post
 SeatTakes old from (Ok Nothing) new = Keeps old new × Sound old.post new.post × Stays old.post new.post
     × IsFoundEmpty old.post from false new.post
@@ -81,8 +81,8 @@ SeatTakes old from (Err (why.Region error)) new = ⊥
 
 -- what a receive from any instance answers: what a mailbox's does, which begins after the instance that the post got a
 -- message from last
-abbrev pub SeatTakesAny : SeatView → Result Found Refusal → SeatView → Type 0
-SeatTakesAny old (Ok (Message arrived)) new = (arrival : Arrival) × IsTold arrival arrived new
+abbrev pub SeatTakesAny : PostStateView → Result Found Refusal → PostStateView → Type 0
+SeatTakesAny old (Ok (Message arrived)) new = (arrival : Arrival) × IsOutput arrival arrived new
     × Sound old.post new.post × TakesAny old.post old.last (Ok (taken.Got arrival)) new.post
 SeatTakesAny old (Ok Nothing) new = Keeps old new × Sound old.post new.post
     × TakesAny old.post old.last (Ok taken.Nothing) new.post
@@ -106,12 +106,12 @@ SeatTakesAny old (Err (why.Region error)) new = ⊥
 
 -- and over what a handle keeps
 abbrev pub KeptTakes : Kept → ℕ → Result Found Refusal → Kept → Type 0
-KeptTakes (Post old) from result new = (seat : SeatView) × (new ≡ Post seat) × SeatTakes old from result seat
+KeptTakes (Post old) from result new = (state : PostStateView) × (new ≡ Post state) × SeatTakes old from result state
 KeptTakes (Board it) from result new = (new ≡ Board it) × (result ≡ Err why.Misuse)
 KeptTakes Away from result new = (new ≡ Away) × (result ≡ Err why.Misuse)
 
 abbrev pub KeptTakesAny : Kept → Result Found Refusal → Kept → Type 0
-KeptTakesAny (Post old) result new = (seat : SeatView) × (new ≡ Post seat) × SeatTakesAny old result seat
+KeptTakesAny (Post old) result new = (state : PostStateView) × (new ≡ Post state) × SeatTakesAny old result state
 KeptTakesAny (Board it) result new = (new ≡ Board it) × (result ≡ Err why.Misuse)
 KeptTakesAny Away result new = (new ≡ Away) × (result ≡ Err why.Misuse)
 

@@ -14,43 +14,43 @@ use Rattle.c_board.specs.declared.refusal.Refusal.{Refusal}
 use Rattle.c_board.specs.declared.refusal.Refusal.TheVariants as why
 use Rattle.c_board.specs.Copying.{put_over}
 use Rattle.c_board.specs.Receiving.{arrived_of}
-use Rattle.c_board.specs.Seats.{SeatView, Keeps}
+use Rattle.c_board.specs.PostStates.{PostStateView, Keeps}
 use Rattle.c_board.specs.Sending.{IsNoInstance}
 
 -- the messages stay in the handle, which tells of each, in their order, and how many they are
-pub record AreTold (arrivals : List Arrival) (from : ℕ) (room : List Arrived) (count : ℕ) (new : SeatView)
-    (told : List Arrived) : Type 0 where
-  pub each : told ≡ put_over (map arrived_of arrivals) room
+pub record AreOutput (arrivals : List Arrival) (from : ℕ) (room : List Arrived) (count : ℕ) (new : PostStateView)
+    (output : List Arrived) : Type 0 where
+  pub each : output ≡ put_over (map arrived_of arrivals) room
   pub many : count ≡ length arrivals
   pub stay : new.came ≡ arrivals
   pub last : new.last ≡ from
 
 -- what a receive of several messages over a seated post answers: what the post's own call does, of at most as many as
 -- there is room to tell of
-abbrev pub SeatTakesMany : SeatView → ℕ → List Arrived → Result FoundMany Refusal → SeatView → List Arrived → Type 0
-SeatTakesMany old from room (Ok (Messages count stop)) new told = (arrivals : Vec Arrival)
-    × AreTold arrivals.items from room count new told × Sound old.post new.post
+abbrev pub SeatTakesMany : PostStateView → ℕ → List Arrived → Result FoundMany Refusal → PostStateView → List Arrived → Type 0
+SeatTakesMany old from room (Ok (Messages count stop)) new output = (arrivals : Vec Arrival)
+    × AreOutput arrivals.items from room count new output × Sound old.post new.post
     × TakesMany old.post from (length room) (Ok (taken.Got arrivals stop)) new.post
-SeatTakesMany old from room (Ok Nothing) new told = Keeps old new × (told ≡ room) × Sound old.post new.post
+SeatTakesMany old from room (Ok Nothing) new output = Keeps old new × (output ≡ room) × Sound old.post new.post
     × TakesMany old.post from (length room) (Ok taken.Nothing) new.post
-SeatTakesMany old from room (Ok Ended) new told = Keeps old new × (told ≡ room) × Sound old.post new.post
+SeatTakesMany old from room (Ok Ended) new output = Keeps old new × (output ≡ room) × Sound old.post new.post
     × TakesMany old.post from (length room) (Ok taken.Ended) new.post
-SeatTakesMany old from room (Err (why.Taking error)) new told = Keeps old new × (told ≡ room) × Sound old.post new.post
+SeatTakesMany old from room (Err (why.Taking error)) new output = Keeps old new × (output ≡ room) × Sound old.post new.post
     × TakesMany old.post from (length room) (Err error) new.post
-SeatTakesMany old from room (Err why.NoInstance) new told = (new ≡ old) × (told ≡ room) × IsNoInstance from
-SeatTakesMany old from room (Err why.Misuse) new told = (new ≡ old) × (told ≡ room) × (room ≡ [])
-SeatTakesMany old from room (Err _) new told = ⊥
+SeatTakesMany old from room (Err why.NoInstance) new output = (new ≡ old) × (output ≡ room) × IsNoInstance from
+SeatTakesMany old from room (Err why.Misuse) new output = (new ≡ old) × (output ≡ room) × (room ≡ [])
+SeatTakesMany old from room (Err _) new output = ⊥
 
 -- and over what a handle keeps
 abbrev pub KeptTakesMany : Kept → ℕ → List Arrived → Result FoundMany Refusal → Kept → List Arrived → Type 0
-KeptTakesMany (Post old) from room result new told = (seat : SeatView) × (new ≡ Post seat)
-    × SeatTakesMany old from room result seat told
-KeptTakesMany (Board it) from room result new told = (new ≡ Board it) × (told ≡ room) × (result ≡ Err why.Misuse)
-KeptTakesMany Away from room result new told = (new ≡ Away) × (told ≡ room) × (result ≡ Err why.Misuse)
+KeptTakesMany (Post old) from room result new output = (state : PostStateView) × (new ≡ Post state)
+    × SeatTakesMany old from room result state output
+KeptTakesMany (Board it) from room result new output = (new ≡ Board it) × (output ≡ room) × (result ≡ Err why.Misuse)
+KeptTakesMany Away from room result new output = (new ≡ Away) × (output ≡ room) × (result ≡ Err why.Misuse)
 
 -- and over a handle
 abbrev pub HandleTakesMany : Option Kept → ℕ → List Arrived → Result FoundMany Refusal → Option Kept → List Arrived
     → Type 0
-HandleTakesMany None from room result new told = (new ≡ None) × (told ≡ room) × (result ≡ Err why.Misuse)
-HandleTakesMany (Some old) from room result new told = (kept : Kept) × (new ≡ Some kept)
-    × KeptTakesMany old from room result kept told
+HandleTakesMany None from room result new output = (new ≡ None) × (output ≡ room) × (result ≡ Err why.Misuse)
+HandleTakesMany (Some old) from room result new output = (kept : Kept) × (new ≡ Some kept)
+    × KeptTakesMany old from room result kept output

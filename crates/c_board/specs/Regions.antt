@@ -7,11 +7,11 @@ use Rattle.c_board.specs.declared.kept.Kept.{Kept}
 use Rattle.c_board.specs.declared.kept.Kept.TheVariants.{Post, Board, Away}
 use Rattle.c_board.specs.declared.refusal.Refusal.{Refusal}
 use Rattle.c_board.specs.declared.refusal.Refusal.TheVariants as why
-use Rattle.c_board.specs.Seats.{SeatView}
+use Rattle.c_board.specs.PostStates.{PostStateView}
 use Rattle.c_board.specs.Sending.{IsNoPost}
 
 -- opening a coregion: none was open, and a new one is; or one is open
-abbrev pub SeatOpens : SeatView → Result (Unit {0}) Refusal → SeatView → Type 0
+abbrev pub SeatOpens : PostStateView → Result (Unit {0}) Refusal → PostStateView → Type 0
 SeatOpens old (Ok done) new = (old.post.region ≡ 0)
     × (new ≡ record old { post = record old.post { region = greatest_region (line_of old.post) + 1 } })
 SeatOpens old (Err (why.Region CoregionOpen)) new = (0 < old.post.region) × (new ≡ old)
@@ -31,7 +31,7 @@ SeatOpens old (Err (why.Taking error)) new = ⊥
 SeatOpens old (Err (why.Closing error)) new = ⊥
 
 -- closing it: one was open, and none is; or none is open
-abbrev pub SeatShuts : SeatView → Result (Unit {0}) Refusal → SeatView → Type 0
+abbrev pub SeatShuts : PostStateView → Result (Unit {0}) Refusal → PostStateView → Type 0
 SeatShuts old (Ok done) new = (0 < old.post.region) × (new ≡ record old { post = record old.post { region = 0 } })
 SeatShuts old (Err (why.Region CoregionNotOpen)) new = (old.post.region ≡ 0) × (new ≡ old)
 SeatShuts old (Err (why.Region CoregionOpen)) new = ⊥
@@ -51,12 +51,12 @@ SeatShuts old (Err (why.Closing error)) new = ⊥
 
 -- and over what a handle keeps
 abbrev pub KeptOpens : Kept → Result (Unit {0}) Refusal → Kept → Type 0
-KeptOpens (Post old) result new = (seat : SeatView) × (new ≡ Post seat) × SeatOpens old result seat
+KeptOpens (Post old) result new = (state : PostStateView) × (new ≡ Post state) × SeatOpens old result state
 KeptOpens (Board it) result new = (new ≡ Board it) × (result ≡ Err why.Misuse)
 KeptOpens Away result new = (new ≡ Away) × (result ≡ Err why.Misuse)
 
 abbrev pub KeptShuts : Kept → Result (Unit {0}) Refusal → Kept → Type 0
-KeptShuts (Post old) result new = (seat : SeatView) × (new ≡ Post seat) × SeatShuts old result seat
+KeptShuts (Post old) result new = (state : PostStateView) × (new ≡ Post state) × SeatShuts old result state
 KeptShuts (Board it) result new = (new ≡ Board it) × (result ≡ Err why.Misuse)
 KeptShuts Away result new = (new ≡ Away) × (result ≡ Err why.Misuse)
 

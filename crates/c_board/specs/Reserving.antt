@@ -5,11 +5,11 @@ use Rattle.c_board.specs.declared.kept.Kept.{Kept}
 use Rattle.c_board.specs.declared.kept.Kept.TheVariants.{Post, Board, Away}
 use Rattle.c_board.specs.declared.refusal.Refusal.{Refusal}
 use Rattle.c_board.specs.declared.refusal.Refusal.TheVariants as why
-use Rattle.c_board.specs.Seats.{SeatView}
+use Rattle.c_board.specs.PostStates.{PostStateView}
 use Rattle.c_board.specs.Sending.{IsNoPost}
 
 -- there is room for so many events, and for no more than a line has; or nothing has changed for want of memory
-abbrev pub SeatReserves : SeatView → ℕ → Result (Unit {0}) Refusal → SeatView → Type 0
+abbrev pub SeatReserves : PostStateView → ℕ → Result (Unit {0}) Refusal → PostStateView → Type 0
 SeatReserves old events (Ok done) new = new ≡ record old {
   post = record old.post { room = max old.post.room (min events MAX_EVENTS) };
 }
@@ -17,7 +17,7 @@ SeatReserves old events (Err why.Memory) new = new ≡ old
 SeatReserves old events (Err _) new = ⊥
 
 abbrev pub KeptReserves : Kept → ℕ → Result (Unit {0}) Refusal → Kept → Type 0
-KeptReserves (Post old) events result new = (seat : SeatView) × (new ≡ Post seat) × SeatReserves old events result seat
+KeptReserves (Post old) events result new = (state : PostStateView) × (new ≡ Post state) × SeatReserves old events result state
 KeptReserves (Board it) events result new = (new ≡ Board it) × (result ≡ Err why.Misuse)
 KeptReserves Away events result new = (new ≡ Away) × (result ≡ Err why.Misuse)
 

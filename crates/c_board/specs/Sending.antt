@@ -11,7 +11,7 @@ use Rattle.c_board.specs.declared.kept.Kept.{Kept}
 use Rattle.c_board.specs.declared.kept.Kept.TheVariants.{Post, Board, Away}
 use Rattle.c_board.specs.declared.refusal.Refusal.{Refusal}
 use Rattle.c_board.specs.declared.refusal.Refusal.TheVariants as why
-use Rattle.c_board.specs.Seats.{SeatView, Keeps}
+use Rattle.c_board.specs.PostStates.{PostStateView, Keeps}
 
 -- an instance's number is none of 1 to the most
 abbrev pub IsNoInstance : ℕ → Type 0
@@ -23,7 +23,7 @@ pub record IsMessage (name body : List ℕ) : Type 0 where
   pub short : length body ≤ MAX_BODY
 
 -- what a send over a seated post answers: what the post's own send does, where the bytes make a message
-abbrev pub SeatSends : SeatView → ℕ → List ℕ → List ℕ → Result EventNo Refusal → SeatView → Type 0
+abbrev pub SeatSends : PostStateView → ℕ → List ℕ → List ℕ → Result EventNo Refusal → PostStateView → Type 0
 SeatSends old to name body (Ok event) new = IsMessage name body × Keeps old new × Sound old.post new.post
     × IsSent old.post to (record { name = name; body = body }) (record { event = event }) new.post
 SeatSends old to name body (Err (why.Naming error)) new = (new ≡ old) × (name_of name ≡ Err error)
@@ -48,8 +48,8 @@ IsNoPost old result new = (new ≡ old) × (result ≡ Err why.Misuse)
 
 -- what a send over what a handle keeps answers
 abbrev pub KeptSends : Kept → ℕ → List ℕ → List ℕ → Result EventNo Refusal → Kept → Type 0
-KeptSends (Post old) to name body result new = (seat : SeatView) × (new ≡ Post seat)
-    × SeatSends old to name body result seat
+KeptSends (Post old) to name body result new = (state : PostStateView) × (new ≡ Post state)
+    × SeatSends old to name body result state
 KeptSends (Board it) to name body result new = (new ≡ Board it) × (result ≡ Err why.Misuse)
 KeptSends Away to name body result new = (new ≡ Away) × (result ≡ Err why.Misuse)
 

@@ -10,7 +10,7 @@ use Rattle.c_board.specs.declared.kept.Kept.{Kept}
 use Rattle.c_board.specs.declared.kept.Kept.TheVariants.{Post, Board, Away}
 use Rattle.c_board.specs.declared.refusal.Refusal.{Refusal}
 use Rattle.c_board.specs.declared.refusal.Refusal.TheVariants as why
-use Rattle.c_board.specs.Seats.{SeatView, Keeps}
+use Rattle.c_board.specs.PostStates.{PostStateView, Keeps}
 use Rattle.c_board.specs.Sending.{IsMessage, IsNoInstance, IsNoPost, MakesMessage}
 
 -- the messages whose names and bodies lie one after another
@@ -44,7 +44,7 @@ ReadsMessages all (Err why.Memory) = Unit {0}
 ReadsMessages all (Err refusal) = IsFirstRefused all refusal
 
 -- what a send of these messages over a seated post answers: what the post's own call does
-abbrev pub SeatSendsAll : SeatView → ℕ → List Content → Result ℕ Refusal → SeatView → Type 0
+abbrev pub SeatSendsAll : PostStateView → ℕ → List Content → Result ℕ Refusal → PostStateView → Type 0
 SeatSendsAll old to all (Ok event) new = AreMessages all × Keeps old new × Sound old.post new.post
     × (sents : List Sent) × AreSent old.post to all sents new.post × (event ≡ first_event sents)
 SeatSendsAll old to all (Err why.NoInstance) new = (new ≡ old) × IsNoInstance to
@@ -54,7 +54,7 @@ SeatSendsAll old to all (Err (why.Sending error)) new = AreMessages all × Keeps
 SeatSendsAll old to all (Err refusal) new = (new ≡ old) × IsFirstRefused all refusal
 
 abbrev pub KeptSendsAll : Kept → ℕ → List Content → Result ℕ Refusal → Kept → Type 0
-KeptSendsAll (Post old) to all result new = (seat : SeatView) × (new ≡ Post seat) × SeatSendsAll old to all result seat
+KeptSendsAll (Post old) to all result new = (state : PostStateView) × (new ≡ Post state) × SeatSendsAll old to all result state
 KeptSendsAll (Board it) to all result new = (new ≡ Board it) × (result ≡ Err why.Misuse)
 KeptSendsAll Away to all result new = (new ≡ Away) × (result ≡ Err why.Misuse)
 

@@ -4,15 +4,19 @@ ghost use Rattle.chart.specs.Scans.{scan};
 ghost use Rattle.board.specs.Views.{Sound};
 ghost use Rattle.board.specs.Parked.{IsAtBoard};
 ghost use Rattle.board.specs.Taking.{Takes};
-ghost use Rattle.board.specs.Glancing.{GlancesAmong};
+ghost use Rattle.board.specs.Peeking.{PeeksAmong};
 ghost use Rattle.mailbox.specs.TakingAny.{TakesAny};
 
-use board::{Parked, Scan, TakeError, Taken, Words};
+use board::{Parked, Scan, SharedTable, TakeError, Taken};
 use chart::InstanceNo;
 
 /// Receives the first message that waits on the lanes to a post, which are looked at in cyclic order after the lane
 /// from the instance of this number, 0 for none, as [`mailbox::any_from`] does.
-pub(crate) fn any_after(post: &mut Parked, words: &Words, last: usize) -> Result<Taken, TakeError>
+pub(crate) fn any_after(
+    post: &mut Parked,
+    words: &SharedTable,
+    last: usize,
+) -> Result<Taken, TakeError>
     requires known { last ≤ post.old.board.size }
     requires board { IsAtBoard words.now.key words.now.table_id post.old }
     ensures sound { Sound post.old post.new }
@@ -29,17 +33,17 @@ pub(crate) fn any_after(post: &mut Parked, words: &Words, last: usize) -> Result
 
 /// Whether a message waits on one of the lanes to a post, which it looks at in cyclic order after the instance of this
 /// number, until it finds one.
-fn scan_after(post: &mut Parked, words: &Words, last: usize) -> Scan
+fn scan_after(post: &mut Parked, words: &SharedTable, last: usize) -> Scan
     requires known { last ≤ post.old.board.size }
     requires board { IsAtBoard words.now.key words.now.table_id post.old }
     ensures sound { Sound post.old post.new }
-    ensures answer { GlancesAmong post.old (scan post.old.board.size post.old.number last) result post.new }
+    ensures answer { PeeksAmong post.old (scan post.old.board.size post.old.number last) result post.new }
 {
     let size = post.board_size();
-    match post.glance_among(words, last, size) {
+    match post.peek_among(words, last, size) {
         Scan::Message(other) => Scan::Message(other),
-        Scan::Ended => post.glance_among(words, 0, last),
-        Scan::Nothing => match post.glance_among(words, 0, last) {
+        Scan::Ended => post.peek_among(words, 0, last),
+        Scan::Nothing => match post.peek_among(words, 0, last) {
             Scan::Message(other) => Scan::Message(other),
             Scan::Nothing => Scan::Nothing,
             Scan::Ended => Scan::Nothing,
@@ -50,7 +54,11 @@ fn scan_after(post: &mut Parked, words: &Words, last: usize) -> Scan
 /// Receives the message that was found on the lane from this instance. It stands apart, so a scan that finds none makes
 /// nothing that a receive needs.
 #[inline(never)]
-fn receive_found(post: &mut Parked, words: &Words, from: InstanceNo) -> Result<Taken, TakeError>
+fn receive_found(
+    post: &mut Parked,
+    words: &SharedTable,
+    from: InstanceNo,
+) -> Result<Taken, TakeError>
     requires board { IsAtBoard words.now.key words.now.table_id post.old }
     ensures sound { Sound post.old post.new }
     ensures answer { Takes post.old from result post.new }

@@ -6,7 +6,7 @@ ghost use Rattle.c_board.specs.Gathering.{GathersParked, refusal_of};
 ghost use Rattle.c_board.specs.Meeting.{MeetsParked};
 
 use crate::refusal::Refusal;
-use board::{GatherCause, Gathered, Parked, Post, Words, gather, meet_all, wake_all};
+use board::{GatherCause, Gathered, Parked, Post, SharedTable, gather, meet_all, wake_all};
 use std::alloc::Global;
 
 /// Posts that come back, and why.
@@ -41,7 +41,7 @@ fn refusal_of(cause: GatherCause) -> Refusal
 /// Gathers these posts at their board's words. F15 and F6: then they come back as they were.
 pub(crate) fn gather_parked(
     alloc: Global,
-    words: &Words,
+    words: &SharedTable,
     posts: Vec<Parked>,
 ) -> Result<Gathered, Returned>
     requires at { AreAtBoard words.now.key words.now.table_id posts.items }
@@ -76,7 +76,7 @@ pub(crate) struct Met {
 }
 
 /// The posts meet at their board's words. F15 and F6: then they come back as they were.
-pub(crate) fn meet_parked(alloc: Global, words: &Words, posts: Vec<Parked>) -> Met
+pub(crate) fn meet_parked(alloc: Global, words: &SharedTable, posts: Vec<Parked>) -> Met
     requires at { AreAtBoard words.now.key words.now.table_id posts.items }
     requires board { AreOfOneBoard posts.items }
     ensures { MeetsParked posts.items result.answer result.posts.items }

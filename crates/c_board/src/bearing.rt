@@ -10,7 +10,7 @@ ghost use Rattle.c_board.specs.Carrying.{CarriesParked, refusal_for};
 use crate::away::park_into;
 use crate::refusal::Refusal;
 use board::long_runs::{Carried, CarryCause, CarryError, carry_over};
-use board::{ClosedLane, Left, Parked, Words, wake_all};
+use board::{ClosedLane, Left, Parked, SharedTable, wake_all};
 use std::alloc::Global;
 
 /// Posts that came back, and what they carried over.
@@ -48,7 +48,7 @@ fn unborne(posts: Vec<Parked>, left: Vec<Left>) -> Borne
 /// but that they may have more room, and so does what was left.
 pub(crate) fn bear(
     alloc: Global,
-    words: &Words,
+    words: &SharedTable,
     posts: Vec<Parked>,
     left: Vec<Left>,
     closed: &[ClosedLane],

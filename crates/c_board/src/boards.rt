@@ -10,6 +10,6 @@ mod naming;
 mod reports;
 mod text;
 
-pub use left::{Place, Waiting, tell_waiting};
-pub use reports::{Reported, tell_report};
+pub use left::{Place, Waiting, waiting_at};
+pub use reports::{Reported, report_at};
 pub use text::copy_text;

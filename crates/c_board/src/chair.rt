@@ -6,7 +6,7 @@ ghost use Rattle.c_board.specs.Chairs.{Fits, IsParted, is_post, seat_with};
 use crate::came::Came;
 use crate::kept::Kept;
 use crate::naming::Known;
-use crate::seat::Seat;
+use crate::post_state::PostState;
 use board::{BoardTable, Parked};
 use chart::InstanceNo;
 use std::mem;
@@ -36,14 +36,14 @@ impl Chair {
     {
         let mut kept = kept;
         match mem::replace(&mut *kept, Kept::Away) {
-            Kept::Post(seat) => {
-                let Seat {
+            Kept::Post(state) => {
+                let PostState {
                     table,
                     parked,
                     last,
                     came,
                     known: _,
-                } = seat;
+                } = state;
                 let chair = Chair {
                     kept,
                     table,
@@ -57,7 +57,7 @@ impl Chair {
     }
 
     /// Puts a post into the seat.
-    pub(crate) fn seat(self, post: Parked) -> Box<Kept>
+    pub(crate) fn state(self, post: Parked) -> Box<Kept>
         requires { Fits self post }
         ensures { result.value ≡ Post (seat_with self post) }
     {
@@ -68,7 +68,7 @@ impl Chair {
             came,
         } = self;
         let mut kept = kept;
-        kept.put_seat(Seat {
+        kept.put_seat(PostState {
             table,
             parked: post,
             last,

@@ -4,12 +4,12 @@ ghost use Rattle.c_board.specs.Closing.{SeatCloses, KeptCloses, HandleCloses};
 
 use crate::handle::Handle;
 use crate::kept::Kept;
+use crate::post_state::PostState;
 use crate::refusal::Refusal;
-use crate::seat::Seat;
 use chart::InstanceNo;
 use std::alloc::Global;
 
-impl Seat {
+impl PostState {
     /// Closes the lane to an instance.
     fn close(&mut self, to: u32) -> Result<(), Refusal>
         ensures { SeatCloses self.old to result self.new }
@@ -31,7 +31,7 @@ impl Kept {
         ensures { KeptCloses self.old to result self.new }
     {
         match self {
-            Kept::Post(seat) => seat.close(to),
+            Kept::Post(state) => state.close(to),
             _ => Err(Refusal::Misuse),
         }
     }

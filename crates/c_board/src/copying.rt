@@ -45,7 +45,7 @@ impl Kept {
         ensures { IsSeen (picked_of which self.now) result }
     {
         match self {
-            Kept::Post(seat) => seat.came.pick(which),
+            Kept::Post(state) => state.came.pick(which),
             _ => None,
         }
     }

@@ -41,7 +41,7 @@ pub enum FoundMany {
 
 /// What is told of an event of a post's line.
 #[derive(Clone, Copy)]
-pub struct Told {
+pub struct EventInfo {
     /// Whether it is a receive.
     pub receives: bool,
     /// The number of the instance at the other end of the message, from 1.

@@ -16,7 +16,7 @@ use std::mem;
 pub struct Handle {
     word: u64,
     pub(crate) slot: Slot,
-    pub ghost told: { word ≡ word_of slot.value },
+    pub ghost output: { word ≡ word_of slot.value },
 }
 
 impl Handle {
@@ -71,8 +71,8 @@ impl Handle {
         drop(self.take(alloc));
     }
 
-    /// Lets go of what it keeps, and of the handle itself: for who has one in this language. In another one a handle lies
-    /// in memory of its caller's, and isn't let go of.
+    /// Lets go of what it keeps, and of the handle itself: for who has one in this language. In another one a handle
+    /// lies in memory of its caller's, and isn't let go of.
     pub fn end(self, alloc: Global) {
         let mut handle = self;
         handle.free(alloc);

@@ -2,7 +2,7 @@
 ghost use Rattle.std.specs.Prelude.{◌≡◌, IfOk};
 ghost use Rattle.c_board.specs.declared.kept.Kept.TheVariants as variant;
 
-use crate::seat::Seat;
+use crate::post_state::PostState;
 use board::Gathered;
 use std::alloc::{AllocError, Global};
 
@@ -10,7 +10,7 @@ use std::alloc::{AllocError, Global};
 #[derive(Drop)]
 pub enum Kept {
     /// The post of an instance.
-    Post(Seat),
+    Post(PostState),
     /// What a whole board came to.
     Board(Gathered),
     /// Nothing, while it is moved elsewhere.
@@ -30,9 +30,9 @@ impl Kept {
 
     /// Makes it this post.
     #[inline(never)]
-    pub(crate) fn put_seat(&mut self, seat: Seat)
-        ensures { self.new ≡ variant.Post seat }
+    pub(crate) fn put_seat(&mut self, state: PostState)
+        ensures { self.new ≡ variant.Post state }
     {
-        *self = Kept::Post(seat);
+        *self = Kept::Post(state);
     }
 }

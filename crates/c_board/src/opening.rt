@@ -9,8 +9,8 @@ use crate::came::Came;
 use crate::handle::Handle;
 use crate::kept::Kept;
 use crate::naming::Known;
+use crate::post_state::PostState;
 use crate::refusal::Refusal;
-use crate::seat::Seat;
 use board::{BoardTable, Parked, open_parked};
 use std::alloc::{AllocError, Global};
 use std::sync::Arc;
@@ -34,14 +34,14 @@ fn boxed_post(alloc: Global, table: &Arc<BoardTable>, post: Parked) -> Result<Bo
     ensures { IfOk result (λ kept. kept.value ≡ Post (seated post)) }
 {
     let mut kept = Kept::away(alloc)?;
-    let seat = Seat {
+    let state = PostState {
         table: Arc::try_clone(table)?,
         parked: post,
         last: None,
         came: Came::None,
         known: Known::any(),
     };
-    kept.put_seat(seat);
+    kept.put_seat(state);
     Ok(kept)
 }
 

@@ -1,16 +1,16 @@
 //! Receives over a handle.
 ghost use Rattle.std.specs.Prelude.{◌≡◌, ◌≤◌};
 ghost use Rattle.c_board.specs.Receiving.{arrived_of, SeatTakes, SeatTakesAny, KeptTakes, KeptTakesAny};
-ghost use Rattle.c_board.specs.Receiving.{HandleTakes, HandleTakesAny, IsLastNamed, found_with, told_after};
+ghost use Rattle.c_board.specs.Receiving.{HandleTakes, HandleTakesAny, IsLastNamed, found_with, arrived_after};
 
 use crate::any::any_after;
 use crate::came::Came;
 use crate::found::{Arrived, Found};
 use crate::handle::Handle;
 use crate::kept::Kept;
+use crate::post_state::PostState;
 use crate::refusal::Refusal;
-use crate::seat::Seat;
-use board::{Arrival, Glance, Parked, Taken};
+use board::{Arrival, Parked, Peek, Taken};
 use chart::{InstanceNo, Message};
 use std::alloc::Global;
 
@@ -45,12 +45,12 @@ fn as_recorded(post: &Parked, message: Message) -> Message
     message
 }
 
-impl Seat {
+impl PostState {
     /// Receives the first message that waits on the lane from an instance, and tells of it.
     #[inline(always)]
-    fn receive(&mut self, from: u32, told: &mut Arrived) -> Result<Glance, Refusal>
-        ensures answer { SeatTakes self.old from (found_with result told.new) self.new }
-        ensures told { told.new ≡ told_after told.old (found_with result told.new) }
+    fn receive(&mut self, from: u32, output: &mut Arrived) -> Result<Peek, Refusal>
+        ensures answer { SeatTakes self.old from (found_with result output.new) self.new }
+        ensures output { output.new ≡ arrived_after output.old (found_with result output.new) }
     {
         let Some(from) = InstanceNo::new(from as usize) else {
             return Err(Refusal::NoInstance);
@@ -69,11 +69,11 @@ impl Seat {
                 let Came::One(arrival) = &self.came else {
                     unreachable!()
                 };
-                *told = arrived_of(arrival);
-                Ok(Glance::Message)
+                *output = arrived_of(arrival);
+                Ok(Peek::Message)
             }
-            Ok(Taken::Nothing) => Ok(Glance::Nothing),
-            Ok(Taken::Ended) => Ok(Glance::Ended),
+            Ok(Taken::Nothing) => Ok(Peek::Nothing),
+            Ok(Taken::Ended) => Ok(Peek::Ended),
             Err(error) => Err(Refusal::Taking(error)),
         }
     }
@@ -105,12 +105,12 @@ impl Seat {
 impl Kept {
     /// Receives over the post that it is.
     #[inline(always)]
-    fn receive(&mut self, from: u32, told: &mut Arrived) -> Result<Glance, Refusal>
-        ensures answer { KeptTakes self.old from (found_with result told.new) self.new }
-        ensures told { told.new ≡ told_after told.old (found_with result told.new) }
+    fn receive(&mut self, from: u32, output: &mut Arrived) -> Result<Peek, Refusal>
+        ensures answer { KeptTakes self.old from (found_with result output.new) self.new }
+        ensures output { output.new ≡ arrived_after output.old (found_with result output.new) }
     {
         match self {
-            Kept::Post(seat) => seat.receive(from, told),
+            Kept::Post(state) => state.receive(from, output),
             _ => Err(Refusal::Misuse),
         }
     }
@@ -120,7 +120,7 @@ impl Kept {
         ensures { KeptTakesAny self.old result self.new }
     {
         match self {
-            Kept::Post(seat) => seat.any(),
+            Kept::Post(state) => state.any(),
             _ => Err(Refusal::Misuse),
         }
     }
@@ -135,15 +135,15 @@ impl Handle {
         &mut self,
         alloc: Global,
         from: u32,
-        told: &mut Arrived,
-    ) -> Result<Glance, Refusal>
-        ensures answer { HandleTakes self.old.slot.value from (found_with result told.new) self.new.slot.value }
-        ensures told { told.new ≡ told_after told.old (found_with result told.new) }
+        output: &mut Arrived,
+    ) -> Result<Peek, Refusal>
+        ensures answer { HandleTakes self.old.slot.value from (found_with result output.new) self.new.slot.value }
+        ensures output { output.new ≡ arrived_after output.old (found_with result output.new) }
     {
         let Some(mut kept) = self.take(alloc) else {
             return Err(Refusal::Misuse);
         };
-        let result = kept.receive(from, told);
+        let result = kept.receive(from, output);
         self.put(kept);
         result
     }

@@ -8,38 +8,38 @@ use crate::came::Came;
 use crate::found::{Arrived, FoundMany};
 use crate::handle::Handle;
 use crate::kept::Kept;
+use crate::post_state::PostState;
 use crate::receiving::arrived_of;
 use crate::refusal::Refusal;
-use crate::seat::Seat;
 use board::{Arrival, TakenMany};
 use chart::InstanceNo;
 use std::alloc::Global;
 
 /// Tells of these messages, one by one, as many as find room.
-fn tell_each(arrivals: &[Arrival], told: &mut [Arrived])
-    ensures { told.new ≡ put_over (map arrived_of arrivals.now) told.old }
+fn copy_each(arrivals: &[Arrival], output: &mut [Arrived])
+    ensures { output.new ≡ put_over (map arrived_of arrivals.now) output.old }
 {
-    let many = arrivals.len().min(told.len());
+    let many = arrivals.len().min(output.len());
     for place in 0..many {
-        told[place] = arrived_of(&arrivals[place]);
+        output[place] = arrived_of(&arrivals[place]);
     }
 }
 
-impl Seat {
+impl PostState {
     /// Receives the first messages that wait on the lane from an instance, at most as many as there is room to tell of.
-    fn receive_up_to(&mut self, from: u32, told: &mut [Arrived]) -> Result<FoundMany, Refusal>
-        ensures { SeatTakesMany self.old from told.old result self.new told.new }
+    fn receive_up_to(&mut self, from: u32, output: &mut [Arrived]) -> Result<FoundMany, Refusal>
+        ensures { SeatTakesMany self.old from output.old result self.new output.new }
     {
         let Some(from) = InstanceNo::new(from as usize) else {
             return Err(Refusal::NoInstance);
         };
-        if told.is_empty() {
+        if output.is_empty() {
             return Err(Refusal::Misuse);
         }
         let words = &(*self.table).shared;
-        match self.parked.receive_up_to(words, from, told.len()) {
+        match self.parked.receive_up_to(words, from, output.len()) {
             Ok(TakenMany::Got { arrivals, stop }) => {
-                tell_each(arrivals.as_slice(), told);
+                copy_each(arrivals.as_slice(), output);
                 let count = arrivals.len();
                 self.last = Some(from);
                 self.came = Came::Several(arrivals);
@@ -54,11 +54,11 @@ impl Seat {
 
 impl Kept {
     /// Receives several messages over the post that it is.
-    fn receive_up_to(&mut self, from: u32, told: &mut [Arrived]) -> Result<FoundMany, Refusal>
-        ensures { KeptTakesMany self.old from told.old result self.new told.new }
+    fn receive_up_to(&mut self, from: u32, output: &mut [Arrived]) -> Result<FoundMany, Refusal>
+        ensures { KeptTakesMany self.old from output.old result self.new output.new }
     {
         match self {
-            Kept::Post(seat) => seat.receive_up_to(from, told),
+            Kept::Post(state) => state.receive_up_to(from, output),
             _ => Err(Refusal::Misuse),
         }
     }
@@ -75,14 +75,14 @@ impl Handle {
         &mut self,
         alloc: Global,
         from: u32,
-        told: &mut [Arrived],
+        output: &mut [Arrived],
     ) -> Result<FoundMany, Refusal>
-        ensures { HandleTakesMany self.old.slot.value from told.old result self.new.slot.value told.new }
+        ensures { HandleTakesMany self.old.slot.value from output.old result self.new.slot.value output.new }
     {
         let Some(mut kept) = self.take(alloc) else {
             return Err(Refusal::Misuse);
         };
-        let result = kept.receive_up_to(from, told);
+        let result = kept.receive_up_to(from, output);
         self.put(kept);
         result
     }

@@ -4,11 +4,11 @@ ghost use Rattle.c_board.specs.Regions.{SeatOpens, SeatShuts, KeptOpens, KeptShu
 
 use crate::handle::Handle;
 use crate::kept::Kept;
+use crate::post_state::PostState;
 use crate::refusal::Refusal;
-use crate::seat::Seat;
 use std::alloc::Global;
 
-impl Seat {
+impl PostState {
     fn open_coregion(&mut self) -> Result<(), Refusal>
         ensures { SeatOpens self.old result self.new }
     {
@@ -33,7 +33,7 @@ impl Kept {
         ensures { KeptOpens self.old result self.new }
     {
         match self {
-            Kept::Post(seat) => seat.open_coregion(),
+            Kept::Post(state) => state.open_coregion(),
             _ => Err(Refusal::Misuse),
         }
     }
@@ -42,7 +42,7 @@ impl Kept {
         ensures { KeptShuts self.old result self.new }
     {
         match self {
-            Kept::Post(seat) => seat.close_coregion(),
+            Kept::Post(state) => state.close_coregion(),
             _ => Err(Refusal::Misuse),
         }
     }

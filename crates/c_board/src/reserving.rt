@@ -4,12 +4,12 @@ ghost use Rattle.c_board.specs.Reserving.{SeatReserves, KeptReserves, HandleRese
 
 use crate::handle::Handle;
 use crate::kept::Kept;
+use crate::post_state::PostState;
 use crate::refusal::Refusal;
-use crate::seat::Seat;
 use chart::MAX_EVENTS;
 use std::alloc::Global;
 
-impl Seat {
+impl PostState {
     fn reserve(&mut self, events: u32) -> Result<(), Refusal>
         ensures { SeatReserves self.old events result self.new }
     {
@@ -26,7 +26,7 @@ impl Kept {
         ensures { KeptReserves self.old events result self.new }
     {
         match self {
-            Kept::Post(seat) => seat.reserve(events),
+            Kept::Post(state) => state.reserve(events),
             _ => Err(Refusal::Misuse),
         }
     }

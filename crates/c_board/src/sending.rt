@@ -5,8 +5,8 @@ ghost use Rattle.c_board.specs.Sending.{SeatSends, KeptSends, HandleSends, Makes
 
 use crate::handle::Handle;
 use crate::kept::Kept;
+use crate::post_state::PostState;
 use crate::refusal::Refusal;
-use crate::seat::Seat;
 use chart::{EventNo, InstanceNo, MAX_BODY, Message, Name};
 use std::alloc::{AllocError, Global};
 
@@ -42,7 +42,7 @@ pub(crate) fn message_of(alloc: Global, name: &[u8], body: &[u8]) -> Result<Mess
     }
 }
 
-impl Seat {
+impl PostState {
     /// Sends a message of this name and body.
     #[inline(always)]
     pub(crate) fn send(
@@ -84,7 +84,7 @@ impl Kept {
         ensures { KeptSends self.old to name.now body.now result self.new }
     {
         match self {
-            Kept::Post(seat) => seat.send(alloc, to, name, body),
+            Kept::Post(state) => state.send(alloc, to, name, body),
             _ => Err(Refusal::Misuse),
         }
     }

@@ -6,8 +6,8 @@ ghost use Rattle.c_board.specs.SendingAll.{HandleSendsAll};
 use crate::found::MessageLengths;
 use crate::handle::Handle;
 use crate::kept::Kept;
+use crate::post_state::PostState;
 use crate::refusal::Refusal;
-use crate::seat::Seat;
 use crate::sending::message_of;
 use crate::words::word_at;
 use board::Sent;
@@ -47,7 +47,7 @@ fn first_event(sents: &[Sent]) -> u32
     }
 }
 
-impl Seat {
+impl PostState {
     fn send_all(
         &mut self,
         alloc: Global,
@@ -80,7 +80,7 @@ impl Kept {
         ensures { KeptSendsAll self.old to (contents_in bytes.now lengths.now) result self.new }
     {
         match self {
-            Kept::Post(seat) => seat.send_all(alloc, to, bytes, lengths),
+            Kept::Post(state) => state.send_all(alloc, to, bytes, lengths),
             _ => Err(Refusal::Misuse),
         }
     }

@@ -104,7 +104,7 @@ pub(crate) fn put_posts(handles: &mut [Handle], chairs: Vec<Chair>, posts: Vec<P
 {
     let mut place = 0;
     for (chair, post) in chairs.into_iter().zip(posts) {
-        handles[place].put(chair.seat(post));
+        handles[place].put(chair.state(post));
         place += 1;
     }
 }

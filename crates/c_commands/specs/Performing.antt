@@ -6,7 +6,7 @@ use Rattle.c_board.specs.Copying.{put_over}
 use Rattle.c_board.specs.declared.refusal.Refusal.{Refusal}
 use Rattle.c_board.specs.declared.refusal.Refusal.TheVariants as why
 use Rattle.texts.specs.Outs.{Sink, Stored}
-use Rattle.cmd_run.specs.Tasks.{Does, task_said}
+use Rattle.cmd_run.specs.Tasks.{Does, task_exit}
 use Rattle.cmd_run.specs.declared.task.Task.{Task}
 use Rattle.cmd_run.specs.declared.task.Task.TheVariants.{Replay, Random, Check}
 use Rattle.c_commands.specs.declared.performing.Performed.{Performed}
@@ -29,12 +29,12 @@ nothing = record { bytes = []; failures = 0 }
 pub record IsDone (task : Task) (bytes room_out room_err : List ℕ) (performed : Performed)
     (out err : List ℕ) : Type 0 where
   pub written : Stored
-  pub told : Stored
-  pub answers : Answers (Does in_memory nothing written task bytes) task_said in_memory nothing told performed.status
+  pub diagnostics : Stored
+  pub answers : Answers (Does in_memory nothing written task bytes) task_exit in_memory nothing diagnostics performed.status
   pub out_is : out ≡ put_over written.bytes room_out
-  pub err_is : err ≡ put_over told.bytes room_err
+  pub err_is : err ≡ put_over diagnostics.bytes room_err
   pub out_length : performed.out ≡ length written.bytes
-  pub err_length : performed.err ≡ length told.bytes
+  pub err_length : performed.err ≡ length diagnostics.bytes
 
 -- the task is done, or there is none and the buffers stay
 abbrev pub Performs : Option Task → List ℕ → List ℕ → List ℕ → Result Performed Refusal → List ℕ → List ℕ → Type 0

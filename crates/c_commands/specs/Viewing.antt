@@ -17,23 +17,23 @@ use Rattle.c_commands.specs.declared.given.Bytes.{Bytes}
 
 -- the program writes these texts, beginning with none, and exits with the status; the buffers have of them what there is room
 -- for, and the lengths are told
-pub record AreCopied (written told room_out room_err : List ℕ) (performed : Performed) (out err : List ℕ) : Type 0 where
+pub record AreCopied (written diagnostics room_out room_err : List ℕ) (performed : Performed) (out err : List ℕ) : Type 0 where
   pub out_is : out ≡ put_over written room_out
-  pub err_is : err ≡ put_over told room_err
+  pub err_is : err ≡ put_over diagnostics room_err
   pub out_length : performed.out ≡ length written
-  pub err_length : performed.err ≡ length told
+  pub err_length : performed.err ≡ length diagnostics
 
 -- what the request asks for was done with the texts
 abbrev pub IsViewed : List Bytes → Request → List ℕ → List ℕ → Performed → List ℕ → List ℕ → Type 0
-IsViewed texts request room_out room_err performed out err = (written : Stored) × (told : Stored)
-    × views.Views (λ place file answer. answer ≡ given_at (slice_get texts place)) (views.stream in_memory nothing written) (views.stream in_memory nothing told)
+IsViewed texts request room_out room_err performed out err = (written : Stored) × (diagnostics : Stored)
+    × views.Views (λ place file answer. answer ≡ given_at (slice_get texts place)) (views.stream in_memory nothing written) (views.stream in_memory nothing diagnostics)
     request performed.status
-    × AreCopied written.bytes told.bytes room_out room_err performed out err
+    × AreCopied written.bytes diagnostics.bytes room_out room_err performed out err
 
 -- the words were refused: nothing is written but the refusal's line
 abbrev pub IsRefused : ProgramError → List ℕ → List ℕ → Performed → List ℕ → List ℕ → Type 0
-IsRefused error room_out room_err performed out err = (told : Stored)
-    × views.IsRefusedBy error in_memory nothing told performed.status × AreCopied [] told.bytes room_out room_err performed out err
+IsRefused error room_out room_err performed out err = (diagnostics : Stored)
+    × views.IsRefusedBy error in_memory nothing diagnostics performed.status × AreCopied [] diagnostics.bytes room_out room_err performed out err
 
 -- the request reads as many files as there are texts, and was done; or another number, and the buffers stay
 abbrev pub Views : List Bytes → Request → List ℕ → List ℕ → Result Performed Refusal → List ℕ → List ℕ → Type 0

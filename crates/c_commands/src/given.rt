@@ -13,8 +13,8 @@ pub struct Bytes<'a> {
     pub bytes: &'a [u8],
 }
 
-/// Texts as the files of a command line: the first file that it reads is the first text, and so on, whatever the files are
-/// called, or whether it is standard input. They are lent, and not copied.
+/// Texts as the files of a command line: the first file that it reads is the first text, and so on, whatever the files
+/// are called, or whether it is standard input. They are lent, and not copied.
 #[derive(Clone, Copy)]
 pub struct Texts<'a> {
     pub texts: &'a [Bytes<'a>],

@@ -39,12 +39,12 @@ fn perform_task(
     ensures { IsDone task.now text.now out.old err.old result out.new err.new }
 {
     let mut written = MemoryOut::new(alloc);
-    let mut told = MemoryOut::new(alloc);
-    let status = perform(alloc, task, text, &mut written, &mut told);
+    let mut diagnostics = MemoryOut::new(alloc);
+    let status = perform(alloc, task, text, &mut written, &mut diagnostics);
     Performed {
         status,
         out: copy_out(written.as_bytes(), out),
-        err: copy_out(told.as_bytes(), err),
+        err: copy_out(diagnostics.as_bytes(), err),
     }
 }
 

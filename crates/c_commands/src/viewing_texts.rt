@@ -44,13 +44,13 @@ fn view_texts(
     ensures { IsViewed texts.now request.now out.old err.old result out.new err.new }
 {
     let mut written = MemoryOut::new(alloc);
-    let mut told = MemoryOut::new(alloc);
+    let mut diagnostics = MemoryOut::new(alloc);
     let texts = Texts { texts };
-    let status = view_request(alloc, request, &texts, &mut written, &mut told);
+    let status = view_request(alloc, request, &texts, &mut written, &mut diagnostics);
     Performed {
         status,
         out: copy_out(written.as_bytes(), out),
-        err: copy_out(told.as_bytes(), err),
+        err: copy_out(diagnostics.as_bytes(), err),
     }
 }
 
@@ -58,18 +58,19 @@ fn view_texts(
 fn refuse(alloc: Global, error: ProgramError, out: &mut [u8], err: &mut [u8]) -> Performed
     ensures { IsRefused error out.old err.old result out.new err.new }
 {
-    let mut told = MemoryOut::new(alloc);
-    let status = refused(&error, &mut told);
+    let mut diagnostics = MemoryOut::new(alloc);
+    let status = refused(&error, &mut diagnostics);
     Performed {
         status,
         out: copy_out(&[], out),
-        err: copy_out(told.as_bytes(), err),
+        err: copy_out(diagnostics.as_bytes(), err),
     }
 }
 
-/// Does what a command line asks for, as `mscview` does it, whose files are these texts: the first file that it reads is the
-/// first text, and so on, and standard input is one of them. What the program writes to standard output is put into `out`,
-/// and what it writes to standard error into `err`: as much as there is room for. Their whole lengths are told.
+/// Does what a command line asks for, as `mscview` does it, whose files are these texts: the first file that it reads
+/// is the first text, and so on, and standard input is one of them. What the program writes to standard output is put
+/// into `out`, and what it writes to standard error into `err`: as much as there is room for. Their whole lengths are
+/// told.
 ///
 /// [`Refusal::Misuse`] where the request reads another number of files: then nothing is done, and the buffers stay.
 pub fn view_request_into(
@@ -103,8 +104,9 @@ fn view_words(
     }
 }
 
-/// Does what the words of a command line ask for, without the program's name, as [`view_request_into`] does it. What `mscview`
-/// refuses of words (G1, F6) is refused likewise, with status 2 and the refusal's line in `err`, or a part of it.
+/// Does what the words of a command line ask for, without the program's name, as [`view_request_into`] does it. What
+/// `mscview` refuses of words (G1, F6) is refused likewise, with status 2 and the refusal's line in `err`, or a part of
+/// it.
 pub fn view_into(
     alloc: Global,
     words: &[Bytes<'_>],

@@ -8,13 +8,13 @@ use Rattle.chart.specs.Events.{ith, is_send_to, is_receive_from, is_in}
 use Rattle.chart.specs.Histories.{chart_of, IsLegal}
 use Rattle.chart.specs.Charts.{Chart, Place, at, chart_event, IsSendTo, IsReceiveFrom, BelongsTo}
 use Rattle.chart.specs.Places.{IsEvent}
-use Rattle.chart.specs.Order.{IsReport, IsRaces, region_of_event}
+use Rattle.chart.specs.Order.{IsReport, AreLineRaces, region_of_event}
 use Rattle.chart.specs.Knowing.{IsKnown, IsGreatestHeard}
 use Rattle.chart.proofs.Tally.{ith_within, ith_at}
 use Rattle.chart.proofs.Belongs.{IsEvent-from_passes}
 use Rattle.chart.proofs.Counts.{same_count}
 use Rattle.chart.proofs.Knowledge.{known_own, known_other, heard_at_first, heard_from_send, heard_at_send}
-use Rattle.chart.proofs.Reports.{IsRace, report_from_races}
+use Rattle.chart.proofs.Reports.{IsLineRace, report_from_races}
 use Rattle.chart.proofs.Growing.{GrowsTo, HasSends, passes_shrunk, known_grown, heard_grown}
 use Rattle.chart.proofs.Sends.{grows_by_event, sends_of}
 use Rattle.chart.proofs.Cycles.{event_cases, acyclic}
@@ -88,7 +88,7 @@ known_exists n k (e ∷ h) legal to s sends p =
     each_has = sends_of n k h legal.1
 
 -- a line has its races later than an entry
-pub races_exist : (line : List Event) (entry q region : ℕ) → (xs : List ℕ) × IsRaces line entry q region xs
+pub races_exist : (line : List Event) (entry q region : ℕ) → (xs : List ℕ) × AreLineRaces line entry q region xs
 races_exist line entry q region =
     let w = passing (λ j. nat_lt entry j && races (ith line j)) (length line) in (
       w.0,
@@ -106,16 +106,16 @@ races_exist line entry q region =
     of_event None h = absurd (false≢true h)
     of_event (Some m) h = let w = and_parts (not (is_receive_from q m)) (not (is_in region m)) h in (m, refl, not-true (is_receive_from q m) w.0, not-true (is_in region m) w.1)
 
-    of_test : (j : ℕ) → (nat_lt entry j && races (ith line j)) ≡ true → IsRace line entry q region j
+    of_test : (j : ℕ) → (nat_lt entry j && races (ith line j)) ≡ true → IsLineRace line entry q region j
     of_test j h = let w = and_parts (nat_lt entry j) (races (ith line j)) h in (ltb-true entry j w.0, of_event (ith line j) w.1)
 
-    to_test : (j : ℕ) → IsRace line entry q region j → (1 ≤ j) × (j ≤ length line) × ((nat_lt entry j && races (ith line j)) ≡ true)
+    to_test : (j : ℕ) → IsLineRace line entry q region j → (1 ≤ j) × (j ≤ length line) × ((nat_lt entry j && races (ith line j)) ≡ true)
     to_test j (above, (m, at_j, other, outside)) =
         let within = ith_within line j m at_j in
         (within.0, within.1, and_from (nat_lt entry j) (races (ith line j)) (lt-ltb entry j above) (subst (λ o. races o ≡ true) (sym at_j) (and_from (not (is_receive_from q m)) (not (is_in region m)) (not_from_false (is_receive_from q m) other) (not_from_false (is_in region m) outside))))
 
 -- a line has its races once
-pub same_races : (line : List Event) (entry q region : ℕ) (xs ys : List ℕ) → IsRaces line entry q region xs → IsRaces line entry q region ys → xs ≡ ys
+pub same_races : (line : List Event) (entry q region : ℕ) (xs ys : List ℕ) → AreLineRaces line entry q region xs → AreLineRaces line entry q region ys → xs ≡ ys
 same_races line entry q region xs ys a b = same_rising xs ys a.rising b.rising (λ j. (λ here. (b.exact j).1 ((a.exact j).0 here), λ there. (a.exact j).1 ((b.exact j).0 there)))
 
 -- a receive has one report

@@ -15,30 +15,30 @@ is_ok (Err e) = false
 -- bytes that are refused are no name
 pub refused : {A : Type 0} (bytes : List ℕ) (e : NameError) → name_of bytes ≡ Err e → IsName bytes → A
 unfolding is_ok
-refused bytes e told h = absurd (grind (arith, ap is_ok (sym h ∙ told)))
+refused bytes e stated h = absurd (grind (arith, ap is_ok (sym h ∙ stated)))
 
-pub empty_told : (bytes : List ℕ) → (length bytes == 0) ≡ true → name_of bytes ≡ Err Empty
+pub empty_error : (bytes : List ℕ) → (length bytes == 0) ≡ true → name_of bytes ≡ Err Empty
 unfolding name_of
-empty_told bytes e = rw e refl
+empty_error bytes e = rw e refl
 
-bad_told : (bytes : List ℕ) (place : ℕ) → (length bytes == 0) ≡ false → nat_lt MAX_NAME (length bytes) ≡ false → bad_place bytes ≡ Some place → name_of bytes ≡ Err (BadByte place)
+bad_error : (bytes : List ℕ) (place : ℕ) → (length bytes == 0) ≡ false → nat_lt MAX_NAME (length bytes) ≡ false → bad_place bytes ≡ Some place → name_of bytes ≡ Err (BadByte place)
 unfolding name_of
-bad_told bytes place e l p = rw (e, l, p) refl
+bad_error bytes place e l p = rw (e, l, p) refl
 
-long_told : (bytes : List ℕ) → (length bytes == 0) ≡ false → nat_lt MAX_NAME (length bytes) ≡ true → name_of bytes ≡ Err TooLong
+long_error : (bytes : List ℕ) → (length bytes == 0) ≡ false → nat_lt MAX_NAME (length bytes) ≡ true → name_of bytes ≡ Err TooLong
 unfolding name_of
-long_told bytes e l = rw (e, l) refl
+long_error bytes e l = rw (e, l) refl
 
 at_place : (bytes : List ℕ) (p : Option ℕ) → bad_place bytes ≡ p → (length bytes == 0) ≡ false → nat_lt MAX_NAME (length bytes) ≡ false → IsName bytes → bad_place bytes ≡ None
 at_place bytes None e z l h = e
-at_place bytes (Some place) e z l h = refused bytes (BadByte place) (bad_told bytes place z l e) h
+at_place bytes (Some place) e z l h = refused bytes (BadByte place) (bad_error bytes place z l e) h
 
 at_length : (bytes : List ℕ) (b : Bool) → nat_lt MAX_NAME (length bytes) ≡ b → (length bytes == 0) ≡ false → IsName bytes → (nat_lt MAX_NAME (length bytes) ≡ false) × (bad_place bytes ≡ None)
-at_length bytes true e z h = refused bytes TooLong (long_told bytes z e) h
+at_length bytes true e z h = refused bytes TooLong (long_error bytes z e) h
 at_length bytes false e z h = (e, at_place bytes (bad_place bytes) refl z e h)
 
 at_front : (bytes : List ℕ) (b : Bool) → (length bytes == 0) ≡ b → IsName bytes → (nat_lt MAX_NAME (length bytes) ≡ false) × (bad_place bytes ≡ None)
-at_front bytes true e h = refused bytes Empty (empty_told bytes e) h
+at_front bytes true e h = refused bytes Empty (empty_error bytes e) h
 at_front bytes false e h = at_length bytes (nat_lt MAX_NAME (length bytes)) refl e h
 
 -- a name isn't too long, and no byte of it is out of place
@@ -78,7 +78,7 @@ sound_bytes b bytes h = first b bytes (is_letter b) refl h
 
 -- a name has some bytes, and each of them may stand in a name
 pub name_bytes : (bytes : List ℕ) → IsName bytes → (1 ≤ length bytes) × (list_all is_name_byte bytes ≡ true)
-name_bytes [] h = refused [] Empty (empty_told [] refl) h
+name_bytes [] h = refused [] Empty (empty_error [] refl) h
 name_bytes (b ∷ bytes) h = (omega arith, (sound_bytes b bytes (name_is_sound (b ∷ bytes) h).1).1)
 
 -- a byte that may stand in a name is greater than the number of bytes that a name may have

@@ -5,7 +5,7 @@ use Rattle.std.proofs.lemmas.Option.{same_Some}
 use Rattle.chart.specs.declared.event.Event.{Event}
 use Rattle.chart.specs.Events.{ith, is_receive_from, is_in}
 use Rattle.chart.specs.Charts.{Chart, Place, at, chart_event, IsReceiveFrom, BelongsTo}
-use Rattle.chart.specs.Order.{Before, IsReport, IsRaces, region_of_event}
+use Rattle.chart.specs.Order.{Before, IsReport, AreLineRaces, region_of_event}
 use Rattle.chart.specs.Order.Direct.{same_sender}
 use Rattle.chart.specs.Order.Before.{direct}
 use Rattle.chart.specs.Knowing.{IsKnown}
@@ -32,17 +32,17 @@ abbrev pub IsReported : Chart → Place → ℕ → Type 0
 IsReported c r j = (j < r.index) × ((m : Event) × (chart_event c (at r.instance j) ≡ Some m) × (is_in (region_of_event (chart_event c r)) m ≡ false)) × (Before c (at r.instance j) r → ⊥)
 
 -- what the races of a line have
-abbrev pub IsRace : List Event → ℕ → ℕ → ℕ → ℕ → Type 0
-IsRace line entry q region j = (entry < j) × ((m : Event) × (ith line j ≡ Some m) × (is_receive_from q m ≡ false) × (is_in region m ≡ false))
+abbrev pub IsLineRace : List Event → ℕ → ℕ → ℕ → ℕ → Type 0
+IsLineRace line entry q region j = (entry < j) × ((m : Event) × (ith line j ≡ Some m) × (is_receive_from q m ≡ false) × (is_in region m ≡ false))
 
 -- the races of the line before the receive, above what its send knows, are its report
-pub report_from_races : (c : Chart) (s : Place) (p i k region : ℕ) (xs : List ℕ) → BelongsTo c s (at p (i + 1)) → region_of_event (chart_event c (at p (i + 1))) ≡ region → IsKnown c s p k → IsRaces (take i (c p)) k s.instance region xs → IsReport c (at p (i + 1)) xs
+pub report_from_races : (c : Chart) (s : Place) (p i k region : ℕ) (xs : List ℕ) → BelongsTo c s (at p (i + 1)) → region_of_event (chart_event c (at p (i + 1))) ≡ region → IsKnown c s p k → AreLineRaces (take i (c p)) k s.instance region xs → IsReport c (at p (i + 1)) xs
 report_from_races c s p i k region xs b of_region known races = record {
   rising = races.rising;
   exact = λ j. (λ here. to_report j ((races.exact j).0 here), λ w. (races.exact j).1 (to_races j w));
 }
   where
-    to_report : (j : ℕ) → IsRace (take i (c p)) k s.instance region j → IsReported c (at p (i + 1)) j
+    to_report : (j : ℕ) → IsLineRace (take i (c p)) k s.instance region j → IsReported c (at p (i + 1)) j
     to_report j (above, (m, at_j, other, outside)) =
         let w = ith_from_take i (c p) j m at_j in
         let less : j < i + 1 = omega (arith, w.0) in
@@ -55,7 +55,7 @@ report_from_races c s p i k region xs b of_region known races = record {
           ],
         )
 
-    to_races : (j : ℕ) → IsReported c (at p (i + 1)) j → IsRace (take i (c p)) k s.instance region j
+    to_races : (j : ℕ) → IsReported c (at p (i + 1)) j → IsLineRace (take i (c p)) k s.instance region j
     to_races j (less, (m, at_j, outside), apart) =
         let splits = before_in_line c s p (i + 1) j k b known (ith_within (c p) j m at_j).0 less in
         let above : k < j = elim (cases_lt k j) [ inl w ↦ w | inr w ↦ absurd (apart (splits.1 (inr w))) ] in

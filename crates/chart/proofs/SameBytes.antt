@@ -28,7 +28,7 @@ none_set [] (y ∷ ys) l = absurd (omega (arith, l))
 none_set (x ∷ xs) [] l = absurd (omega (arith, l))
 none_set (x ∷ xs) (y ∷ ys) l = at_first (mask_l (zip2 differs xs ys)) (pointwise nat_eq xs ys) (nat_eq x y) (none_set xs ys (omega (arith, l)))
 
-pub same_told : (xs ys : List ℕ) → length xs ≡ 32 → length ys ≡ 32 → nat_eq (mask_l (map (top 7) (zip2 (λ a b. cond (differs a b) (2 ^ 8 - 1) 0) xs ys)) % 2 ^ 64) 0 ≡ pointwise nat_eq xs ys
-same_told xs ys m n =
+pub same_by_mask : (xs ys : List ℕ) → length xs ≡ 32 → length ys ≡ 32 → nat_eq (mask_l (map (top 7) (zip2 (λ a b. cond (differs a b) (2 ^ 8 - 1) 0) xs ys)) % 2 ^ 64) 0 ≡ pointwise nat_eq xs ys
+same_by_mask xs ys m n =
     let long : length xs ≡ length ys = m ∙ sym n in
     ap (λ ms. nat_eq (mask_l ms % 2 ^ 64) 0) (tops_compared w8 differs xs ys) ∙ ap (λ k. nat_eq k 0) (mask_l-mod (zip2 differs xs ys) 64 (omega (arith, m, length-zip2 differs xs ys long))) ∙ none_set xs ys long

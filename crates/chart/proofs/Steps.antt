@@ -8,7 +8,7 @@ use Rattle.chart.specs.Events.{ith, is_send_to, send_event, receive_event}
 use Rattle.chart.specs.Histories.{by, received, waiting, receive_of, chart_of, IsLegal}
 use Rattle.chart.specs.Charts.{at, BelongsTo}
 use Rattle.chart.specs.Places.{IsSendAfter}
-use Rattle.chart.specs.Order.{IsRaces, IsReport, region_of_event}
+use Rattle.chart.specs.Order.{AreLineRaces, IsReport, region_of_event}
 use Rattle.chart.specs.Knowing.{IsKnown, IsGreatestHeard}
 use Rattle.chart.proofs.Tally.{ith_push}
 use Rattle.chart.proofs.Belongs.{IsEvent-from_passes}
@@ -59,10 +59,10 @@ module _ (n k : ℕ) (h : List Occurrence) (legal : IsLegal n k h) where
     new_receive_hears r l m heard knows = heard_from_send (chart_of (Receive p q c ∷ h)) (at q j) p (length (chart_of h p)) r l m (still_heard (Receive p q c) p r l heard) belongs (known r m knows)
 
     -- its report is the races of the line later than what that send knows of it
-    pub new_receive_reports : (m : ℕ) (races : List ℕ) → IsKnown (chart_of h) (at q j) p m → IsRaces (chart_of h p) m q c races → IsReport (chart_of (Receive p q c ∷ h)) (at p (length (chart_of h p) + 1)) races
+    pub new_receive_reports : (m : ℕ) (races : List ℕ) → IsKnown (chart_of h) (at q j) p m → AreLineRaces (chart_of h p) m q c races → IsReport (chart_of (Receive p q c ∷ h)) (at p (length (chart_of h p) + 1)) races
     new_receive_reports m races knows above =
         let line_event = receive_event q x.name c in
         let line = line_after_receive h p q c x rest first in
         let front = ap (λ l. take (length (chart_of h p)) l) line ∙ take_at (chart_of h p) (line_event ∷ []) (length (chart_of h p)) refl in
         let region = ap (λ l. region_of_event (ith l (length (chart_of h p) + 1))) line ∙ ap region_of_event (ith_push (chart_of h p) line_event) in
-        report_from_races (chart_of (Receive p q c ∷ h)) (at q j) p (length (chart_of h p)) m c races belongs region (known p m knows) (subst (λ l. IsRaces l m q c races) (sym front) above)
+        report_from_races (chart_of (Receive p q c ∷ h)) (at q j) p (length (chart_of h p)) m c races belongs region (known p m knows) (subst (λ l. AreLineRaces l m q c races) (sym front) above)

@@ -10,7 +10,7 @@ use Rattle.chart.specs.Events.{send_event, receive_event}
 use Rattle.chart.specs.Histories.{by, sent, received, waiting, chart_of, IsLegal, Begins}
 use Rattle.chart.specs.Charts.{Chart, Place, at, chart_event, IsSendTo, IsReceiveFrom, BelongsTo, HasNoSend, HasOtherName}
 use Rattle.chart.specs.Places.{IsEvent, IsSendAfter}
-use Rattle.chart.specs.Order.{Before, IsCyclic, IsReport, IsRaces, region_of_event}
+use Rattle.chart.specs.Order.{Before, IsCyclic, IsReport, AreLineRaces, region_of_event}
 use Rattle.chart.specs.Knowing.{IsKnown, IsGreatestHeard}
 use Rattle.chart.specs.Keywords.{spelled}
 use Rattle.chart.specs.Names.{name_of}
@@ -35,7 +35,7 @@ ReportLaw = (c : Chart) (s : Place) (p i j k : ℕ) → BelongsTo c s (at p i) �
 abbrev pub RacesLaw : Type 0
 RacesLaw = (c : Chart) (s : Place) (p i k region : ℕ) (races : Indices) → BelongsTo c s (at p (i + 1))
     → region_of_event (chart_event c (at p (i + 1))) ≡ region → IsKnown c s p k
-    → IsRaces (take i (c p)) k s.instance region races → IsReport c (at p (i + 1)) races
+    → AreLineRaces (take i (c p)) k s.instance region races → IsReport c (at p (i + 1)) races
 
 -- a send at i of p's line knows i of this line, if it is the last or the chart has no cycle
 abbrev pub OwnKnowledgeLaw : Type 0
@@ -148,7 +148,7 @@ NewReceiveHearingLaw = (n k : ℕ) (h : List Occurrence) → IsLegal n k h → (
 abbrev pub NewReportLaw : Type 0
 NewReportLaw = (n k : ℕ) (h : List Occurrence) → IsLegal n k h → (p q c : ℕ) (m : Content) (rest : List Content)
     → waiting h q p ≡ m ∷ rest → (j : ℕ) → IsSendAfter (chart_of h q) p (received h q p) j
-    → (known : ℕ) (races : Indices) → IsKnown (chart_of h) (at q j) p known → IsRaces (chart_of h p) known q c races
+    → (known : ℕ) (races : Indices) → IsKnown (chart_of h) (at q j) p known → AreLineRaces (chart_of h p) known q c races
     → IsReport (chart_of (Receive p q c ∷ h)) (at p (length (chart_of h p) + 1)) races
 
 -- What stays as it is in each history that begins with another, for the most part a legal one.

@@ -19,7 +19,8 @@ pub data Direct (c : Chart) (e f : Place) : Type 0 where
   to_send : (q : ℕ) → IsEarlier e f → IsSendTo c q f → Direct c e f
   same_sender : (q : ℕ) → IsEarlier e f → IsReceiveFrom c q e → IsReceiveFrom c q f → Direct c e f
 
--- enforced before: the least transitive relation that has all that is direct
+-- enforced before: the least transitive relation that has all that is direct (what others call happens-before, here of
+-- the events of all runs and not of one)
 pub data Before (c : Chart) : Place → Place → Type 0 where
   direct : {e f : Place} → Direct c e f → Before c e f
   through : {e d f : Place} → Before c e d → Before c d f → Before c e f
@@ -43,7 +44,7 @@ pub record IsReport (c : Chart) (r : Place) (report : Indices) : Type 0 where
       × (Before c (at r.instance j) r → ⊥))
 
 -- the events of a line later than an entry that are neither receives from q nor in the region, rising
-pub record IsRaces (line : List Event) (entry q region : ℕ) (races : Indices) : Type 0 where
+pub record AreLineRaces (line : List Event) (entry q region : ℕ) (races : Indices) : Type 0 where
   pub rising : AllPairs (λ i j. i < j) races
   pub exact : (j : ℕ) → Contains races j
       ↔ ((entry < j) × ((m : Event) × (ith line j ≡ Some m) × (is_receive_from q m ≡ false) × (is_in region m ≡ false)))

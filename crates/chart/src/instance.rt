@@ -10,7 +10,8 @@ pub const MAX_INSTANCES: usize = 32;
 
 const _: () = prove!(MAX_INSTANCES == 32);
 
-/// The number of an instance, from 1 to [`MAX_INSTANCES`]. A contract sees it as the number.
+/// The number of an instance, from 1 to [`MAX_INSTANCES`]. An instance is what others call a process, an actor or a
+/// participant. A contract sees it as the number.
 #[derive(Clone, Copy, Debug, PartialEq, Eq, PartialOrd, Ord, Hash)]
 pub struct InstanceNo {
     number: u8,

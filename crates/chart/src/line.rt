@@ -48,8 +48,8 @@ impl<T: Drop> From<AllocFailed<T>> for LineError {
     }
 }
 
-/// The line of one instance, as a chart has it: a [`GrowingLine`] whose room nobody asks for, and its events as a list.
-/// A contract sees a record of the instance and of the events.
+/// The line of one instance (its lifeline, in UML's word), as a chart has it: a [`GrowingLine`] whose room nobody asks
+/// for, and its events as a list. A contract sees a record of the instance and of the events.
 #[derive(Debug)]
 pub struct Line {
     growing: GrowingLine,

@@ -39,8 +39,8 @@ pub enum NameError {
 
 /// The name of an instance or of a message: 1 to [`MAX_NAME`] bytes, held in place. A contract sees the bytes.
 ///
-/// Behind a shorter name stand zeros, and in the last place how many bytes it is short of the most. No byte of a name is
-/// less than [`MAX_NAME`]; so the last one tells which it is, and two names are the same where all 32 bytes are.
+/// Behind a shorter name stand zeros, and in the last place how many bytes it is short of the most. No byte of a name
+/// is less than [`MAX_NAME`]; so the last one tells which it is, and two names are the same where all 32 bytes are.
 #[derive(Clone, Copy, Debug)]
 pub struct Name {
     bytes: [u8; MAX_NAME],

@@ -7,7 +7,8 @@ use crate::ranges::EventRanges;
 use std::alloc::{AllocError, Global};
 use std::marker::Model;
 
-/// The races of a receive: the earlier events of its line that come before it by luck alone. They are kept as ranges of
+/// The races of a receive: the earlier events of its line that come before it by luck alone, so that they don't happen
+/// before it in the sense of Lamport's order. They are kept as ranges of
 /// neighbours, so a report costs its ranges. A contract sees it as a record of the receive and of the events one by
 /// one.
 #[derive(Debug, Drop)]

@@ -15,18 +15,18 @@ use Rattle.closure.specs.Faults.{place_of}
 use Rattle.closure.proofs.ReadLemmas.{empty_line, instance_within, partner_other}
 use Rattle.chart_layout.specs.declared.row.Row.{Row}
 use Rattle.chart_layout.specs.declared.row.Row.TheVariants.{Message, Event}
-use Rattle.chart_layout.specs.Layouts.{number_on, row_on, drawn, is_at, has_event, row_of, AreInOrder, IsDrawing}
+use Rattle.chart_layout.specs.Layouts.{number_on, row_on, laid_out, is_at, has_event, row_of, AreInOrder, IsDrawing}
 use Rattle.chart_layout.specs.Indexes.{AreNext}
 use Rattle.chart_layout.specs.Picking.{line_of}
-use Rattle.chart_layout.specs.Ways.{IsNextEvent, IsNextRow, AreDrawn}
-use Rattle.chart_layout.proofs.DrawnLemmas.{drawn-push, number_on-own, number_on-other}
+use Rattle.chart_layout.specs.Ways.{IsNextEvent, IsNextRow, AreLaidOut}
+use Rattle.chart_layout.proofs.LaidOutLemmas.{laid_out-push, number_on-own, number_on-other}
 use Rattle.chart_layout.proofs.IndexLemmas.{is_at-same}
 use Rattle.chart_layout.proofs.RowLemmas.{row_of-push_old, row_of-within}
 
 -- of each line the first events stand in the rows, as a layout has them
 pub record IsBegun (lines : List LineView) (rows : List Row) : Type 0 where
   pub order : AreInOrder rows
-  pub within : (p : ℕ) → length (drawn rows p) ≤ length (chart_lines lines p)
+  pub within : (p : ℕ) → length (laid_out rows p) ≤ length (chart_lines lines p)
   pub level : (i : ℕ) (s r : EventNo) → slice_get rows i ≡ Some (Message s r) → BelongsTo (chart_lines lines) (place_of s) (place_of r)
   pub lower : (i : ℕ) (e : EventNo) (s : Place) → slice_get rows i ≡ Some (Event e) → BelongsTo (chart_lines lines) s (place_of e) → (j : ℕ) × (row_of rows s ≡ Some j) × (j < i)
 
@@ -70,10 +70,10 @@ on_row p x k (Message s r) at_k =
     ]
 
 -- each event that is drawn has a row
-has_row : (rows : List Row) (p x k : ℕ) → ith (drawn rows p) k ≡ Some x → (j : ℕ) × (row_of rows (at p x) ≡ Some j) × (j < length rows)
+has_row : (rows : List Row) (p x k : ℕ) → ith (laid_out rows p) k ≡ Some x → (j : ℕ) × (row_of rows (at p x) ≡ Some j) × (j < length rows)
 has_row [] p x k at_k = absurd (ith_nil k x at_k)
 has_row (row ∷ rows) p x k at_k =
-    elim (ith_from_append (row_on p row) (drawn rows p) k x at_k) [
+    elim (ith_from_append (row_on p row) (laid_out rows p) k x at_k) [
       | inl here ↦ (0, ap (λ b. cond b (Some 0) (option_map suc (row_of rows (at p x)))) (on_row p x k row here), omega arith)
       | inr later ↦ go (has_event (at p x) row) (has_row rows p x later.0 later.2)
     ]
@@ -83,14 +83,14 @@ has_row (row ∷ rows) p x k at_k =
     go false (j, at_j, inside) = (suc j, ap (option_map suc) at_j, omega arith)
 
 -- so each event up to the last one that is drawn of its line
-pub row_of_drawn : (rows : List Row) → AreInOrder rows → (e : Place) → 1 ≤ e.index → e.index ≤ length (drawn rows e.instance) → (j : ℕ) × (row_of rows e ≡ Some j) × (j < length rows)
-row_of_drawn rows order e begun above = go e.index refl
+pub row_of_laid_out : (rows : List Row) → AreInOrder rows → (e : Place) → 1 ≤ e.index → e.index ≤ length (laid_out rows e.instance) → (j : ℕ) × (row_of rows e ≡ Some j) × (j < length rows)
+row_of_laid_out rows order e begun above = go e.index refl
   where
     go : (k : ℕ) → e.index ≡ k → (j : ℕ) × (row_of rows e ≡ Some j) × (j < length rows)
     go zero is = absurd (omega arith)
     go (suc k) is =
-        let found = ith_at (drawn rows e.instance) (suc k) (omega arith) (omega arith) in
-        let number : found.0 ≡ suc k = omega (arith, ith_range 1 (length (drawn rows e.instance)) k found.0 (ap (λ xs. ith xs (suc k)) (sym (order e.instance)) ∙ found.1)) in
+        let found = ith_at (laid_out rows e.instance) (suc k) (omega arith) (omega arith) in
+        let number : found.0 ≡ suc k = omega (arith, ith_range 1 (length (laid_out rows e.instance)) k found.0 (ap (λ xs. ith xs (suc k)) (sym (order e.instance)) ∙ found.1)) in
         subst (λ x. (j : ℕ) × (row_of rows (at e.instance x) ≡ Some j) × (j < length rows)) (number ∙ sym is) (has_row rows e.instance found.0 (suc k) found.1)
 
 -- the two ends of a message are on two lines
@@ -117,17 +117,17 @@ AreNext-from_next lines rows (Event e) chart next = next.next.next
 
 -- what one more row adds to a line: nothing, or the next event
 abbrev Adds : Chart → List Row → Row → ℕ → Type 0
-Adds c rows row p = (row_on p row ≡ []) ⊎ ((row_on p row ≡ (length (drawn rows p) + 1) ∷ []) × (length (drawn rows p) + 1 ≤ length (c p)))
+Adds c rows row p = (row_on p row ≡ []) ⊎ ((row_on p row ≡ (length (laid_out rows p) + 1) ∷ []) × (length (laid_out rows p) + 1 ≤ length (c p)))
 
-adds_event : (c : Chart) (rows : List Row) (e : EventNo) (p : ℕ) → IsNextEvent c rows (place_of e) → (number_on p e ≡ []) ⊎ ((e.instance ≡ p) × (number_on p e ≡ (length (drawn rows p) + 1) ∷ []) × (length (drawn rows p) + 1 ≤ length (c p)))
+adds_event : (c : Chart) (rows : List Row) (e : EventNo) (p : ℕ) → IsNextEvent c rows (place_of e) → (number_on p e ≡ []) ⊎ ((e.instance ≡ p) × (number_on p e ≡ (length (laid_out rows p) + 1) ∷ []) × (length (laid_out rows p) + 1 ≤ length (c p)))
 adds_event c rows e p next =
     elim (cases_eq e.instance p) [
       | inr other ↦ inl (number_on-other p e other)
       | inl own ↦
           inr (
             own,
-            number_on-own p e own ∙ ap (λ i. i ∷ []) next.next ∙ ap (λ q. (length (drawn rows q) + 1) ∷ []) own,
-            subst (λ q. length (drawn rows q) + 1 ≤ length (c q)) own (omega (arith, next.next, next.event.1)),
+            number_on-own p e own ∙ ap (λ i. i ∷ []) next.next ∙ ap (λ q. (length (laid_out rows q) + 1) ∷ []) own,
+            subst (λ q. length (laid_out rows q) + 1 ≤ length (c q)) own (omega (arith, next.next, next.event.1)),
           )
     ]
 
@@ -149,29 +149,29 @@ adds lines rows (Message s r) p chart next =
     ]
 
 -- how many events of a line are drawn with one row more
-pub drawn_more : (rows : List Row) (row : Row) (p : ℕ) → length (drawn (rows ++ row ∷ []) p) ≡ length (drawn rows p) + length (row_on p row)
-drawn_more rows row p = ap length (drawn-push rows row p) ∙ length-append (drawn rows p) (row_on p row)
+pub laid_out_more : (rows : List Row) (row : Row) (p : ℕ) → length (laid_out (rows ++ row ∷ []) p) ≡ length (laid_out rows p) + length (row_on p row)
+laid_out_more rows row p = ap length (laid_out-push rows row p) ∙ length-append (laid_out rows p) (row_on p row)
 
 module _ (lines : List LineView) (rows : List Row) (row : Row) (chart : IsChart lines) (old : IsBegun lines rows) (next : IsNextRow (chart_lines lines) rows row) where
   abbrev c : Chart
   c = chart_lines lines
 
-  order_more : (p : ℕ) → drawn (rows ++ row ∷ []) p ≡ range_with_len 1 (length (drawn (rows ++ row ∷ []) p))
+  order_more : (p : ℕ) → laid_out (rows ++ row ∷ []) p ≡ range_with_len 1 (length (laid_out (rows ++ row ∷ []) p))
   order_more p =
       elim (adds lines rows row p chart next) [
         | inl none ↦
-            let same = drawn-push rows row p ∙ ap (λ xs. drawn rows p ++ xs) none ∙ append-nil (drawn rows p) in
+            let same = laid_out-push rows row p ∙ ap (λ xs. laid_out rows p ++ xs) none ∙ append-nil (laid_out rows p) in
             same ∙ old.order p ∙ ap (λ xs. range_with_len 1 (length xs)) (sym same)
         | inr one ↦
-            let k = length (drawn rows p) in
-            let more : length (drawn (rows ++ row ∷ []) p) ≡ k + 1 = drawn_more rows row p ∙ ap (λ xs. k + length xs) one.0 in
+            let k = length (laid_out rows p) in
+            let more : length (laid_out (rows ++ row ∷ []) p) ≡ k + 1 = laid_out_more rows row p ∙ ap (λ xs. k + length xs) one.0 in
             let e : k + 1 ≡ 1 + k = omega arith in
-            drawn-push rows row p ∙ ap (λ xs. drawn rows p ++ xs) (one.0 ∙ ap (λ i. i ∷ []) e) ∙ ap (λ xs. xs ++ (1 + k) ∷ []) (old.order p) ∙ range_push 1 k ∙ ap (range_with_len 1) (sym more)
+            laid_out-push rows row p ∙ ap (λ xs. laid_out rows p ++ xs) (one.0 ∙ ap (λ i. i ∷ []) e) ∙ ap (λ xs. xs ++ (1 + k) ∷ []) (old.order p) ∙ range_push 1 k ∙ ap (range_with_len 1) (sym more)
       ]
 
-  within_more : (p : ℕ) → length (drawn (rows ++ row ∷ []) p) ≤ length (c p)
+  within_more : (p : ℕ) → length (laid_out (rows ++ row ∷ []) p) ≤ length (c p)
   within_more p =
-      let more = drawn_more rows row p in
+      let more = laid_out_more rows row p in
       elim (adds lines rows row p chart next) [
         | inl none ↦ let e = ap length none in omega (arith, more, e, old.within p)
         | inr one ↦ let e = ap length one.0 in omega (arith, more, e, one.1)
@@ -211,14 +211,14 @@ module _ (lines : List LineView) (rows : List Row) (row : Row) (chart : IsChart 
   }
 
 -- where all events stand in the rows, these draw the chart
-pub IsDrawing-from_begun : (lines : List LineView) (rows : List Row) → IsBegun lines rows → AreDrawn (chart_lines lines) (length lines) rows → IsDrawing lines rows
+pub IsDrawing-from_begun : (lines : List LineView) (rows : List Row) → IsBegun lines rows → AreLaidOut (chart_lines lines) (length lines) rows → IsDrawing lines rows
 IsDrawing-from_begun lines rows is all = record {
   order = λ p. is.order p ∙ ap (range_with_len 1) (whole p);
   level = is.level;
   lower = is.lower;
 }
   where
-    whole : (p : ℕ) → length (drawn rows p) ≡ length (chart_lines lines p)
+    whole : (p : ℕ) → length (laid_out rows p) ≡ length (chart_lines lines p)
     whole zero = let some = is.within zero in omega arith
     whole (suc p) =
         elim (cases_lt p (length lines)) [
@@ -229,22 +229,22 @@ IsDrawing-from_begun lines rows is all = record {
 -- how many events of the first n lines are still to be drawn
 abbrev pub left : Chart → ℕ → List Row → ℕ
 left c zero rows = 0
-left c (suc n) rows = left c n rows + (length (c (suc n)) - length (drawn rows (suc n)))
+left c (suc n) rows = left c n rows + (length (c (suc n)) - length (laid_out rows (suc n)))
 
 -- a row more leaves no more, and fewer where it has an event of these lines
 left-le : (c : Chart) (n : ℕ) (rows : List Row) (row : Row) → left c n (rows ++ row ∷ []) ≤ left c n rows
 left-le c zero rows row = omega arith
-left-le c (suc n) rows row = omega (arith, left-le c n rows row, drawn_more rows row (suc n))
+left-le c (suc n) rows row = omega (arith, left-le c n rows row, laid_out_more rows row (suc n))
 
-left-less : (c : Chart) (n p : ℕ) (rows : List Row) (row : Row) → p < n → length (drawn rows (suc p)) < length (c (suc p)) → 1 ≤ length (row_on (suc p) row) → left c n (rows ++ row ∷ []) < left c n rows
+left-less : (c : Chart) (n p : ℕ) (rows : List Row) (row : Row) → p < n → length (laid_out rows (suc p)) < length (c (suc p)) → 1 ≤ length (row_on (suc p) row) → left c n (rows ++ row ∷ []) < left c n rows
 left-less c zero p rows row inside some one = absurd (omega arith)
 left-less c (suc n) p rows row inside some one =
     elim (cases_eq n p) [
       | inl e ↦
-          let there = subst (λ x. length (drawn rows (suc x)) < length (c (suc x))) (sym e) some in
+          let there = subst (λ x. length (laid_out rows (suc x)) < length (c (suc x))) (sym e) some in
           let adds_one = subst (λ x. 1 ≤ length (row_on (suc x) row)) (sym e) one in
-          omega (arith, left-le c n rows row, drawn_more rows row (suc n), there, adds_one)
-      | inr differs ↦ omega (arith, left-less c n p rows row (omega arith) some one, drawn_more rows row (suc n))
+          omega (arith, left-le c n rows row, laid_out_more rows row (suc n), there, adds_one)
+      | inr differs ↦ omega (arith, left-less c n p rows row (omega arith) some one, laid_out_more rows row (suc n))
     ]
 
 -- the line that the search goes on from is one of the chart's, and a row more leaves fewer events
@@ -258,11 +258,11 @@ left-next lines rows (Message s r) next =
     let own = ap length (number_on-own (suc on.0) s on.1) in
     let two = length-append (number_on (suc on.0) s) (number_on (suc on.0) r) in
     left-less (chart_lines lines) (length lines) on.0 rows (Message s r) on.2
-    (subst (λ q. length (drawn rows q) < length (chart_lines lines q)) on.1 (omega (arith, next.1.next, next.1.event.1)))
+    (subst (λ q. length (laid_out rows q) < length (chart_lines lines q)) on.1 (omega (arith, next.1.next, next.1.event.1)))
     (omega (arith, own, two))
 left-next lines rows (Event e) next =
     let on = instance_within lines (place_of e) next.next.event in
     let own = ap length (number_on-own (suc on.0) e on.1) in
     left-less (chart_lines lines) (length lines) on.0 rows (Event e) on.2
-    (subst (λ q. length (drawn rows q) < length (chart_lines lines q)) on.1 (omega (arith, next.next.next, next.next.event.1)))
+    (subst (λ q. length (laid_out rows q) < length (chart_lines lines q)) on.1 (omega (arith, next.next.next, next.next.event.1)))
     (omega (arith, own))

@@ -23,26 +23,26 @@ use Rattle.closure.proofs.RunLemmas.{IsCyclic-from_stopped}
 use Rattle.chart_layout.specs.declared.row.Row.{Row}
 use Rattle.chart_layout.specs.declared.finding.Way.{Way}
 use Rattle.chart_layout.specs.declared.finding.Way.TheVariants.{Level, Early}
-use Rattle.chart_layout.specs.Layouts.{drawn, row_of, AreInOrder}
-use Rattle.chart_layout.specs.Ways.{IsNextEvent, IsArrival, HasNoArrival, HasNoWay, HaveNoArrival, HaveNoWay, AreDrawn}
-use Rattle.chart_layout.proofs.BegunLemmas.{row_of_drawn}
+use Rattle.chart_layout.specs.Layouts.{laid_out, row_of, AreInOrder}
+use Rattle.chart_layout.specs.Ways.{IsNextEvent, IsArrival, HasNoArrival, HasNoWay, HaveNoArrival, HaveNoWay, AreLaidOut}
+use Rattle.chart_layout.proofs.BegunLemmas.{row_of_laid_out}
 
 -- a line has one next event
 pub same_next : (c : Chart) (rows : List Row) (e f : Place) → e.instance ≡ f.instance → IsNextEvent c rows e → IsNextEvent c rows f → e ≡ f
-same_next c rows e f line x y = same_place e f line (x.next ∙ ap (λ p. length (drawn rows p) + 1) line ∙ sym y.next)
+same_next c rows e f line x y = same_place e f line (x.next ∙ ap (λ p. length (laid_out rows p) + 1) line ∙ sym y.next)
 
 -- and none where all of its events stand in the rows
-pub none_next : (c : Chart) (rows : List Row) (p : ℕ) → length (c (suc p)) ≤ length (drawn rows (suc p)) → (e : Place) → e.instance ≡ suc p → IsNextEvent c rows e → ⊥
+pub none_next : (c : Chart) (rows : List Row) (p : ℕ) → length (c (suc p)) ≤ length (laid_out rows (suc p)) → (e : Place) → e.instance ≡ suc p → IsNextEvent c rows e → ⊥
 none_next c rows p all e line next =
-    let number = subst (λ q. e.index ≡ length (drawn rows q) + 1) line next.next in
+    let number = subst (λ q. e.index ≡ length (laid_out rows q) + 1) line next.next in
     let bound = subst (λ q. e.index ≤ length (c q)) line next.event.1 in
     omega arith
 
-pub no_way : (c : Chart) (rows : List Row) (way : Way) (p : ℕ) → length (c (suc p)) ≤ length (drawn rows (suc p)) → HasNoWay c rows way p
+pub no_way : (c : Chart) (rows : List Row) (way : Way) (p : ℕ) → length (c (suc p)) ≤ length (laid_out rows (suc p)) → HasNoWay c rows way p
 no_way c rows Level p all = λ s r line belongs next_s next_r. none_next c rows p all r line next_r
 no_way c rows Early p all = λ q s line sends next_s. none_next c rows p all s line next_s
 
-pub no_arrival : (c : Chart) (rows : List Row) (p : ℕ) → length (c (suc p)) ≤ length (drawn rows (suc p)) → HasNoArrival c rows p
+pub no_arrival : (c : Chart) (rows : List Row) (p : ℕ) → length (c (suc p)) ≤ length (laid_out rows (suc p)) → HasNoArrival c rows p
 no_arrival c rows p all e i line arrival = none_next c rows p all e line arrival.next
 
 -- an event is a send or a receive
@@ -77,14 +77,14 @@ module _ (c : Chart) (rows : List Row) (e : Place) (p : ℕ) (line : e.instance 
     its_send : (t r : Place) → r.instance ≡ suc p → BelongsTo c t r → IsNextEvent c rows r → t ≡ s
     its_send t r here other next_r = same_send c t s e (subst (BelongsTo c t) (same_next c rows r e (here ∙ sym line) next_r next) other) belongs
 
-    pub not_level_yet : (s.index ≡ length (drawn rows s.instance) + 1 → ⊥) → HasNoWay c rows Level p
-    not_level_yet later = λ t r here other next_t next_r. later (subst (λ (x : Place). x.index ≡ length (drawn rows x.instance) + 1) (its_send t r here other next_r) next_t.next)
+    pub not_level_yet : (s.index ≡ length (laid_out rows s.instance) + 1 → ⊥) → HasNoWay c rows Level p
+    not_level_yet later = λ t r here other next_t next_r. later (subst (λ (x : Place). x.index ≡ length (laid_out rows x.instance) + 1) (its_send t r here other next_r) next_t.next)
 
     -- as many events of the send's line stand in the rows as there are before it
-    pub send_next : s.index - 1 ≡ length (drawn rows s.instance) → IsNextEvent c rows s
+    pub send_next : s.index - 1 ≡ length (laid_out rows s.instance) → IsNextEvent c rows s
     send_next same = let event = IsEvent-from_passes c (is_send_to e.instance) s belongs.sent in record { event = event; next = omega (arith, event.0, same) }
 
-    pub not_level_there : (s.index - 1 ≡ length (drawn rows s.instance) → ⊥) → HasNoWay c rows Level p
+    pub not_level_there : (s.index - 1 ≡ length (laid_out rows s.instance) → ⊥) → HasNoWay c rows Level p
     not_level_there differs = not_level_yet (λ same. differs (omega (arith, same)))
 
     pub not_else : (way : Way) → (way ≡ Level → ⊥) → HasNoWay c rows way p
@@ -114,41 +114,41 @@ module _ (lines : List LineView) (rows : List Row) (possible : IsPossibleChart l
 
   -- how many events of each line stand in the rows
   abbrev made : List ℕ
-  made = map (λ p. length (drawn rows (suc p))) (range_with_len 0 n)
+  made = map (λ p. length (laid_out rows (suc p))) (range_with_len 0 n)
 
-  made_at : (p : ℕ) → p < n → slice_index made p ≡ length (drawn rows (suc p))
-  made_at p inside = get_or-map-range_with_len (λ q. length (drawn rows (suc q))) 0 n p p 0 inside (omega arith)
+  made_at : (p : ℕ) → p < n → slice_index made p ≡ length (laid_out rows (suc p))
+  made_at p inside = get_or-map-range_with_len (λ q. length (laid_out rows (suc q))) 0 n p p 0 inside (omega arith)
 
   stopped : AreStopped c n made
   stopped p inside =
-      elim (cases_lt (length (drawn rows (suc p))) (length (c (suc p)))) [
+      elim (cases_lt (length (laid_out rows (suc p))) (length (c (suc p)))) [
         | inr all ↦ inl (omega (arith, all, made_at p inside))
-        | inl more ↦ by_kind more (kind_of c (at (suc p) (suc (length (drawn rows (suc p))))) (omega arith, omega arith))
+        | inl more ↦ by_kind more (kind_of c (at (suc p) (suc (length (laid_out rows (suc p))))) (omega arith, omega arith))
       ]
     where
-      by_kind : length (drawn rows (suc p)) < length (c (suc p)) → ((q : ℕ) × IsSendTo c q (at (suc p) (suc (length (drawn rows (suc p)))))) ⊎ ((q : ℕ) × IsReceiveFrom c q (at (suc p) (suc (length (drawn rows (suc p)))))) → IsStopped c n made p
-      by_kind more (inl sends) = absurd (early p inside sends.0 (at (suc p) (suc (length (drawn rows (suc p))))) refl sends.1 (record { event = (omega arith, omega arith); next = omega arith }))
+      by_kind : length (laid_out rows (suc p)) < length (c (suc p)) → ((q : ℕ) × IsSendTo c q (at (suc p) (suc (length (laid_out rows (suc p)))))) ⊎ ((q : ℕ) × IsReceiveFrom c q (at (suc p) (suc (length (laid_out rows (suc p)))))) → IsStopped c n made p
+      by_kind more (inl sends) = absurd (early p inside sends.0 (at (suc p) (suc (length (laid_out rows (suc p))))) refl sends.1 (record { event = (omega arith, omega arith); next = omega arith }))
       by_kind more (inr receives) =
-          let e = at (suc p) (suc (length (drawn rows (suc p)))) in
+          let e = at (suc p) (suc (length (laid_out rows (suc p)))) in
           let w = has_sends n c possible.possible receives.0 e receives.1 in
           let event = IsEvent-from_passes c (is_send_to (suc p)) w.0 w.1.sent in
           let on = instance_within lines w.0 event in
           let next : IsNextEvent c rows e = record { event = (omega arith, omega arith); next = omega arith } in
-          let later : length (drawn rows w.0.instance) < w.0.index = elim (cases_lt (length (drawn rows w.0.instance)) w.0.index) [
+          let later : length (laid_out rows w.0.instance) < w.0.index = elim (cases_lt (length (laid_out rows w.0.instance)) w.0.index) [
             | inl low ↦ low
-            | inr above ↦ let row = row_of_drawn rows order w.0 event.0 above in absurd (arrivals p inside e row.0 refl (record { next = next; send = w.0; belongs = w.1; row = row.1 }))
+            | inr above ↦ let row = row_of_laid_out rows order w.0 event.0 above in absurd (arrivals p inside e row.0 refl (record { next = next; send = w.0; belongs = w.1; row = row.1 }))
           ] in
           inr (
             on.0,
             w.0.index,
             on.2,
             subst (λ k. BelongsTo c (at (suc on.0) w.0.index) (at (suc p) (suc k))) (sym (made_at p inside)) (subst (λ q. BelongsTo c (at q w.0.index) e) on.1 w.1),
-            omega (arith, made_at on.0 on.2, subst (λ q. length (drawn rows q) < w.0.index) on.1 later),
+            omega (arith, made_at on.0 on.2, subst (λ q. length (laid_out rows q) < w.0.index) on.1 later),
           )
 
-  pub all_drawn : AreDrawn c n rows
-  all_drawn p inside =
-      elim (cases_lt (length (drawn rows (suc p))) (length (c (suc p)))) [
+  pub all_laid_out : AreLaidOut c n rows
+  all_laid_out p inside =
+      elim (cases_lt (length (laid_out rows (suc p))) (length (c (suc p)))) [
         | inr all ↦ all
         | inl more ↦ absurd (no_cycle n c possible.possible (IsCyclic-from_stopped c n made stopped p inside (omega (arith, more, made_at p inside))))
       ]

@@ -12,9 +12,9 @@ use Rattle.chart.proofs.Belongs.{same_place}
 use Rattle.closure.specs.Faults.{place_of}
 use Rattle.chart_layout.specs.declared.row.Row.{Row}
 use Rattle.chart_layout.specs.declared.row.Row.TheVariants.{Message, Event}
-use Rattle.chart_layout.specs.Layouts.{number_on, drawn, is_at, row_of, IsNext}
+use Rattle.chart_layout.specs.Layouts.{number_on, laid_out, is_at, row_of, IsNext}
 use Rattle.chart_layout.specs.Indexes.{line_at, IsIndex, IsPut, ArePut, AreNext}
-use Rattle.chart_layout.proofs.DrawnLemmas.{drawn-push, length-number_on}
+use Rattle.chart_layout.proofs.LaidOutLemmas.{laid_out-push, length-number_on}
 use Rattle.chart_layout.proofs.RowLemmas.{row_of-push_old, row_of-push_new}
 
 -- a list has none past its end, and other places keep theirs
@@ -83,7 +83,7 @@ pub IsIndex-event : (rows : List Row) (old new : List (List ℕ)) (x : EventNo) 
 IsIndex-event rows old new x n is next number added = record {
   whole = put-whole x n old new is.whole added;
   counted = λ p. let more = put-counted x n old new is.whole added p in
-      let all = ap length (drawn-push rows (Event x) p) ∙ length-append (drawn rows p) (number_on p x) in
+      let all = ap length (laid_out-push rows (Event x) p) ∙ length-append (laid_out rows p) (number_on p x) in
       omega (arith, more, all, is.counted p);
   each = λ e. by_test e (cases_Bool (is_at e x));
 }
@@ -108,7 +108,7 @@ IsIndex-message rows old half new s r n is (next_s, next_r, differ) number added
   counted = λ p. let first = put-counted s n old half is.whole added_s p in
       let second = put-counted r n half new whole added_r p in
       let both = length-append (number_on p s) (number_on p r) in
-      let all = ap length (drawn-push rows (Message s r) p) ∙ length-append (drawn rows p) (number_on p s ++ number_on p r) in
+      let all = ap length (laid_out-push rows (Message s r) p) ∙ length-append (laid_out rows p) (number_on p s ++ number_on p r) in
       omega (arith, first, second, both, all, is.counted p);
   each = λ e. by_tests e (is_at e s) refl (is_at e r) refl;
 }

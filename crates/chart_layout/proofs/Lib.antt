@@ -1,9 +1,9 @@
 pub mod BegunLemmas
-pub mod DrawnLemmas
 pub mod EndLemmas
 pub mod FindLemmas
 pub mod IndexLemmas
 pub mod KeptTurnsLemmas
+pub mod LaidOutLemmas
 pub mod OneLayout
 pub mod PickLemmas
 pub mod RowLemmas

@@ -14,10 +14,10 @@ use Rattle.chart_layout.specs.declared.row.Row.{Row}
 use Rattle.chart_layout.specs.declared.row.Row.TheVariants.{Message, Event}
 use Rattle.chart_layout.specs.declared.finding.Way.{Way}
 use Rattle.chart_layout.specs.declared.finding.Way.TheVariants.{Level, Early}
-use Rattle.chart_layout.specs.Layouts.{drawn, number_on, row_on, is_at, has_event, row_of}
+use Rattle.chart_layout.specs.Layouts.{laid_out, number_on, row_on, is_at, has_event, row_of}
 use Rattle.chart_layout.specs.Picking.{line_of, last_line, sought_on, IsFirst, IsSought, IsHighest, IsPicked, Comes, actors, IsLayout, OneLayoutLaw}
 use Rattle.chart_layout.specs.Ways.{IsWay, HasNoWay, HaveNoArrival, HaveNoWay}
-use Rattle.chart_layout.proofs.DrawnLemmas.{number_on-own}
+use Rattle.chart_layout.proofs.LaidOutLemmas.{number_on-own}
 use Rattle.chart_layout.proofs.FindLemmas.{same_next}
 use Rattle.chart_layout.proofs.IndexLemmas.{is_at-true}
 use Rattle.chart_layout.proofs.TurnLemmas.{same_event, same_turn_row}
@@ -166,16 +166,16 @@ module _ (lines : List LineView) where
       let both = length-append (number_on s.instance s) (number_on s.instance r) in
       omega arith
 
-  drawn_join : (one other : List Row) (p : ℕ) → length (drawn (one ++ other) p) ≡ length (drawn one p) + length (drawn other p)
-  drawn_join [] other p = omega arith
-  drawn_join (row ∷ one) other p =
-      let rest = drawn_join one other p in
-      let first = length-append (row_on p row) (drawn (one ++ other) p) in
-      let second = length-append (row_on p row) (drawn one p) in
+  laid_out_join : (one other : List Row) (p : ℕ) → length (laid_out (one ++ other) p) ≡ length (laid_out one p) + length (laid_out other p)
+  laid_out_join [] other p = omega arith
+  laid_out_join (row ∷ one) other p =
+      let rest = laid_out_join one other p in
+      let first = length-append (row_on p row) (laid_out (one ++ other) p) in
+      let second = length-append (row_on p row) (laid_out one p) in
       omega arith
 
 module _ (lines : List LineView) (turns : List ℕ) where
-  as_long : (rows : List Row) → IsLayout lines turns rows → (p : ℕ) → length (drawn rows p) ≡ length (chart_lines lines p)
+  as_long : (rows : List Row) → IsLayout lines turns rows → (p : ℕ) → length (laid_out rows p) ≡ length (chart_lines lines p)
   as_long rows is p = ap length (is.drawing.order p) ∙ length-range_with_len 1 (length (chart_lines lines p))
 
   no_more : (above rest : List Row) (row : Row) → IsLayout lines turns (above ++ []) → IsLayout lines turns (above ++ row ∷ rest) → ⊥
@@ -183,11 +183,11 @@ module _ (lines : List LineView) (turns : List ℕ) where
       let p = line_of row in
       let short = as_long (above ++ []) one p in
       let long = as_long (above ++ row ∷ rest) other p in
-      let a = drawn_join lines above [] p in
-      let b = drawn_join lines above (row ∷ rest) p in
-      let d = length-append (row_on p row) (drawn rest p) in
+      let a = laid_out_join lines above [] p in
+      let b = laid_out_join lines above (row ∷ rest) p in
+      let d = length-append (row_on p row) (laid_out rest p) in
       let some = some_event lines row in
-      let z : length (drawn [] p) ≡ 0 = refl in
+      let z : length (laid_out [] p) ≡ 0 = refl in
       omega arith
 
   front_level : (above rest : List Row) → IsLayout lines turns (above ++ rest) → AreLevelIn lines above

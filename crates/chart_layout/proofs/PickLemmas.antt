@@ -17,8 +17,8 @@ use Rattle.chart_layout.specs.declared.finding.Way.TheVariants.{Level, Early}
 use Rattle.chart_layout.specs.Layouts.{row_of, AreInOrder}
 use Rattle.chart_layout.specs.Picking.{line_of, last_from, last_line, IsFirst, IsPicked}
 use Rattle.chart_layout.specs.Searching.{higher, IsHighestOf}
-use Rattle.chart_layout.specs.Ways.{IsArrival, IsWay, HasNoArrival, HaveNoArrival, HaveNoWay, IsNextRow, AreDrawn}
-use Rattle.chart_layout.proofs.FindLemmas.{same_next, all_drawn}
+use Rattle.chart_layout.specs.Ways.{IsArrival, IsWay, HasNoArrival, HaveNoArrival, HaveNoWay, IsNextRow, AreLaidOut}
+use Rattle.chart_layout.proofs.FindLemmas.{same_next, all_laid_out}
 
 -- what a line's next event may be
 abbrev pub IsFoundOn : Chart → List Row → ℕ → Option Arrival → Type 0
@@ -83,8 +83,8 @@ module _ (lines : List LineView) (rows : List Row) where
 
   -- what the last way says
   pub last_way : (hint : ℕ) → IsPossibleChart lines → AreInOrder rows → last_line rows ≡ suc hint → HaveNoArrival c n rows → HaveNoWay c n rows Level → (found : Option Row)
-      → MatchOption found (HaveNoWay c n rows Early) (λ row. IsWay c rows Early row × IsFirst c rows Early (suc hint) row) → MatchOption found (AreDrawn c n rows) (IsPicked c n rows)
-  last_way hint possible order last none level None early = all_drawn lines rows possible order none early
+      → MatchOption found (HaveNoWay c n rows Early) (λ row. IsWay c rows Early row × IsFirst c rows Early (suc hint) row) → MatchOption found (AreLaidOut c n rows) (IsPicked c n rows)
+  last_way hint possible order last none level None early = all_laid_out lines rows possible order none early
   last_way hint possible order last none level (Some row) way = picked_send hint row last none level way
 
   -- a row that is picked may be the next one

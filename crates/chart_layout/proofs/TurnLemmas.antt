@@ -15,7 +15,7 @@ use Rattle.chart_layout.specs.declared.finding.Way.TheVariants.{Level}
 use Rattle.chart_layout.specs.Layouts.{is_at, row_of}
 use Rattle.chart_layout.specs.Picking.{HasTurn, later, IsTurn, Comes, IsPicked, actors_of, actors, IsLayout}
 use Rattle.chart_layout.specs.Searching.{IsSendRow}
-use Rattle.chart_layout.specs.Ways.{IsNextEvent, IsWay, IsNextRow, AreDrawn}
+use Rattle.chart_layout.specs.Ways.{IsNextEvent, IsWay, IsNextRow, AreLaidOut}
 use Rattle.chart_layout.proofs.FindLemmas.{same_next}
 use Rattle.chart_layout.proofs.IndexLemmas.{is_at-true, is_at-same}
 use Rattle.chart_layout.proofs.BegunLemmas.{IsBegun, IsDrawing-from_begun}
@@ -114,8 +114,8 @@ module _ (lines : List LineView) (rows : List Row) (turns : List ℕ) where
   next_coming (Event e) (inl turn) = turn.1
   next_coming row (inr picked) = next_picked lines rows row picked.1
 
-  pub picked_coming : ((x : Row) → IsTurn (chart_lines lines) rows turns x → ⊥) → (found : Option Row) → MatchOption found (AreDrawn (chart_lines lines) (length lines) rows) (IsPicked (chart_lines lines) (length lines) rows)
-      → MatchOption found (AreDrawn (chart_lines lines) (length lines) rows) (Comes (chart_lines lines) (length lines) rows turns)
+  pub picked_coming : ((x : Row) → IsTurn (chart_lines lines) rows turns x → ⊥) → (found : Option Row) → MatchOption found (AreLaidOut (chart_lines lines) (length lines) rows) (IsPicked (chart_lines lines) (length lines) rows)
+      → MatchOption found (AreLaidOut (chart_lines lines) (length lines) rows) (Comes (chart_lines lines) (length lines) rows turns)
   picked_coming none None all = all
   picked_coming none (Some row) picked = inr (none, picked)
 
@@ -132,5 +132,5 @@ pub left-next : (turns : List ℕ) (rows : List Row) (row : Row) → drop (lengt
 left-next turns rows row = drop-drop (length (actors_of row)) (length (actors rows)) turns ∙ ap (λ k. drop k turns) (sym (actors_more rows row))
 
 -- where all events stand in the rows, these are the layout
-pub IsLayout-from_begun : (lines : List LineView) (turns : List ℕ) (rows : List Row) → IsBegun lines rows → OfEach (λ above row. Comes (chart_lines lines) (length lines) above (drop (length (actors above)) turns) row) rows → AreDrawn (chart_lines lines) (length lines) rows → IsLayout lines turns rows
+pub IsLayout-from_begun : (lines : List LineView) (turns : List ℕ) (rows : List Row) → IsBegun lines rows → OfEach (λ above row. Comes (chart_lines lines) (length lines) above (drop (length (actors above)) turns) row) rows → AreLaidOut (chart_lines lines) (length lines) rows → IsLayout lines turns rows
 IsLayout-from_begun lines turns rows begun comes all = record { drawing = IsDrawing-from_begun lines rows begun all; comes = comes }

@@ -7,7 +7,7 @@ use Rattle.chart.specs.Events.{ith}
 use Rattle.closure.specs.Faults.{place_of}
 use Rattle.chart_layout.specs.declared.row.Row.{Row}
 use Rattle.chart_layout.specs.declared.row.Row.TheVariants.{Message, Event}
-use Rattle.chart_layout.specs.Layouts.{drawn, row_of, IsNext}
+use Rattle.chart_layout.specs.Layouts.{laid_out, row_of, IsNext}
 
 -- what is kept for an instance
 abbrev pub line_at : List (List ℕ) → ℕ → List ℕ
@@ -17,7 +17,7 @@ line_at lines (suc p) = slice_index_or lines p []
 -- for each event that has a row the number of its row is kept, and nothing else is
 pub record IsIndex (rows : List Row) (lines : List (List ℕ)) : Type 0 where
   pub whole : length lines ≡ MAX_INSTANCES
-  pub counted : (p : ℕ) → length (line_at lines p) ≡ length (drawn rows p)
+  pub counted : (p : ℕ) → length (line_at lines p) ≡ length (laid_out rows p)
   pub each : (e : Place) → ith (line_at lines e.instance) e.index ≡ row_of rows e
 
 -- the number of a row was added for the event

@@ -19,9 +19,9 @@ row_on p (Message send receive) = number_on p send ++ number_on p receive
 row_on p (Event event) = number_on p event
 
 -- the numbers of p's events in rows, from the top on
-abbrev pub drawn : List Row → ℕ → List ℕ
-drawn [] p = []
-drawn (row ∷ rows) p = row_on p row ++ drawn rows p
+abbrev pub laid_out : List Row → ℕ → List ℕ
+laid_out [] p = []
+laid_out (row ∷ rows) p = row_on p row ++ laid_out rows p
 
 -- the event is at this place
 abbrev pub is_at : Place → EventNo → Bool
@@ -39,16 +39,16 @@ row_of (row ∷ rows) e = if has_event e row then Some 0 else option_map suc (ro
 
 -- below these rows the event is the next of its line
 abbrev pub IsNext : List Row → Place → Type 0
-IsNext rows e = e.index ≡ length (drawn rows e.instance) + 1
+IsNext rows e = e.index ≡ length (laid_out rows e.instance) + 1
 
 -- the events of each line that these rows have are its first ones, in their order
 abbrev pub AreInOrder : List Row → Type 0
-AreInOrder rows = (p : ℕ) → drawn rows p ≡ range_with_len 1 (length (drawn rows p))
+AreInOrder rows = (p : ℕ) → laid_out rows p ≡ range_with_len 1 (length (laid_out rows p))
 
 -- the rows draw the chart: each line's events go down in their order, the ends of a message in one row belong together,
 -- and a receive alone stands lower than its send
 pub record IsDrawing (lines : List LineView) (rows : List Row) : Type 0 where
-  pub order : (p : ℕ) → drawn rows p ≡ range_with_len 1 (length (chart_lines lines p))
+  pub order : (p : ℕ) → laid_out rows p ≡ range_with_len 1 (length (chart_lines lines p))
   pub level : (i : ℕ) (s r : EventNo) → slice_get rows i ≡ Some (Message s r)
       → BelongsTo (chart_lines lines) (place_of s) (place_of r)
   pub lower : (i : ℕ) (e : EventNo) (s : Place) → slice_get rows i ≡ Some (Event e)

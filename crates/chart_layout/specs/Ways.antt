@@ -7,7 +7,7 @@ use Rattle.chart_layout.specs.declared.row.Row.{Row}
 use Rattle.chart_layout.specs.declared.row.Row.TheVariants.{Message, Event}
 use Rattle.chart_layout.specs.declared.finding.Way.{Way}
 use Rattle.chart_layout.specs.declared.finding.Way.TheVariants.{Level, Early}
-use Rattle.chart_layout.specs.Layouts.{drawn, row_of, IsNext}
+use Rattle.chart_layout.specs.Layouts.{laid_out, row_of, IsNext}
 
 -- the event is there, and is the next of its line below these rows
 pub record IsNextEvent (c : Chart) (rows : List Row) (e : Place) : Type 0 where
@@ -61,5 +61,5 @@ IsNextRow c rows (Message send receive) = IsWay c rows Level (Message send recei
 IsNextRow c rows (Event event) = IsNextAlone c rows (place_of event)
 
 -- all events of the first n lines stand in these rows
-abbrev pub AreDrawn : Chart → ℕ → List Row → Type 0
-AreDrawn c n rows = (p : ℕ) → p < n → length (c (suc p)) ≤ length (drawn rows (suc p))
+abbrev pub AreLaidOut : Chart → ℕ → List Row → Type 0
+AreLaidOut c n rows = (p : ℕ) → p < n → length (c (suc p)) ≤ length (laid_out rows (suc p))

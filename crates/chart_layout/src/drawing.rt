@@ -21,11 +21,11 @@ fn line_of(row: &Row) -> usize
 
 /// The layout of a possible chart, whose events come in the order of these turns.
 ///
-/// As long as the turns fit the chart, each turn is that of the next event of its line, which has a row of its own; only
-/// a receive whose turn is right behind its send's is in the send's row. Where there are no turns, as of a chart that
-/// comes from no run, each row is the receive whose send is highest, of those whose sends have a row; where there is
-/// none, a message both of whose ends are next; and where there is none of both, a send. The last two are sought on the
-/// line of the row above first, and then on each line by its number.
+/// As long as the turns fit the chart, each turn is that of the next event of its line, which has a row of its own;
+/// only a receive whose turn is right behind its send's is in the send's row. Where there are no turns, as of a chart
+/// that comes from no run, each row is the receive whose send is highest, of those whose sends have a row; where there
+/// is none, a message both of whose ends are next; and where there is none of both, a send. The last two are sought on
+/// the line of the row above first, and then on each line by its number.
 ///
 /// For each row it looks at each line three times at most. F6: it fails only where there is no memory.
 pub fn layout(

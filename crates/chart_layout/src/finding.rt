@@ -5,10 +5,10 @@ ghost use Rattle.chart.specs.declared.line.TheConstants.{MAX_EVENTS};
 ghost use Rattle.chart.specs.Charts.{chart_event, chart_lines};
 ghost use Rattle.closure.specs.Closures.{IsPossibleChart};
 ghost use Rattle.closure.specs.Faults.{place_of};
-ghost use Rattle.chart_layout.specs.Layouts.{drawn, AreInOrder};
+ghost use Rattle.chart_layout.specs.Layouts.{laid_out, AreInOrder};
 ghost use Rattle.chart_layout.specs.Picking.{last_line, sought_on, IsFirst, IsPicked};
 ghost use Rattle.chart_layout.specs.Searching.{IsHighestOf, higher};
-ghost use Rattle.chart_layout.specs.Ways.{IsArrival, IsNextEvent, IsWay, HasNoArrival, HasNoWay, HaveNoWay, AreDrawn};
+ghost use Rattle.chart_layout.specs.Ways.{IsArrival, IsNextEvent, IsWay, HasNoArrival, HasNoWay, HaveNoWay, AreLaidOut};
 
 use crate::row::Row;
 use crate::rows::Layout;
@@ -58,17 +58,17 @@ pub(crate) fn next_of(closure: &Closure<'_>, layout: &Layout, line: usize) -> Op
     requires limit { length closure.now ≤ MAX_INSTANCES }
     requires line { line < length closure.now }
     ensures { MatchOption result
-        (length (chart_lines closure.now (suc line)) ≤ length (drawn layout.now (suc line)))
+        (length (chart_lines closure.now (suc line)) ≤ length (laid_out layout.now (suc line)))
         (λ event. (event.instance ≡ suc line) × IsNextEvent (chart_lines closure.now) layout.now (place_of event)) }
 {
     let instance = InstanceNo::at_place(line);
-    let drawn = layout.drawn(instance);
-    if drawn >= len_of(closure.lines(), line) {
+    let laid_out = layout.laid_out(instance);
+    if laid_out >= len_of(closure.lines(), line) {
         return None;
     }
     Some(EventNo {
         instance,
-        index: drawn as u32 + 1,
+        index: laid_out as u32 + 1,
     })
 }
 
@@ -136,9 +136,9 @@ fn row_with(closure: &Closure<'_>, layout: &Layout, way: Way, event: &EventNo) -
             Way::Level => None,
         };
     };
-    let drawn = layout.drawn(send.instance);
+    let laid_out = layout.laid_out(send.instance);
     match way {
-        Way::Level if send.index as usize - 1 == drawn => Some(Row::Message {
+        Way::Level if send.index as usize - 1 == laid_out => Some(Row::Message {
             send,
             receive: *event,
         }),
@@ -185,7 +185,7 @@ pub(crate) fn next_row(closure: &Closure<'_>, layout: &Layout, hint: usize) -> O
     requires possible { IsPossibleChart closure.now }
     requires order { AreInOrder layout.now }
     requires hint { (hint < length closure.now) × (last_line layout.now ≡ suc hint) }
-    ensures { MatchOption result (AreDrawn (chart_lines closure.now) (length closure.now) layout.now)
+    ensures { MatchOption result (AreLaidOut (chart_lines closure.now) (length closure.now) layout.now)
         (IsPicked (chart_lines closure.now) (length closure.now) layout.now) }
 {
     if let Some(arrival) = highest(closure, layout) {

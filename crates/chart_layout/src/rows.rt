@@ -3,7 +3,7 @@ ghost use Rattle.std.specs.Prelude.{◌≡◌, ◌++◌, ◌∷◌, [], length, 
 ghost use Rattle.chart.specs.Events.{ith};
 ghost use Rattle.chart.specs.declared.instance.TheConstants.{MAX_INSTANCES};
 ghost use Rattle.closure.specs.Faults.{place_of};
-ghost use Rattle.chart_layout.specs.Layouts.{drawn, row_of};
+ghost use Rattle.chart_layout.specs.Layouts.{laid_out, row_of};
 ghost use Rattle.chart_layout.specs.Indexes.{IsPut, ArePut, AreNext};
 
 use crate::row::Row;
@@ -121,8 +121,8 @@ impl Layout {
     }
 
     /// How many events of an instance have a row.
-    pub(crate) fn drawn(&self, instance: InstanceNo) -> usize
-        ensures { result ≡ length (drawn self.now instance) }
+    pub(crate) fn laid_out(&self, instance: InstanceNo) -> usize
+        ensures { result ≡ length (laid_out self.now instance) }
     {
         self.lines[instance.place()].len()
     }

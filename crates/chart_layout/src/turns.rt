@@ -9,7 +9,7 @@ ghost use Rattle.chart_layout.specs.declared.row.Row.{Row};
 ghost use Rattle.chart_layout.specs.Layouts.{is_at, AreInOrder};
 ghost use Rattle.chart_layout.specs.Picking.{HasTurn, IsTurn, Comes, actors_of, last_line, later};
 ghost use Rattle.chart_layout.specs.Searching.{IsSendRow};
-ghost use Rattle.chart_layout.specs.Ways.{IsNextEvent, AreDrawn};
+ghost use Rattle.chart_layout.specs.Ways.{IsNextEvent, AreLaidOut};
 
 use crate::finding::{next_of, next_row};
 use crate::row::Row;
@@ -99,7 +99,7 @@ pub(crate) fn row_below(
     requires possible { IsPossibleChart closure.now }
     requires order { AreInOrder layout.now }
     requires hint { (hint < length closure.now) × (last_line layout.now ≡ suc hint) }
-    ensures { MatchOption result (AreDrawn (chart_lines closure.now) (length closure.now) layout.now)
+    ensures { MatchOption result (AreLaidOut (chart_lines closure.now) (length closure.now) layout.now)
         (Comes (chart_lines closure.now) (length closure.now) layout.now turns.now) }
 {
     prove!(closure.len() >= 2);

@@ -1,6 +1,4 @@
 //! The command line of `mscview`: which command is asked for, and with which words.
-//!
-//! It is a crate of its own because it stands on `clap` alone: it is proved beside the crates that do the work.
 
 mod commands;
 mod reading;

@@ -18,8 +18,8 @@ pub const INLINE_ENTRIES: usize = 8;
 
 const _: () = prove!(INLINE_ENTRIES == 8);
 
-/// A vector time: one entry for each of 2 to [`MAX_INSTANCES`] instances (Fidge 1988, Mattern 1989). All of them are held
-/// in place.
+/// A vector time: one entry for each of 2 to [`MAX_INSTANCES`] instances (Fidge 1988, Mattern 1989). All of them are
+/// held in place.
 ///
 /// A contract sees the list of the entries, that of instance `p` at index `p - 1`.
 #[derive(Debug, Drop)]
@@ -151,11 +151,11 @@ impl Clock {
         Ok(diff)
     }
 
-    /// Makes the difference that of the entries that differ from `base`'s, as [`Clock::diff_from`] answers it, in place.
-    /// What it had is dropped, also where it is refused.
+    /// Makes the difference that of the entries that differ from `base`'s, as [`Clock::diff_from`] answers it, in
+    /// place. What it had is dropped, also where it is refused.
     ///
-    /// F6: it fails only where there is no memory for more than [`INLINE_ENTRIES`] changes. With fewer it takes none: up to
-    /// so many instances, and where one entry alone differs.
+    /// F6: it fails only where there is no memory for more than [`INLINE_ENTRIES`] changes. With fewer it takes none:
+    /// up to so many instances, and where one entry alone differs.
     #[inline(always)]
     pub fn diff_into(&self, base: &Clock, diff: &mut Diff) -> Result<(), AllocError>
         requires { length self.now ≡ length base.now }

@@ -17,8 +17,8 @@ pub struct Change {
     pub entry: u32,
 }
 
-/// What the unused places of a [`Diff`] hold. As a constant they are written by a few wide stores. A value that is made is
-/// written field by field, also what lies between its fields: three stores for each place.
+/// What the unused places of a [`Diff`] hold. As a constant they are written by a few wide stores. A value that is made
+/// is written field by field, also what lies between its fields: three stores for each place.
 const BLANKS: [Change; INLINE_ENTRIES] = [Change {
     instance: InstanceNo::FIRST,
     entry: 0,

@@ -18,8 +18,8 @@ pub(crate) fn raise(entries: &mut [u32], others: &[u32])
     }
 }
 
-/// Writes the entries that differ from the base's over the first places, each with its instance, and answers how many there
-/// are: none where they are more than the places.
+/// Writes the entries that differ from the base's over the first places, each with its instance, and answers how many
+/// there are: none where they are more than the places.
 #[inline(always)]
 pub(crate) fn find_few(
     entries: &[u32],

@@ -1,5 +1,5 @@
 pub mod BestLemmas
-pub mod CircleLemmas
+pub mod CycleLemmas
 pub mod FrontLemmas
 pub mod LeadLemmas
 pub mod PassLemmas

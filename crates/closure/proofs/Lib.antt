@@ -1,7 +1,7 @@
 pub mod BeforeLemmas
 pub mod ChainLemmas
-pub mod Circles
 pub mod CycleLemmas
+pub mod Cycles
 pub mod Impossible
 pub mod KnowLemmas
 pub mod LinkLemmas

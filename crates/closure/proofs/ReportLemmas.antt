@@ -10,7 +10,7 @@ use Rattle.chart.specs.declared.event.Event.TheVariants.{Send, Receive}
 use Rattle.chart.specs.declared.instance.EventNo.{EventNo}
 use Rattle.chart.specs.Events.{is_send_to, is_receive_from, region_of}
 use Rattle.chart.specs.Charts.{Chart, Place, at, chart_event, LineView, BelongsTo, IsNumbered, chart_lines}
-use Rattle.chart.specs.Order.{IsRaces, region_of_event}
+use Rattle.chart.specs.Order.{AreLineRaces, region_of_event}
 use Rattle.chart.specs.Knowing.{IsKnown}
 use Rattle.chart.specs.Reports.{ReportView, IsReportIn, AreReports, receives_from, receives_of}
 use Rattle.chart.proofs.ReportLists.{receives-send, receives-receive}
@@ -21,7 +21,7 @@ use Rattle.closure.specs.Reported.{HaveReported, IsReportAt, line_front}
 
 -- the races later than what the send knows are the report
 pub IsReportIn-from_races : (c : Chart) (s : Place) (p k entry region : ℕ) (m : Event) (earlier : List EventNo) → BelongsTo c s (at p (suc k)) → chart_event c (at p (suc k)) ≡ Some m → region ≡ region_of m → IsKnown c s p entry
-    → IsRaces (take k (c p)) entry s.instance region (map (λ e. e.index) earlier) → All (λ e. e.instance ≡ p) earlier → IsReportIn c (record { receive = record { instance = p; index = k + 1 }; earlier = earlier })
+    → AreLineRaces (take k (c p)) entry s.instance region (map (λ e. e.index) earlier) → All (λ e. e.instance ≡ p) earlier → IsReportIn c (record { receive = record { instance = p; index = k + 1 }; earlier = earlier })
 IsReportIn-from_races c s p k entry region m earlier belongs is of_region known races own = record {
   exact = report_from_races c s p k entry region (map (λ e. e.index) earlier) (subst (λ i. BelongsTo c s (at p i)) (sym (add-one k)) belongs) (ap (λ i. region_of_event (chart_event c (at p i))) (add-one k) ∙ ap region_of_event is ∙ sym of_region) known races;
   line = own;

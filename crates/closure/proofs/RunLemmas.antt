@@ -26,7 +26,7 @@ use Rattle.closure.specs.Links.{HasSameName}
 use Rattle.closure.specs.Runs.{next_of, IsReady, IsStopped, AreStopped}
 use Rattle.closure.proofs.ReadLemmas.{empty_line, front_next, line_short, partner_other}
 use Rattle.closure.proofs.LinkLemmas.{tally_pass}
-use Rattle.closure.proofs.Circles.{circle, HasCircle}
+use Rattle.closure.proofs.Cycles.{cycle, HasCycle}
 
 -- a legal history with no close has made so many events of each line
 pub record IsMade (n : ℕ) (c : Chart) (made : List ℕ) : Type 0 where
@@ -213,13 +213,13 @@ IsPossible-from_made lines made is all = (is.history, MAX_EVENTS, is.legal, λ p
 -- where lines are left and no event can be made, an event is before itself
 pub IsCyclic-from_stopped : (c : Chart) (n : ℕ) (made : List ℕ) → AreStopped c n made → (p : ℕ) → p < n → slice_index made p < length (c (suc p)) → IsCyclic c
 IsCyclic-from_stopped c n made stopped p inside more =
-    let found = circle (λ a b. Before c (next_of made a) (next_of made b)) (λ a b d x y. through x y) n (λ x. (x < n) × (slice_index made x < length (c (suc x)))) (λ x h. h.0) waits p (inside, more) in
+    let found = cycle (λ a b. Before c (next_of made a) (next_of made b)) (λ a b d x y. through x y) n (λ x. (x < n) × (slice_index made x < length (c (suc x)))) (λ x h. h.0) waits p (inside, more) in
     (next_of made found.0, found.1)
   where
-    waits : (x : ℕ) → (x < n) × (slice_index made x < length (c (suc x))) → ((y : ℕ) × ((y < n) × (slice_index made y < length (c (suc y)))) × Before c (next_of made y) (next_of made x)) ⊎ HasCircle (λ a b. Before c (next_of made a) (next_of made b))
+    waits : (x : ℕ) → (x < n) × (slice_index made x < length (c (suc x))) → ((y : ℕ) × ((y < n) × (slice_index made y < length (c (suc y)))) × Before c (next_of made y) (next_of made x)) ⊎ HasCycle (λ a b. Before c (next_of made a) (next_of made b))
     waits x (x_in, unfinished) = by_reason (stopped x x_in)
       where
-        by_reason : IsStopped c n made x → ((y : ℕ) × ((y < n) × (slice_index made y < length (c (suc y)))) × Before c (next_of made y) (next_of made x)) ⊎ HasCircle (λ a b. Before c (next_of made a) (next_of made b))
+        by_reason : IsStopped c n made x → ((y : ℕ) × ((y < n) × (slice_index made y < length (c (suc y)))) × Before c (next_of made y) (next_of made x)) ⊎ HasCycle (λ a b. Before c (next_of made a) (next_of made b))
         by_reason (inl done) = absurd (omega arith)
         by_reason (inr (q, j, q_in, belongs, later)) =
             let event = IsEvent-from_passes c (is_send_to (suc x)) (at (suc q) j) belongs.sent in

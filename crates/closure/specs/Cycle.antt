@@ -1,4 +1,4 @@
-pub mod Circles
+pub mod Cycles
 pub mod Fronts
 pub mod Rounds
 pub mod Turns

@@ -19,10 +19,10 @@ Named = List (List ℕ) × List LineView
 
 -- what was read is what the text says, or the error is what is wrong with the text, memory aside
 abbrev pub Reads : {A : Type 0} → Result A ProgramError → Result A Fault → Type 0
-Reads (Ok read) said = said ≡ Ok read
-Reads (Err errors.Memory) said = Unit {0}
-Reads (Err (errors.Text fault)) said = said ≡ Err fault
-Reads (Err _) said = ⊥
+Reads (Ok read) exit = exit ≡ Ok read
+Reads (Err errors.Memory) exit = Unit {0}
+Reads (Err (errors.Text fault)) exit = exit ≡ Err fault
+Reads (Err _) exit = ⊥
 
 -- the first of some words is a schedule's
 abbrev pub begins_schedule : List (List ℕ) → Bool

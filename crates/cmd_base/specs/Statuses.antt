@@ -1,6 +1,6 @@
 -- The exit status by whether there are races, of which nothing is told beside it.
 use Rattle.std.specs.Prelude.{ℕ, Bool, None, if◌then◌else◌}
-use Rattle.cmd_base.specs.Answers.{Said}
+use Rattle.cmd_base.specs.Answers.{Exit}
 use Rattle.cmd_base.specs.declared.status.Status.{Status}
 use Rattle.cmd_base.specs.declared.status.Status.TheVariants.{NoRaces, Races}
 
@@ -14,5 +14,5 @@ code_of NoRaces = 0
 code_of Races = 1
 
 -- nothing is told beside the status
-abbrev pub status_said : Status → Said
-status_said status = record { status = code_of status; told = None }
+abbrev pub status_exit : Status → Exit
+status_exit status = record { status = code_of status; diagnostics = None }

@@ -10,7 +10,7 @@ use Rattle.cmd_base.specs.declared.text.NamedChart.{NamedChart}
 use Rattle.cmd_base.specs.declared.text.Text.{Text}
 use Rattle.cmd_base.specs.declared.text.Text.TheVariants.{Schedule, Chart}
 use Rattle.cmd_base.specs.declared.source.Source.{Source}
-use Rattle.cmd_base.specs.declared.source.Source.TheVariants.{Run, Drawn}
+use Rattle.cmd_base.specs.declared.source.Source.TheVariants.{Run, Written}
 use Rattle.cmd_base.specs.Files.{Named, is_schedule, chart_part, Reads, HasFault}
 
 -- the chart is what the bytes say, or they have the fault, memory aside
@@ -32,27 +32,27 @@ ReadsText (Err _) bytes = ⊥
 -- the chart, with its names
 abbrev pub named_of : Source → Named
 named_of (Run schedule outcome) = (outcome.names, outcome.chart)
-named_of (Drawn named) = named.now
+named_of (Written named) = named.now
 
 -- a run is what its schedule comes to
 abbrev pub ComesFrom : Source → Type 0
 ComesFrom (Run schedule outcome) = IsOutcome schedule.now outcome
-ComesFrom (Drawn named) = Unit {0}
+ComesFrom (Written named) = Unit {0}
 
 -- the text is the source's
 abbrev pub IsOf : Text → Source → Type 0
 IsOf (Schedule plan) (Run schedule outcome) = schedule.now ≡ plan
-IsOf (Schedule plan) (Drawn named) = ⊥
+IsOf (Schedule plan) (Written named) = ⊥
 IsOf (Chart named) (Run schedule outcome) = ⊥
-IsOf (Chart named) (Drawn drawn) = drawn.now ≡ named
+IsOf (Chart named) (Written written) = written.now ≡ named
 
 -- the chart comes from the text: it is the text's own, or what its schedule comes to
 abbrev pub IsSourceOf : Text → Source → Type 0
 IsSourceOf text source = IsOf text source × ComesFrom source
 
 -- the bytes say the chart
-abbrev pub IsSaid : List ℕ → Source → Type 0
-IsSaid bytes source = (text : Text) × IsText bytes text × IsSourceOf text source
+abbrev pub IsReadAs : List ℕ → Source → Type 0
+IsReadAs bytes source = (text : Text) × IsText bytes text × IsSourceOf text source
 
 -- What came of the chart that the bytes say, by what may come of each; or memory ran out, or the bytes have a fault,
 -- and nothing was written. A program's own refusals have those of its files among them, by `program`.
@@ -60,4 +60,4 @@ abbrev pub OfFile : {S T E : Type 0} → (ProgramError → E) → (Source → Re
     → Type 0
 OfFile program Does old new bytes done = ((done ≡ Err (program errors.Memory)) × (new ≡ old))
     ⊎ (((fault : Fault) × (done ≡ Err (program (errors.Text fault))) × HasFault bytes fault × (new ≡ old))
-    ⊎ ((source : Source) × IsSaid bytes source × Does source done))
+    ⊎ ((source : Source) × IsReadAs bytes source × Does source done))

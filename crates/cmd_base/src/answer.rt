@@ -1,6 +1,6 @@
 //! What is told of what was done: the exit status, and a text on standard error.
 ghost use Rattle.std.specs.Prelude.{◌≡◌, None};
-ghost use Rattle.cmd_base.specs.Answers.{Said, program_said, said_of, Tells};
+ghost use Rattle.cmd_base.specs.Answers.{Exit, program_exit, exit_of, Prints};
 ghost use Rattle.cmd_base.specs.Refusals.{Tried};
 ghost use Rattle.texts.specs.Writing.{Wrote};
 
@@ -11,60 +11,60 @@ use texts::{Out, TextBuffer, WriteError};
 /// What something came to, done or refused, as a program tells it.
 pub trait Answer {
     /// The exit status, and what is told on standard error.
-    ghost said: { Self → Said };
+    ghost exit: { Self → Exit };
 
     /// The exit status: 0, or 1 where what was asked about is so; 2 after a refusal.
     fn status(&self) -> u8
-        ensures { result ≡ (said self.now).status };
+        ensures { result ≡ (exit self.now).status };
 
     /// Writes what is told to standard error, or a beginning of it where a write fails. Where there is nothing to tell,
     /// it does nothing.
-    fn tell<V: Out>(&self, err: &mut V)
-        ensures { Tells V.sink err.old err.new (said self.now).told };
+    fn print_diagnostics<V: Out>(&self, err: &mut V)
+        ensures { Prints V.sink err.old err.new (exit self.now).diagnostics };
 }
 
 #[tactic(auto, using(texts::proofs::Writes::joining))]
-fn write_told<V: Out>(told: &[u8], err: &mut V) -> Result<(), WriteError>
-    ensures { Wrote V.sink err.old err.new result told.now }
+fn write_diagnostics<V: Out>(diagnostics: &[u8], err: &mut V) -> Result<(), WriteError>
+    ensures { Wrote V.sink err.old err.new result diagnostics.now }
 {
     let mut text = TextBuffer::new(err);
-    text.add(told)?;
+    text.add(diagnostics)?;
     text.finish()
 }
 
 /// Writes what is told, or a beginning of it where that fails.
-pub fn tell<V: Out>(told: &[u8], err: &mut V)
-    ensures { Tried V.sink err.old err.new told.now }
+pub fn print_diagnostics<V: Out>(diagnostics: &[u8], err: &mut V)
+    ensures { Tried V.sink err.old err.new diagnostics.now }
 {
-    let _ = write_told(told, err);
+    let _ = write_diagnostics(diagnostics, err);
 }
 
 /// Nothing to tell: status 0.
 impl Answer for () {
-    ghost said = { λ _. record { status = 0; told = None } };
+    ghost exit = { λ _. record { status = 0; diagnostics = None } };
 
     fn status(&self) -> u8 {
         0
     }
 
-    fn tell<V: Out>(&self, _err: &mut V) {}
+    fn print_diagnostics<V: Out>(&self, _err: &mut V) {}
 }
 
 /// A refusal's line, with status 2.
 impl Answer for ProgramError {
-    ghost said = { program_said };
+    ghost exit = { program_exit };
 
     fn status(&self) -> u8 {
         2
     }
 
-    fn tell<V: Out>(&self, err: &mut V) {
+    fn print_diagnostics<V: Out>(&self, err: &mut V) {
         let _ = refused(self, err);
     }
 }
 
 impl<T: Answer, E: Answer> Answer for Result<T, E> {
-    ghost said = { said_of T.said E.said };
+    ghost exit = { exit_of T.exit E.exit };
 
     fn status(&self) -> u8 {
         match self {
@@ -73,19 +73,19 @@ impl<T: Answer, E: Answer> Answer for Result<T, E> {
         }
     }
 
-    fn tell<V: Out>(&self, err: &mut V) {
+    fn print_diagnostics<V: Out>(&self, err: &mut V) {
         match self {
-            Ok(done) => done.tell(err),
-            Err(error) => error.tell(err),
+            Ok(done) => done.print_diagnostics(err),
+            Err(error) => error.print_diagnostics(err),
         }
     }
 }
 
 /// Tells what something came to, and answers the exit status. A failed write to `err` changes nothing.
 pub fn answered<A: Answer, V: Out>(answer: &A, err: &mut V) -> u8
-    ensures status { result ≡ (A.said answer.now).status }
-    ensures told { Tells V.sink err.old err.new (A.said answer.now).told }
+    ensures status { result ≡ (A.exit answer.now).status }
+    ensures diagnostics { Prints V.sink err.old err.new (A.exit answer.now).diagnostics }
 {
-    answer.tell(err);
+    answer.print_diagnostics(err);
     answer.status()
 }

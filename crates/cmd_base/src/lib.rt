@@ -27,7 +27,7 @@ mod source;
 mod status;
 mod text;
 
-pub use answer::{Answer, answered, tell};
+pub use answer::{Answer, answered, print_diagnostics};
 pub use charts::{chart_in, closure_of};
 pub use error::ProgramError;
 pub use kind::is_schedule;

@@ -16,7 +16,7 @@ pub enum Source<'a> {
     /// A schedule, with what it came to.
     Run(&'a Schedule, Outcome<'a>),
     /// The chart's own text.
-    Drawn(&'a NamedChart),
+    Written(&'a NamedChart),
 }
 
 impl<'a> Source<'a> {
@@ -26,7 +26,7 @@ impl<'a> Source<'a> {
         ensures memory { IfErr result (λ error. error ≡ ProgramError.Memory) }
     {
         match text {
-            Text::Chart(chart) => Ok(Source::Drawn(chart)),
+            Text::Chart(chart) => Ok(Source::Written(chart)),
             Text::Schedule(schedule) => match replay(alloc, schedule) {
                 Ok(outcome) => Ok(Source::Run(schedule, outcome)),
                 Err(ReplayError::Memory) => Err(ProgramError::Memory),
@@ -40,7 +40,7 @@ impl<'a> Source<'a> {
     {
         match self {
             Source::Run(_, outcome) => outcome.names(),
-            Source::Drawn(drawn) => drawn.names(),
+            Source::Written(written) => written.names(),
         }
     }
 
@@ -51,7 +51,7 @@ impl<'a> Source<'a> {
     {
         match self {
             Source::Run(_, outcome) => outcome.chart(),
-            Source::Drawn(drawn) => drawn.chart(),
+            Source::Written(written) => written.chart(),
         }
     }
 }

@@ -1,6 +1,6 @@
 //! The exit status by whether there are races.
 ghost use Rattle.std.specs.Prelude.{◌≡◌};
-ghost use Rattle.cmd_base.specs.Statuses.{status_in, code_of, status_said};
+ghost use Rattle.cmd_base.specs.Statuses.{status_in, code_of, status_exit};
 
 use crate::answer::Answer;
 use texts::Out;
@@ -39,11 +39,11 @@ impl Status {
 
 /// Nothing is told beside the status.
 impl Answer for Status {
-    ghost said = { status_said };
+    ghost exit = { status_exit };
 
     fn status(&self) -> u8 {
         self.code()
     }
 
-    fn tell<V: Out>(&self, _err: &mut V) {}
+    fn print_diagnostics<V: Out>(&self, _err: &mut V) {}
 }

@@ -101,7 +101,7 @@ module _ (others : List ℕ) (c d : Chart) (p : ℕ) (found : List (Option ℕ))
       subst (λ (x : Pair). IsDifference others c d p (judged_so x)) its.5 (record {
         line = refl;
         less = omega (arith, w.2);
-        turned = its.4;
+        reordered = its.4;
         earlier = first;
         later = second;
         here = verdict_right c p fronts (w.0 + 1) (w.1 + 1) here (omega arith) (omega (arith, w.2)) (omega (arith, w.3, whole));
@@ -113,7 +113,7 @@ module _ (others : List ℕ) (c d : Chart) (p : ℕ) (found : List (Option ℕ))
       let q = other_of others p in
       let e = there_found others (c p) (d q) found are whole x.pair.earlier x.pair.earlier_there is.earlier in
       let f = there_found others (c p) (d q) found are whole x.pair.later x.pair.later_there is.later in
-      let has = has-pair_by (e.0 + 1) (f.0 + 1) x.pair.earlier_there x.pair.later_there (found_at found e.0) (found_at found f.0) e.3 f.3 is.turned in
+      let has = has-pair_by (e.0 + 1) (f.0 + 1) x.pair.earlier_there x.pair.later_there (found_at found e.0) (found_at found f.0) e.3 f.3 is.reordered in
       let pair : Pair = record { earlier = e.0 + 1; later = f.0 + 1; earlier_there = x.pair.earlier_there; later_there = x.pair.later_there } in
       let same : pair ≡ x.pair = ap (λ i. record { earlier = i; later = f.0 + 1; earlier_there = x.pair.earlier_there; later_there = x.pair.later_there }) (sym e.1) ∙ ap (λ j. record { earlier = x.pair.earlier; later = j; earlier_there = x.pair.earlier_there; later_there = x.pair.later_there }) (sym f.1) in
       let in_list = has-pairs_to found (length found) e.0 f.0 pair (omega (arith, is.less, e.1, f.1)) f.2 has in
@@ -150,7 +150,7 @@ no_differences others c d p found are whole none = record {
         let q = other_of others p in
         let e = there_found others (c p) (d q) found are whole x.pair.earlier x.pair.earlier_there is.earlier in
         let f = there_found others (c p) (d q) found are whole x.pair.later x.pair.later_there is.later in
-        let has = has-pair_by (e.0 + 1) (f.0 + 1) x.pair.earlier_there x.pair.later_there (found_at found e.0) (found_at found f.0) e.3 f.3 is.turned in
+        let has = has-pair_by (e.0 + 1) (f.0 + 1) x.pair.earlier_there x.pair.later_there (found_at found e.0) (found_at found f.0) e.3 f.3 is.reordered in
         let pair : Pair = record { earlier = e.0 + 1; later = f.0 + 1; earlier_there = x.pair.earlier_there; later_there = x.pair.later_there } in
         let in_list = has-pairs_to found (length found) e.0 f.0 pair (omega (arith, is.less, e.1, f.1)) f.2 has in
         absurd (has_none pair (subst (λ (l : List Pair). Contains l pair) none in_list))

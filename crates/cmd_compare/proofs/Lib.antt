@@ -1,4 +1,4 @@
-pub mod TellingLemmas
+pub mod ComparedLemmas
 pub mod DifferenceLemmas
 pub mod MatchLemmas
 pub mod NamingLemmas

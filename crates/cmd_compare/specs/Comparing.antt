@@ -28,7 +28,7 @@ pub record HasNoCounterpart (names others_names : List (List ℕ)) (name : List 
 pub record IsDifference (others : List ℕ) (c d : Chart) (p : ℕ) (x : Difference) : Type 0 where
   pub line : x.instance ≡ p
   pub less : x.pair.earlier < x.pair.later
-  pub turned : x.pair.later_there < x.pair.earlier_there
+  pub reordered : x.pair.later_there < x.pair.earlier_there
   pub earlier : AreOne others (c p) (d (other_of others p)) x.pair.earlier x.pair.earlier_there
   pub later : AreOne others (c p) (d (other_of others p)) x.pair.later x.pair.later_there
   pub here : IsVerdict c (at p x.pair.earlier) (at p x.pair.later) x.here

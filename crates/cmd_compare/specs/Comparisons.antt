@@ -19,7 +19,7 @@ use Rattle.cmd_compare.specs.declared.comparison_text.Form.TheVariants.{Plain, J
 use Rattle.cmd_compare.specs.declared.comparison_text.Owner.{Owner}
 use Rattle.cmd_compare.specs.declared.comparison_text.Owner.TheVariants.{First, Second}
 use Rattle.cmd_compare.specs.declared.showing.Found.{Found}
-use Rattle.cmd_compare.specs.declared.showing.Found.TheVariants.{Same, Turned}
+use Rattle.cmd_compare.specs.declared.showing.Found.TheVariants.{Same, Reordered}
 use Rattle.cmd_compare.specs.declared.word.Word.{Word}
 use Rattle.cmd_compare.specs.declared.word.Word.TheVariants as words
 use Rattle.cmd_compare.specs.PlainText.{plain_difference, plain_only}
@@ -60,11 +60,11 @@ abbrev pub has_difference : LineComparison → Bool
 has_difference line = some_difference line.differences.items
 
 abbrev pub found_in : Bool → Found
-found_in true = Turned
+found_in true = Reordered
 found_in false = Same
 
 -- what is told of two charts, and whether there is a pair
-pub record IsTold (form : Form) (a b : Named) (text : List ℕ) (found : Found) : Type 0 where
+pub record IsCompared (form : Form) (a b : Named) (text : List ℕ) (found : Found) : Type 0 where
   pub others : List ℕ
   pub back : List ℕ
   pub lines : List LineComparison
@@ -93,12 +93,12 @@ module _ {S : Type 0} (sink : S → Sink) where
   abbrev pub Compares : S → S → Form → Named → Named → Result Found CompareError → Type 0
   Compares old new form a b (Ok found) = IsPossible (length a.1) (chart_lines a.1)
       × IsPossible (length b.1) (chart_lines b.1)
-      × ((text : List ℕ) × IsTold form a b text found × Puts sink old new text)
+      × ((text : List ℕ) × IsCompared form a b text found × Puts sink old new text)
   Compares old new form a b (Err (OtherInstances name)) = HaveOtherInstances a b name × (new ≡ old)
   Compares old new form a b (Err (Program errors.Memory)) = new ≡ old
   Compares old new form a b (Err (Program errors.Write)) = IsPossible (length a.1) (chart_lines a.1)
       × IsPossible (length b.1) (chart_lines b.1)
-      × ((text : List ℕ) × (found : Found) × IsTold form a b text found × Breaks sink old new text)
+      × ((text : List ℕ) × (found : Found) × IsCompared form a b text found × Breaks sink old new text)
   Compares old new form a b (Err (Program error)) = (IsRefused error a ⊎ IsRefused error b) × (new ≡ old)
 
   -- the same of what two files say, of which the first is looked at first

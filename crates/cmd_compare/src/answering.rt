@@ -1,5 +1,5 @@
 //! What is told of a comparison: the exit status, and a refusal's line.
-ghost use Rattle.cmd_compare.specs.Answers.{error_said, found_said};
+ghost use Rattle.cmd_compare.specs.Answers.{error_exit, found_exit};
 
 use crate::error::CompareError;
 use crate::showing::Found;
@@ -8,13 +8,13 @@ use cmd_base::{Answer, refused};
 use texts::Out;
 
 impl Answer for CompareError {
-    ghost said = { error_said };
+    ghost exit = { error_exit };
 
     fn status(&self) -> u8 {
         2
     }
 
-    fn tell<V: Out>(&self, err: &mut V) {
+    fn print_diagnostics<V: Out>(&self, err: &mut V) {
         match self {
             CompareError::Program(cause) => {
                 let _ = refused(cause, err);
@@ -27,14 +27,14 @@ impl Answer for CompareError {
 }
 
 impl Answer for Found {
-    ghost said = { found_said };
+    ghost exit = { found_exit };
 
     fn status(&self) -> u8 {
         match self {
             Found::Same => 0,
-            Found::Turned => 1,
+            Found::Reordered => 1,
         }
     }
 
-    fn tell<V: Out>(&self, _err: &mut V) {}
+    fn print_diagnostics<V: Out>(&self, _err: &mut V) {}
 }

@@ -4,7 +4,7 @@ ghost use Rattle.std.specs.List.{list_any};
 ghost use Rattle.cmd_base.specs.Answers.{Answers};
 ghost use Rattle.cmd_base.specs.Texts.{OfFile, named_of};
 ghost use Rattle.cmd_compare.specs.declared.error.CompareError.TheVariants.{Program};
-ghost use Rattle.cmd_compare.specs.Answers.{compare_said};
+ghost use Rattle.cmd_compare.specs.Answers.{compare_exit};
 ghost use Rattle.cmd_compare.specs.Comparisons.{has_difference, some_difference, found_in, Compares, ComparesFiles};
 
 use crate::comparison::{LineComparison, Recordings, compared};
@@ -24,7 +24,7 @@ pub(crate) enum Found {
     /// No two events that both have stand the other way round.
     Same,
     /// Some do.
-    Turned,
+    Reordered,
 }
 
 fn some_difference(differences: &[Difference]) -> bool
@@ -42,7 +42,7 @@ fn found_on(lines: &[LineComparison]) -> Found
 {
     for line in lines {
         if some_difference(line.differences.as_slice()) {
-            return Found::Turned;
+            return Found::Reordered;
         }
     }
     Found::Same
@@ -147,7 +147,7 @@ pub fn compare<W: Out, V: Out>(
     out: &mut W,
     err: &mut V,
 ) -> u8
-    ensures { Answers (ComparesFiles W.sink out.old out.new form first.now second.now) compare_said V.sink err.old
+    ensures { Answers (ComparesFiles W.sink out.old out.new form first.now second.now) compare_exit V.sink err.old
         err.new result }
 {
     answered(&compare_texts(alloc, first, second, form, out), err)

@@ -17,15 +17,15 @@ use Rattle.chart_layout.specs.declared.row.Row.{Row}
 use Rattle.texts.specs.Outs.{Sink}
 use Rattle.texts.specs.Writing.{Puts, Breaks}
 use Rattle.cmd_base.specs.declared.error.ProgramError.TheVariants as errors
-use Rattle.cmd_base.specs.Answers.{Said, said_of}
+use Rattle.cmd_base.specs.Answers.{Exit, exit_of}
 use Rattle.cmd_base.specs.Texts.{OfFile, named_of}
 use Rattle.cmd_base.specs.Files.{Named, IsRefused}
 use Rattle.cmd_base.specs.declared.columns.error.FormatError.{FormatError}
 use Rattle.cmd_base.specs.declared.columns.error.FormatError.TheVariants.{Program, NoSuchName}
-use Rattle.cmd_draw.specs.declared.exporting.Told.{Told}
+use Rattle.cmd_draw.specs.declared.exporting.Diagnostics.{Diagnostics}
 use Rattle.cmd_draw.specs.declared.target.Target.{Target}
 use Rattle.cmd_draw.specs.declared.target.Target.TheVariants.{Diagram, ShiViz}
-use Rattle.cmd_base.specs.Columns.Answers.{error_said}
+use Rattle.cmd_base.specs.Columns.Answers.{error_exit}
 use Rattle.cmd_draw.specs.Preparing.{turns_in, IsPrepared}
 
 -- the tool that an export is for; a log is the same for each
@@ -48,8 +48,8 @@ has_parted_in (Diagram tool) v = has_parted v
 has_parted_in ShiViz v = false
 
 -- what is to be told beside the text
-abbrev pub told_of : Target → ExportView → Told
-told_of target v = record { parted = has_parted_in target v; regions = list_any has_region v.lines }
+abbrev pub diagnostics_of : Target → ExportView → Diagnostics
+diagnostics_of target v = record { parted = has_parted_in target v; regions = list_any has_region v.lines }
 
 -- what is said of it
 unfoldable pub parted_text : Bool → List ℕ
@@ -58,11 +58,11 @@ parted_text parted = if parted then codes "a message that isn't level is two not
 unfoldable pub regions_text : Bool → List ℕ
 regions_text regions = if regions then codes "coregions are left out\n" else []
 
-unfoldable pub both_text : Told → List ℕ
-both_text told = parted_text told.parted ++ regions_text told.regions
+unfoldable pub both_text : Diagnostics → List ℕ
+both_text diagnostics = parted_text diagnostics.parted ++ regions_text diagnostics.regions
 
-abbrev pub told_text : Told → Option (List ℕ)
-told_text told = if told.parted || told.regions then Some (both_text told) else None
+abbrev pub diagnostics_text : Diagnostics → Option (List ℕ)
+diagnostics_text diagnostics = if diagnostics.parted || diagnostics.regions then Some (both_text diagnostics) else None
 
 -- the export is that of the chart, which is possible
 pub record IsExported (target : Target) (turns : List ℕ) (named : Named) (v : ExportView) : Type 0 where
@@ -85,8 +85,8 @@ module _ {S : Type 0} (sink : S → Sink) where
 
   -- the text was written; or a beginning of it, where a put failed; or nothing, where the chart is not possible or
   -- memory ran out
-  abbrev pub Exports : S → S → Result Told FormatError → Target → List ℕ → Named → Type 0
-  Exports old new (Ok told) target turns named = (v : ExportView) × IsExported target turns named v × (told ≡ told_of target v)
+  abbrev pub Exports : S → S → Result Diagnostics FormatError → Target → List ℕ → Named → Type 0
+  Exports old new (Ok diagnostics) target turns named = (v : ExportView) × IsExported target turns named v × (diagnostics ≡ diagnostics_of target v)
       × Puts sink old new (text_of target v)
   Exports old new (Err NoSuchName) target turns named = ⊥
   Exports old new (Err (Program errors.Memory)) target turns named = new ≡ old
@@ -95,13 +95,13 @@ module _ {S : Type 0} (sink : S → Sink) where
   Exports old new (Err (Program error)) target turns named = IsRefused error named × (new ≡ old)
 
   -- the same for the chart that the bytes say; or nothing was written, where the bytes have a fault
-  abbrev pub ExportsText : S → S → Target → List ℕ → Result Told FormatError → Type 0
+  abbrev pub ExportsText : S → S → Target → List ℕ → Result Diagnostics FormatError → Type 0
   ExportsText old new target bytes =
       OfFile Program (λ source done. Exports old new done target (turns_in source) (named_of source)) old new bytes
 
 -- what is said of what was exported
-abbrev pub told_said : Told → Said
-told_said told = record { status = 0; told = told_text told }
+abbrev pub diagnostics_exit : Diagnostics → Exit
+diagnostics_exit diagnostics = record { status = 0; diagnostics = diagnostics_text diagnostics }
 
-abbrev pub export_said : Result Told FormatError → Said
-export_said = said_of told_said error_said
+abbrev pub export_exit : Result Diagnostics FormatError → Exit
+export_exit = exit_of diagnostics_exit error_exit

@@ -1,3 +1,3 @@
 pub mod Drawing
-pub mod Told
+pub mod Diagnostics
 pub mod Turns

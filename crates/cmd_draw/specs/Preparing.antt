@@ -7,7 +7,7 @@ use Rattle.chart_layout.specs.declared.row.Row.{Row}
 use Rattle.chart_layout.specs.Picking.{IsLayout}
 use Rattle.chart_layout.specs.Ends.{AreEnds}
 use Rattle.cmd_base.specs.declared.source.Source.{Source}
-use Rattle.cmd_base.specs.declared.source.Source.TheVariants.{Run, Drawn}
+use Rattle.cmd_base.specs.declared.source.Source.TheVariants.{Run, Written}
 use Rattle.schedule.specs.Turns.Turns.{turns_of}
 use Rattle.cmd_draw.specs.declared.preparing.Reports.{Reports}
 use Rattle.cmd_draw.specs.declared.preparing.Reports.TheVariants.{Replayed, Searched}
@@ -20,7 +20,7 @@ reports_in (Searched reports) = reports.items
 -- whose turn it was, one event after another, in the run that the chart comes from; a chart's own text has no run
 abbrev pub turns_in : Source → List ℕ
 turns_in (Run schedule outcome) = turns_of schedule.now.commands outcome.notes
-turns_in (Drawn named) = []
+turns_in (Written named) = []
 
 -- the rows are the layout of the chart with these lines for these turns, and the table has the other ends of its
 -- messages

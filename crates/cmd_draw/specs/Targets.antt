@@ -6,12 +6,12 @@ use Rattle.cmd_draw.specs.declared.target.Target.{Target}
 use Rattle.cmd_draw.specs.declared.target.Target.TheVariants.{Diagram, ShiViz}
 
 -- the tool that a word names
-abbrev pub tool_said : List ℕ → Option Tool
-tool_said word =
+abbrev pub tool_named : List ℕ → Option Tool
+tool_named word =
     if bytes_eq word (codes "mscgen") then Some Mscgen else
     (if bytes_eq word (codes "plantuml") then Some PlantUml else
     (if bytes_eq word (codes "mermaid") then Some Mermaid else None))
 
 -- what a word says to export to
-abbrev pub target_said : List ℕ → Option Target
-target_said word = if bytes_eq word (codes "shiviz") then Some ShiViz else option_map Diagram (tool_said word)
+abbrev pub target_named : List ℕ → Option Target
+target_named word = if bytes_eq word (codes "shiviz") then Some ShiViz else option_map Diagram (tool_named word)

@@ -9,7 +9,7 @@ use Rattle.cmd_draw.specs.declared.windows.Around as arounds
 use Rattle.cmd_draw.specs.declared.windows.Rows.{Rows}
 use Rattle.cmd_draw.specs.declared.windows.Rows.TheVariants.{Between, Around}
 use Rattle.cmd_draw.specs.declared.windows.Window.{Window}
-use Rattle.cmd_base.specs.Named.Asked.{instance_said, has_event}
+use Rattle.cmd_base.specs.Named.Asked.{instance_named, has_event}
 use Rattle.chart_layout.specs.declared.row.Row.{Row}
 use Rattle.chart_layout.specs.Layouts.{row_of}
 use Rattle.cmd_base.specs.declared.named.missing.Missing.{Missing}
@@ -25,8 +25,8 @@ event_at names None lines n = Err Instance
 event_at names (Some p) lines n = event_on names p (chart_lines lines p) n
 
 -- the event of this number on the line of the instance that has this name, or what the chart lacks of it
-abbrev pub event_said : Named → arounds.Around → Result EventNo Missing
-event_said named around = event_at named.0 (instance_said named.0 around.instance.now) named.1 around.event
+abbrev pub event_named : Named → arounds.Around → Result EventNo Missing
+event_named named around = event_at named.0 (instance_named named.0 around.instance.now) named.1 around.event
 
 -- a row with twelve above it and twelve below it, as far as there are so many; what is more than 64 bits hold isn't
 -- counted
@@ -37,10 +37,10 @@ round row = record { top = row - 12; bottom = min (row + 12) (2 ^ 64 - 1) }
 -- of an event
 abbrev pub IsWindow : Named → List Row → Rows → Window → Type 0
 IsWindow named layout (Between rows) window = window ≡ record { top = rows.first - 1; bottom = rows.last - 1 }
-IsWindow named layout (Around around) window = (event : EventNo) × (row : ℕ) × (event_said named around ≡ Ok event)
+IsWindow named layout (Around around) window = (event : EventNo) × (row : ℕ) × (event_named named around ≡ Ok event)
     × (row_of layout (place_of event) ≡ Some row) × (window ≡ round row)
 
 -- they stand round an event that the chart doesn't have, of which this is missing
 abbrev pub HasNoWindow : Named → Rows → Missing → Type 0
 HasNoWindow named (Between rows) missing = ⊥
-HasNoWindow named (Around around) missing = event_said named around ≡ Err missing
+HasNoWindow named (Around around) missing = event_named named around ≡ Err missing

@@ -1,7 +1,7 @@
 //! Refusals, as text on standard error.
 ghost use Rattle.std.specs.Prelude.{◌≡◌};
 ghost use Rattle.cmd_base.specs.Refusals.{Tried};
-ghost use Rattle.cmd_draw.specs.Answers.{picture_refusal_text, picture_error_said};
+ghost use Rattle.cmd_draw.specs.Answers.{picture_refusal_text, draw_error_exit};
 
 use crate::error::DrawError;
 use cmd_base::Answer;
@@ -22,13 +22,13 @@ pub fn refused_picture<V: Out>(error: &DrawError, err: &mut V) -> u8
 }
 
 impl Answer for DrawError {
-    ghost said = { picture_error_said };
+    ghost exit = { draw_error_exit };
 
     fn status(&self) -> u8 {
         2
     }
 
-    fn tell<V: Out>(&self, err: &mut V) {
+    fn print_diagnostics<V: Out>(&self, err: &mut V) {
         let _ = refused_picture(self, err);
     }
 }

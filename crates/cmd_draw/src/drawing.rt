@@ -5,7 +5,7 @@ ghost use Rattle.chart.specs.Charts.{chart_lines, IsPossible};
 ghost use Rattle.chart.specs.Reports.{AreReports};
 ghost use Rattle.cmd_base.specs.Answers.{Answers};
 ghost use Rattle.cmd_base.specs.Texts.{named_of, ComesFrom};
-ghost use Rattle.cmd_draw.specs.Answers.{drawn_said};
+ghost use Rattle.cmd_draw.specs.Answers.{draw_exit};
 ghost use Rattle.cmd_base.specs.Columns.Columns.{AreColumns, only_of};
 ghost use Rattle.cmd_draw.specs.Drawing.{Draws, DrawsText};
 ghost use Rattle.cmd_draw.specs.Preparing.{turns_in};
@@ -43,8 +43,8 @@ pub struct Wanted<'a> {
 struct Subject<'a> {
     names: &'a Names,
     closure: &'a Closure<'a>,
-    /// Whose turn it is, one event after another, in the run or the diagram that the chart comes from. A chart's own text
-    /// has none.
+    /// Whose turn it is, one event after another, in the run or the diagram that the chart comes from. A chart's own
+    /// text has none.
     turns: &'a [InstanceNo],
     /// What stands beside its rows.
     notes: &'a [MarginNote],
@@ -52,8 +52,8 @@ struct Subject<'a> {
     reports: &'a [Report],
 }
 
-/// Draws these columns of a possible chart. F31: its rows stand round an event that it doesn't have. All memory is taken
-/// before the first byte is written.
+/// Draws these columns of a possible chart. F31: its rows stand round an event that it doesn't have. All memory is
+/// taken before the first byte is written.
 fn draw_columns<W: Out>(
     alloc: Global,
     subject: &Subject<'_>,
@@ -129,10 +129,10 @@ fn draw_source<W: Out>(
     draw_columns(alloc, &subject, columns.as_slice(), wanted, out)
 }
 
-/// Draws what is wanted of a chart, which has a line for each name, by whose turn it is, one event after another, with these
-/// notes in its margin. Without turns its rows are those of [`chart_layout::layout`]'s rule. F34: a name of `--only` is none of the chart's, or is there
-/// twice. Then F16, F17 or F18 refuses a chart that isn't possible, and then F31 an event that it doesn't have. Nothing is
-/// written before a refusal, but where writing failed (F24).
+/// Draws what is wanted of a chart, which has a line for each name, by whose turn it is, one event after another, with
+/// these notes in its margin. Without turns its rows are those of [`chart_layout::layout`]'s rule. F34: a name of
+/// `--only` is none of the chart's, or is there twice. Then F16, F17 or F18 refuses a chart that isn't possible, and
+/// then F31 an event that it doesn't have. Nothing is written before a refusal, but where writing failed (F24).
 pub fn draw_chart<W: Out>(
     alloc: Global,
     names: &Names,
@@ -186,7 +186,7 @@ pub fn draw<W: Out, V: Out>(
     out: &mut W,
     err: &mut V,
 ) -> u8
-    ensures { Answers (DrawsText W.sink out.old out.new wanted.now bytes.now) drawn_said V.sink err.old err.new result }
+    ensures { Answers (DrawsText W.sink out.old out.new wanted.now bytes.now) draw_exit V.sink err.old err.new result }
 {
     answered(&draw_text(alloc, bytes, wanted, out), err)
 }

@@ -8,7 +8,7 @@ ghost use Rattle.cmd_base.specs.Answers.{Answers};
 ghost use Rattle.cmd_base.specs.Texts.{named_of, ComesFrom};
 ghost use Rattle.cmd_draw.specs.Exporting.{tool_of, text_of, has_region, has_parted_in, parted_text, regions_text};
 ghost use Rattle.cmd_draw.specs.Preparing.{turns_in};
-ghost use Rattle.cmd_draw.specs.Exporting.{both_text, told_said, export_said, Writes, Exports, ExportsText};
+ghost use Rattle.cmd_draw.specs.Exporting.{both_text, diagnostics_exit, export_exit, Writes, Exports, ExportsText};
 
 use crate::preparing::{Reports, prepare};
 use crate::target::Target;
@@ -16,14 +16,14 @@ use chart::{Line, Names, Report};
 use closure::Closure;
 use cmd_base::columns::FormatError;
 use cmd_base::{Answer, ProgramError, Source, Text, answered, closure_of};
-use diagram_export::{Drawn, Export, Log, has_parted, write_export, write_log};
+use diagram_export::{Export, ExportSource, Log, has_parted, write_export, write_log};
 use diagram_tool::Tool;
 use std::alloc::Global;
 use texts::{Out, TextBuffer, WriteError};
 
 /// What is to be told beside a text, since it doesn't say so.
 #[derive(Clone, Copy)]
-struct Told {
+struct Diagnostics {
     /// A message of which each end is a note of its own.
     parted: bool,
     /// A coregion.
@@ -90,7 +90,7 @@ fn export_closure<W: Out>(
     reports: &[Report],
     target: Target,
     out: &mut W,
-) -> Result<Told, FormatError>
+) -> Result<Diagnostics, FormatError>
     requires source { ComesFrom source.now }
     requires reports { AreReports closure.now reports.now }
     requires possible { IsPossible (length closure.now) (chart_lines closure.now) }
@@ -99,7 +99,7 @@ fn export_closure<W: Out>(
     let Ok(prepared) = prepare(alloc, source, closure) else {
         return Err(FormatError::Program(ProgramError::Memory));
     };
-    let drawn = Drawn {
+    let drawn = ExportSource {
         names,
         closure,
         layout: &prepared.layout,
@@ -110,7 +110,7 @@ fn export_closure<W: Out>(
         return Err(FormatError::Program(ProgramError::Memory));
     };
     write_text(alloc, target, &export, out)?;
-    Ok(Told {
+    Ok(Diagnostics {
         parted: has_parted_in(target, &export),
         regions: have_regions(closure.lines()),
     })
@@ -122,7 +122,7 @@ fn export_source<W: Out>(
     source: &Source<'_>,
     target: Target,
     out: &mut W,
-) -> Result<Told, FormatError>
+) -> Result<Diagnostics, FormatError>
     requires { ComesFrom source.now }
     ensures { Exports W.sink out.old out.new result target (turns_in source.now) (named_of source.now) }
 {
@@ -148,7 +148,7 @@ fn export_text<W: Out>(
     bytes: &[u8],
     target: Target,
     out: &mut W,
-) -> Result<Told, FormatError>
+) -> Result<Diagnostics, FormatError>
     ensures { ExportsText W.sink out.old out.new target bytes.now result }
 {
     let text = Text::read(alloc, bytes)?;
@@ -180,31 +180,34 @@ fn regions_text(regions: bool) -> &'static [u8]
 
 /// Adds what is to be told.
 #[tactic(auto, using(texts::proofs::Writes::joining), unfolding(crate::specs::Exporting::both_text))]
-fn add_both<V: Out>(text: &mut TextBuffer<'_, V>, told: Told) -> Result<(), WriteError>
-    ensures { Adds V.sink text.old text.new result (both_text told) }
+fn add_both<V: Out>(
+    text: &mut TextBuffer<'_, V>,
+    diagnostics: Diagnostics,
+) -> Result<(), WriteError>
+    ensures { Adds V.sink text.old text.new result (both_text diagnostics) }
 {
-    text.add(parted_text(told.parted))?;
-    text.add(regions_text(told.regions))
+    text.add(parted_text(diagnostics.parted))?;
+    text.add(regions_text(diagnostics.regions))
 }
 
 #[tactic(auto, using(texts::proofs::Writes::joining))]
-fn write_both<V: Out>(told: Told, err: &mut V) -> Result<(), WriteError>
-    ensures { Wrote V.sink err.old err.new result (both_text told) }
+fn write_both<V: Out>(diagnostics: Diagnostics, err: &mut V) -> Result<(), WriteError>
+    ensures { Wrote V.sink err.old err.new result (both_text diagnostics) }
 {
     let mut text = TextBuffer::new(err);
-    add_both(&mut text, told)?;
+    add_both(&mut text, diagnostics)?;
     text.finish()
 }
 
 /// What the text of a tool doesn't tell.
-impl Answer for Told {
-    ghost said = { told_said };
+impl Answer for Diagnostics {
+    ghost exit = { diagnostics_exit };
 
     fn status(&self) -> u8 {
         0
     }
 
-    fn tell<V: Out>(&self, err: &mut V) {
+    fn print_diagnostics<V: Out>(&self, err: &mut V) {
         if self.parted || self.regions {
             let _ = write_both(*self, err);
         }
@@ -222,7 +225,7 @@ pub fn export<W: Out, V: Out>(
     out: &mut W,
     err: &mut V,
 ) -> u8
-    ensures { Answers (ExportsText W.sink out.old out.new target bytes.now) export_said V.sink err.old err.new result }
+    ensures { Answers (ExportsText W.sink out.old out.new target bytes.now) export_exit V.sink err.old err.new result }
 {
     answered(&export_text(alloc, bytes, target, out), err)
 }

@@ -5,14 +5,14 @@
 //!
 //! - With status 0 exactly the text of the picture was written of the chart that `mscview import` writes of the
 //!   same text: as `mscview draw` writes it, but that its events stand in the order of the diagram's rows
-//!   (`specs/Turns`), and its notes and dividers in the margin (`diagram_import::margin`). Standard error tells
-//!   what an import tells, but of what the picture has: what is left out, and each name that isn't its label's
-//!   words.
+//!   (`specs/Imports/Turns`), and its notes and dividers in the margin (`diagram_import::margin`). Standard error
+//!   tells what an import tells, but of what the picture has: what is left out, and each name that isn't its
+//!   label's words.
 //! - With status 2 the refusal's line was written, or a beginning of it where standard error failed, and nothing went
 //!   to the output before it, unless a write failed (F24).
 
+mod diagnostics;
 mod drawing;
-mod told;
 
-pub use drawing::{Undrawn, draw_of, turns_of_text};
-pub use told::Told;
+pub use diagnostics::Diagnostics;
+pub use drawing::{PictureError, draw_of, turns_of_text};

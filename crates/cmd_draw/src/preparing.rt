@@ -32,7 +32,7 @@ impl<'a> Reports<'a> {
     {
         match source {
             Source::Run(_, outcome) => Ok(Reports::Replayed(outcome.reports())),
-            Source::Drawn(_) => {
+            Source::Written(_) => {
                 let reports = closure.races()?;
                 Ok(Reports::Searched(reports))
             }
@@ -76,12 +76,12 @@ pub fn turns_in(alloc: Global, source: &Source<'_>) -> Result<Vec<InstanceNo>, A
 {
     match source {
         Source::Run(schedule, outcome) => turns_of_run(alloc, *schedule, outcome),
-        Source::Drawn(_) => Ok(Vec::new(alloc)),
+        Source::Written(_) => Ok(Vec::new(alloc)),
     }
 }
 
-/// What a picture of a possible chart is drawn from, beside its reports, by whose turn it was in its run. F6: it fails only
-/// where there is no memory.
+/// What a picture of a possible chart is drawn from, beside its reports, by whose turn it was in its run. F6: it fails
+/// only where there is no memory.
 pub fn prepare_by(
     alloc: Global,
     closure: &Closure<'_>,
@@ -94,7 +94,8 @@ pub fn prepare_by(
     Ok(Prepared { layout, ends })
 }
 
-/// What an export of the source's chart is written from, beside its reports. F6: it fails only where there is no memory.
+/// What an export of the source's chart is written from, beside its reports. F6: it fails only where there is no
+/// memory.
 pub(crate) fn prepare(
     alloc: Global,
     source: &Source<'_>,

@@ -1,6 +1,6 @@
 //! Which tools a command line names.
 ghost use Rattle.std.specs.Prelude.{◌≡◌};
-ghost use Rattle.cmd_draw.specs.Targets.{tool_said, target_said};
+ghost use Rattle.cmd_draw.specs.Targets.{tool_named, target_named};
 
 use diagram_tool::Tool;
 
@@ -15,7 +15,7 @@ pub enum Target {
 
 /// The tool that a word of a command line names: `mscgen`, `plantuml` or `mermaid`.
 pub fn tool_in(word: &str) -> Option<Tool>
-    ensures { result ≡ tool_said word.now }
+    ensures { result ≡ tool_named word.now }
 {
     match word {
         "mscgen" => Some(Tool::Mscgen),
@@ -27,7 +27,7 @@ pub fn tool_in(word: &str) -> Option<Tool>
 
 /// What a word of a command line says to export to: a tool, or `shiviz`.
 pub fn target_in(word: &str) -> Option<Target>
-    ensures { result ≡ target_said word.now }
+    ensures { result ≡ target_named word.now }
 {
     if word == "shiviz" {
         return Some(Target::ShiViz);

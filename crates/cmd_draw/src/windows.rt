@@ -1,7 +1,7 @@
 //! Which rows of a picture are chosen.
 ghost use Rattle.std.specs.Prelude.{◌≡◌, ◌≤◌, ◌-◌, length, MatchResult};
 ghost use Rattle.chart.specs.declared.line.TheConstants.{MAX_EVENTS};
-ghost use Rattle.cmd_draw.specs.Windows.{event_on, event_said, round, IsWindow, HasNoWindow};
+ghost use Rattle.cmd_draw.specs.Windows.{event_on, event_named, round, IsWindow, HasNoWindow};
 ghost use Rattle.cmd_draw.specs.declared.windows.Rows.TheVariants as rows;
 ghost use Rattle.chart_layout.specs.Layouts.{IsDrawing};
 ghost use Rattle.cmd_base.specs.Named.Asked.{has_event};
@@ -10,7 +10,7 @@ use crate::events::Events;
 use chart::line_events::events_of;
 use chart::{Event, EventNo, InstanceNo, Line, Names};
 use chart_layout::Layout;
-use cmd_base::named::{Missing, has_event, instance_said, missing_on};
+use cmd_base::named::{Missing, has_event, instance_named, missing_on};
 
 /// An event: the name of its instance, and its number on the line, from 1.
 #[derive(Clone, Copy, Debug)]
@@ -63,10 +63,10 @@ fn event_on(
 }
 
 /// The event that is named, or what the chart lacks of it.
-fn event_said(names: &Names, lines: &[Line], around: &Around<'_>) -> Result<EventNo, Missing>
-    ensures { result ≡ event_said (names.now, lines.now) around.now }
+fn event_named(names: &Names, lines: &[Line], around: &Around<'_>) -> Result<EventNo, Missing>
+    ensures { result ≡ event_named (names.now, lines.now) around.now }
 {
-    match instance_said(names, around.instance) {
+    match instance_named(names, around.instance) {
         None => Err(Missing::Instance),
         Some(instance) => event_on(names, instance, events_of(lines, instance), around.event),
     }
@@ -91,9 +91,9 @@ fn window_round(
 ) -> Result<Window, Missing>
     requires { IsDrawing lines.now layout.now }
     ensures { MatchResult result (IsWindow (names.now, lines.now) layout.now (rows.Around around.now))
-        (λ missing. event_said (names.now, lines.now) around.now ≡ Err missing) }
+        (λ missing. event_named (names.now, lines.now) around.now ≡ Err missing) }
 {
-    let event = event_said(names, lines, around)?;
+    let event = event_named(names, lines, around)?;
     match layout.row_of(&event) {
         Some(row) => Ok(round(row)),
         None => unreachable!(),

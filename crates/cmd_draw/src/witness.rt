@@ -19,4 +19,4 @@ mod error;
 mod stage;
 
 pub use drawing::{Wanted, draw_witness};
-pub use error::Undrawn;
+pub use error::PictureError;

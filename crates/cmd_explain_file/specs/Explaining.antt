@@ -4,7 +4,7 @@ use Rattle.std.specs.List.{flat_map}
 use Rattle.cmd_explain_file.specs.Findings.{behind_finding, fault_finding, no_send, other_name, unread_finding}
 use Rattle.cmd_explain_file.specs.Kinds.{kind_of, shown}
 use Rattle.cmd_explain_file.specs.Sayings.{saying_text}
-use Rattle.cmd_explain_file.specs.Verdicts.{IsVerdict, verdict_said}
+use Rattle.cmd_explain_file.specs.Verdicts.{IsVerdict, verdict_exit}
 use Rattle.cmd_explain_file.specs.declared.kind.Kind.{Kind}
 use Rattle.cmd_explain_file.specs.declared.kind.Kind.TheVariants as kinds
 use Rattle.cmd_explain_file.specs.declared.saying.Saying.{Saying}
@@ -12,8 +12,8 @@ use Rattle.cmd_explain_file.specs.declared.saying.Saying.TheVariants as sayings
 use Rattle.cmd_explain_file.specs.declared.verdict.Exactly.{Exactly}
 use Rattle.cmd_explain_file.specs.declared.verdict.Exactly.TheVariants as exactly
 use Rattle.cmd_explain_file.specs.declared.verdict.Verdict.{Verdict}
-use Rattle.cmd_explain_file.specs.declared.verdict.Verdict.TheVariants.{Read, Ran, Drawn, NotDrawn, Behind, Refused, NoSend, OtherName, Cyclic}
-use Rattle.cmd_base.specs.Answers.{Said, program_said, said_of}
+use Rattle.cmd_explain_file.specs.declared.verdict.Verdict.TheVariants.{Read, Ran, Built, NotBuilt, Behind, Refused, NoSend, OtherName, Cyclic}
+use Rattle.cmd_base.specs.Answers.{Exit, program_exit, exit_of}
 use Rattle.cmd_base.specs.Files.{is_schedule, chart_part}
 use Rattle.cmd_base.specs.declared.error.ProgramError.{ProgramError}
 use Rattle.cmd_base.specs.declared.error.ProgramError.TheVariants as errors
@@ -37,13 +37,13 @@ abbrev pub text_fault : List ℕ → Option Fault
 text_fault text = if is_schedule text then fault_in (schedule_of text) else fault_in (chart_of (chart_part text))
 
 -- what is told of an exact text by its fault: that it has none, or this one, where comments are left out of it
-abbrev pub exact_told : Bool → Option Fault → Exactly
-exact_told has_comments None = exactly.Read
-exact_told has_comments (Some fault) = if has_comments then exactly.Refused fault else exactly.Unasked
+abbrev pub exactly_by : Bool → Option Fault → Exactly
+exactly_by has_comments None = exactly.Read
+exactly_by has_comments (Some fault) = if has_comments then exactly.Refused fault else exactly.Unasked
 
 -- what comes of a file's exact text, where the file is refused as a text
 abbrev pub exactly_of : Verdict → Bool → List ℕ → Exactly
-exactly_of (Refused fault) has_comments exact = exact_told has_comments (text_fault exact)
+exactly_of (Refused fault) has_comments exact = exactly_by has_comments (text_fault exact)
 exactly_of _ has_comments exact = exactly.Unasked
 
 -- the number of the line of a fault of the exact text, as it is typed
@@ -52,44 +52,44 @@ typed_number text lines (Line number cause) = typed_line lines number
 typed_number text lines Unfinished = length (lines_of text) + 1
 
 -- the first thing that is told of what came of reading a file
-abbrev pub first_told : Kind → List ℕ → Verdict → Saying
-first_told kind text Read = sayings.Read
-first_told kind text (Ran notes) = sayings.Read
-first_told kind text (Drawn left_out overtaking) = sayings.Read
-first_told kind text (NotDrawn why) = sayings.Finding (unread_finding kind text why)
-first_told kind text (Behind fault) = sayings.Finding (behind_finding kind text fault)
-first_told kind text (Refused fault) = sayings.Finding (fault_finding kind text fault)
-first_told kind text (NoSend receive) = sayings.Finding (no_send text receive)
-first_told kind text (OtherName receive) = sayings.Finding (other_name text receive)
-first_told kind text (Cyclic steps) = sayings.Cyclic
+abbrev pub first_stated : Kind → List ℕ → Verdict → Saying
+first_stated kind text Read = sayings.Read
+first_stated kind text (Ran notes) = sayings.Read
+first_stated kind text (Built left_out overtaking) = sayings.Read
+first_stated kind text (NotBuilt why) = sayings.Finding (unread_finding kind text why)
+first_stated kind text (Behind fault) = sayings.Finding (behind_finding kind text fault)
+first_stated kind text (Refused fault) = sayings.Finding (fault_finding kind text fault)
+first_stated kind text (NoSend receive) = sayings.Finding (no_send text receive)
+first_stated kind text (OtherName receive) = sayings.Finding (other_name text receive)
+first_stated kind text (Cyclic steps) = sayings.Cyclic
 
 -- the same, by what comes of the exact text, whose lines are typed in lines with these numbers
-abbrev pub told_first : Kind → List ℕ → List ℕ → List ℕ → Verdict → Exactly → Saying
-told_first kind text exact lines verdict (exactly.Refused fault) =
+abbrev pub first_saying : Kind → List ℕ → List ℕ → List ℕ → Verdict → Exactly → Saying
+first_saying kind text exact lines verdict (exactly.Refused fault) =
     sayings.Typed (fault_finding kind exact fault) (typed_number text lines fault)
-told_first kind text exact lines verdict exactly.Read = first_told kind (shown kind text) verdict
-told_first kind text exact lines verdict exactly.Unasked = first_told kind (shown kind text) verdict
+first_saying kind text exact lines verdict exactly.Read = first_stated kind (shown kind text) verdict
+first_saying kind text exact lines verdict exactly.Unasked = first_stated kind (shown kind text) verdict
 
--- what is told besides: the notes of a schedule, what a diagram's chart doesn't keep, and the steps of a circle
-abbrev pub more_told : Verdict → List Saying
-more_told (Ran notes) = map sayings.Note notes.items
-more_told (Drawn left_out overtaking) = map sayings.LeftOut left_out.items ++ map sayings.Overtaking overtaking.items
-more_told (Cyclic steps) = map sayings.Step steps.items
-more_told _ = []
+-- what is told besides: the notes of a schedule, what a diagram's chart doesn't keep, and the steps of a cycle
+abbrev pub more_sayings : Verdict → List Saying
+more_sayings (Ran notes) = map sayings.Note notes.items
+more_sayings (Built left_out overtaking) = map sayings.LeftOut left_out.items ++ map sayings.Overtaking overtaking.items
+more_sayings (Cyclic steps) = map sayings.Step steps.items
+more_sayings _ = []
 
 abbrev pub if_other : Kind → List Saying
 if_other kinds.Other = sayings.Log ∷ []
 if_other _ = []
 
 -- what helps with it: that it can be tidied, or what to do with a log
-abbrev pub told_last : Kind → Exactly → List Saying
-told_last kind exactly.Read = sayings.Tidy ∷ []
-told_last kind exactly.Unasked = if_other kind
-told_last kind (exactly.Refused fault) = if_other kind
+abbrev pub last_sayings : Kind → Exactly → List Saying
+last_sayings kind exactly.Read = sayings.Tidy ∷ []
+last_sayings kind exactly.Unasked = if_other kind
+last_sayings kind (exactly.Refused fault) = if_other kind
 
 -- all that is told
 abbrev pub sayings_of : Kind → Saying → Verdict → Exactly → List Saying
-sayings_of kind first verdict done = sayings.Kind kind ∷ (first ∷ (more_told verdict ++ told_last kind done))
+sayings_of kind first verdict done = sayings.Kind kind ∷ (first ∷ (more_sayings verdict ++ last_sayings kind done))
 
 -- the text of which lines are shown
 abbrev pub subject_of : Kind → List ℕ → List ℕ → Exactly → List ℕ
@@ -106,7 +106,7 @@ exactly_in text verdict = exactly_of verdict (has_comments text) (exact_text tex
 abbrev pub explanation_of : List ℕ → Verdict → List Saying
 explanation_of text verdict =
     sayings_of (kind_of text)
-    (told_first (kind_of text) text (exact_text text) (staying_from 1 (typed_lines text)) verdict (exactly_in text verdict))
+    (first_saying (kind_of text) text (exact_text text) (staying_from 1 (typed_lines text)) verdict (exactly_in text verdict))
     verdict (exactly_in text verdict)
 
 abbrev pub explanation_text : List ℕ → Verdict → List ℕ
@@ -114,8 +114,8 @@ explanation_text text verdict =
     flat_map (saying_text (subject_of (kind_of text) text (exact_text text) (exactly_in text verdict))) (explanation_of text verdict)
 
 -- what is said of an explanation that was written or refused
-abbrev pub explained_said : Result Verdict ProgramError → Said
-explained_said = said_of verdict_said program_said
+abbrev pub explained_exit : Result Verdict ProgramError → Exit
+explained_exit = exit_of verdict_exit program_exit
 
 module _ {S : Type 0} (sink : S → Sink) where
   -- what is told of the file was written; or a beginning of it, where a put failed; or nothing, where memory ran out

@@ -7,8 +7,8 @@ use Rattle.cmd_explain_file.specs.declared.kind.Kind.TheVariants as kinds
 use Rattle.fault_places.specs.Standings.{first_or}
 use Rattle.cmd_base.specs.Files.{is_schedule}
 use Rattle.texts.specs.Lines.{lines_of, end_of}
-use Rattle.diagram_tool.specs.Detection.Telling.{told_tool}
-use Rattle.diagram_tool.specs.declared.detection.telling.Untold.{Untold}
+use Rattle.diagram_tool.specs.Detection.Detection.{detected_tool}
+use Rattle.diagram_tool.specs.declared.detection.detection.ToolError.{ToolError}
 use Rattle.diagram_tool.specs.declared.Tool.{Tool}
 use Rattle.diagram_tool.specs.declared.Tool.TheVariants as tools
 use Rattle.cmd_tidy.specs.Typing.{exact_text}
@@ -21,17 +21,17 @@ unfoldable pub begins_chart : List ℕ → Bool
 begins_chart text = not (has_brace text) || bytes_eq (first_or (end_of text) (lines_of text)) (codes "msc run;")
 
 -- by what the text tells
-abbrev pub kind_told : Bool → Result Tool Untold → Kind
-kind_told true (Ok tools.Mscgen) = kinds.Chart
-kind_told is_chart (Ok tool) = kinds.Diagram tool
-kind_told is_chart (Err untold) = kinds.Other
+abbrev pub detected_kind : Bool → Result Tool ToolError → Kind
+detected_kind true (Ok tools.Mscgen) = kinds.Chart
+detected_kind is_chart (Ok tool) = kinds.Diagram tool
+detected_kind is_chart (Err no_tool) = kinds.Other
 
 -- What kind of file it is, whose exact text is given: a schedule, where the first word of either is a schedule's, or else
 -- what its first word that stands in no comment tells.
 unfoldable pub kind_by : List ℕ → List ℕ → Kind
 kind_by text exact =
     if is_schedule text || is_schedule exact then kinds.Schedule
-    else kind_told (begins_chart text) (told_tool (behind_mark text))
+    else detected_kind (begins_chart text) (detected_tool (behind_mark text))
 
 abbrev pub kind_of : List ℕ → Kind
 kind_of text = kind_by text (exact_text text)

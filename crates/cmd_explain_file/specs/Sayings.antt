@@ -9,9 +9,9 @@ use Rattle.cmd_explain_file.specs.declared.saying.Saying.{Saying}
 use Rattle.cmd_explain_file.specs.declared.saying.Saying.TheVariants.{Kind, Read, Cyclic, Tidy, Log}
 use Rattle.cmd_explain_file.specs.declared.saying.Saying.TheVariants as sayings
 use Rattle.schedule_replay.specs.declared.notes.notes.Noted.{Noted}
-use Rattle.fault_places.specs.ToldCircles.{step_text}
+use Rattle.fault_places.specs.NamedCycles.{step_text}
 use Rattle.fault_places.specs.declared.want.Want.{Want}
-use Rattle.cmd_import_diagram.specs.Telling.{left_out_line, overtaking_line}
+use Rattle.cmd_import_diagram.specs.Diagnostics.{left_out_line, overtaking_line}
 use Rattle.texts.specs.Bytes.Classes.{printable}
 
 abbrev pub blank : ℕ → List ℕ

@@ -12,32 +12,32 @@ use Rattle.cmd_explain_file.specs.declared.kind.Kind.TheVariants as kinds
 use Rattle.cmd_explain_file.specs.declared.verdict.Unread.{Unread}
 use Rattle.cmd_explain_file.specs.declared.verdict.Unread.TheVariants as unreads
 use Rattle.cmd_explain_file.specs.declared.verdict.Verdict.{Verdict}
-use Rattle.cmd_explain_file.specs.declared.verdict.Verdict.TheVariants.{Read, Ran, Drawn, NotDrawn, Behind, Refused, NoSend, OtherName, Cyclic}
-use Rattle.cmd_base.specs.Answers.{Said}
+use Rattle.cmd_explain_file.specs.declared.verdict.Verdict.TheVariants.{Read, Ran, Built, NotBuilt, Behind, Refused, NoSend, OtherName, Cyclic}
+use Rattle.cmd_base.specs.Answers.{Exit}
 use Rattle.cmd_base.specs.Files.{Named, chart_part}
 use Rattle.cmd_import_diagram.specs.Order.{in_order}
-use Rattle.diagram_join.specs.Drawing.{joined_drawn_view}
-use Rattle.diagram_join.specs.declared.drawing.JoinedDrawn.{JoinedDrawn}
+use Rattle.diagram_join.specs.Drawing.{joined_chart_view}
+use Rattle.diagram_join.specs.declared.drawing.JoinedChart.{JoinedChart}
 use Rattle.msc_text.specs.Reader.Reading.{chart_of}
 use Rattle.schedule.specs.Plans.{Plan}
 use Rattle.schedule.specs.Reading.{schedule_of}
 use Rattle.schedule_replay.specs.Notes.Notes.{AreNotesOf}
-use Rattle.fault_places.specs.ToldCircles.{AreStepsOf}
+use Rattle.fault_places.specs.NamedCycles.{AreStepsOf}
 
 -- the exit status: 1 where a fault is told
 abbrev pub status_of : Verdict → ℕ
 status_of Read = 0
 status_of (Ran notes) = 0
-status_of (Drawn left_out overtaking) = 0
-status_of (NotDrawn unread) = 1
+status_of (Built left_out overtaking) = 0
+status_of (NotBuilt unread) = 1
 status_of (Behind fault) = 0
 status_of (Refused fault) = 1
 status_of (NoSend receive) = 1
 status_of (OtherName receive) = 1
 status_of (Cyclic steps) = 1
 
-abbrev pub verdict_said : Verdict → Said
-verdict_said verdict = record { status = status_of verdict; told = None }
+abbrev pub verdict_exit : Verdict → Exit
+verdict_exit verdict = record { status = status_of verdict; diagnostics = None }
 
 -- a schedule's text is read, and its commands leave these notes; or it has this fault
 abbrev pub IsOfSchedule : List ℕ → Verdict → Type 0
@@ -46,7 +46,7 @@ IsOfSchedule text (Ran notes) = (plan : Plan) × (schedule_of text ≡ Ok plan)
 IsOfSchedule text (Refused fault) = schedule_of text ≡ Err fault
 IsOfSchedule text _ = ⊥
 
--- the chart of this text is possible, or is refused so; of one in which events come before each other a shortest circle
+-- the chart of this text is possible, or is refused so; of one in which events come before each other a shortest cycle
 -- is told
 abbrev pub IsOfLines : List ℕ → Named → Verdict → Type 0
 IsOfLines text named Read = IsPossible (length named.1) (chart_lines named.1)
@@ -70,8 +70,8 @@ IsOfChart text (Behind fault) = (named : Named) × (chart_of (chart_part text) �
     × IsOfWhole text (Behind fault)
 IsOfChart text (Refused fault) = chart_of (chart_part text) ≡ Err fault
 IsOfChart text (Ran notes) = ⊥
-IsOfChart text (Drawn left_out overtaking) = ⊥
-IsOfChart text (NotDrawn why) = ⊥
+IsOfChart text (Built left_out overtaking) = ⊥
+IsOfChart text (NotBuilt why) = ⊥
 IsOfChart text verdict = (named : Named) × (chart_of (chart_part text) ≡ Ok named) × IsOfLines text named verdict
 
 -- nothing is skipped or joined, and things may be left out
@@ -89,10 +89,10 @@ unread (imports.NoChart error) = unreads.NoChart error
 
 -- a diagram is imported, and its chart doesn't keep these; or it is refused so
 abbrev pub IsOfDiagram : List ℕ → Verdict → Type 0
-IsOfDiagram text (Drawn left_out overtaking) = (drawn : JoinedDrawn)
-    × (imported None text no_options ≡ Ok (joined_drawn_view drawn))
-    × (left_out.items ≡ in_order drawn.drawn.left_out.items) × (overtaking ≡ drawn.overtaking)
-IsOfDiagram text (NotDrawn why) = (error : ImportError) × (error ≢ imports.Memory)
+IsOfDiagram text (Built left_out overtaking) = (built : JoinedChart)
+    × (imported None text no_options ≡ Ok (joined_chart_view built))
+    × (left_out.items ≡ in_order built.built.left_out.items) × (overtaking ≡ built.overtaking)
+IsOfDiagram text (NotBuilt why) = (error : ImportError) × (error ≢ imports.Memory)
     × Fails error (imported None text no_options) × (why ≡ unread error)
 IsOfDiagram text _ = ⊥
 

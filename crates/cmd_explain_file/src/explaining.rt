@@ -1,9 +1,9 @@
 //! What a file is, and what is wrong with it.
 ghost use Rattle.std.specs.Prelude.{◌≡◌, ◌++◌, map, IfOk, IfErr, OnOk};
-ghost use Rattle.cmd_explain_file.specs.Explaining.{text_fault, exact_told, exactly_of, first_told, typed_number, told_first, more_told, told_last, subject_of, sayings_of, exactly_in, explanation_of, explained_said, Explains};
+ghost use Rattle.cmd_explain_file.specs.Explaining.{text_fault, exactly_by, exactly_of, first_stated, typed_number, first_saying, more_sayings, last_sayings, subject_of, sayings_of, exactly_in, explanation_of, explained_exit, Explains};
 ghost use Rattle.cmd_explain_file.specs.Kinds.{kind_of};
 ghost use Rattle.cmd_explain_file.specs.Verdicts.{IsVerdict};
-ghost use Rattle.cmd_explain_file.specs.declared.saying.Saying.TheVariants as sayings_told;
+ghost use Rattle.cmd_explain_file.specs.declared.saying.Saying.TheVariants as sayings_stated;
 ghost use Rattle.cmd_base.specs.Answers.{Answers};
 ghost use Rattle.cmd_tidy.specs.Typing.{exact_text};
 
@@ -34,8 +34,8 @@ fn text_fault(alloc: Global, text: &[u8]) -> Result<Option<Fault>, ProgramError>
 }
 
 /// What is told of an exact text by its fault.
-fn exact_told(has_comments: bool, fault: Option<Fault>) -> Exactly
-    ensures { result ≡ exact_told has_comments fault }
+fn exactly_by(has_comments: bool, fault: Option<Fault>) -> Exactly
+    ensures { result ≡ exactly_by has_comments fault }
 {
     match fault {
         None => Exactly::Read,
@@ -57,7 +57,7 @@ fn exactly_of(
     match verdict {
         Verdict::Refused(_) => {
             let fault = text_fault(alloc, exact)?;
-            Ok(exact_told(has_comments, fault))
+            Ok(exactly_by(has_comments, fault))
         }
         _ => Ok(Exactly::Unasked),
     }
@@ -75,7 +75,7 @@ fn typed_number(text: &[u8], lines: &[u64], fault: Fault) -> u64
 
 /// Adds the notes that a schedule's commands leave.
 fn add_notes(sayings: &mut Vec<Saying>, notes: &[Noted]) -> Result<(), AllocError>
-    ensures { OnOk result (sayings.new.items ≡ sayings.old.items ++ map sayings_told.Note notes.now) }
+    ensures { OnOk result (sayings.new.items ≡ sayings.old.items ++ map sayings_stated.Note notes.now) }
 {
     for noted in notes {
         sayings.push(Saying::Note(*noted))?;
@@ -85,7 +85,7 @@ fn add_notes(sayings: &mut Vec<Saying>, notes: &[Noted]) -> Result<(), AllocErro
 
 /// Adds what a diagram's chart doesn't keep.
 fn add_left_out(sayings: &mut Vec<Saying>, left_out: &[LeftOut]) -> Result<(), AllocError>
-    ensures { OnOk result (sayings.new.items ≡ sayings.old.items ++ map sayings_told.LeftOut left_out.now) }
+    ensures { OnOk result (sayings.new.items ≡ sayings.old.items ++ map sayings_stated.LeftOut left_out.now) }
 {
     for kind in left_out {
         sayings.push(Saying::LeftOut(*kind))?;
@@ -95,7 +95,7 @@ fn add_left_out(sayings: &mut Vec<Saying>, left_out: &[LeftOut]) -> Result<(), A
 
 /// Adds the messages that overtake another one.
 fn add_overtaking(sayings: &mut Vec<Saying>, overtaking: &[Overtaking]) -> Result<(), AllocError>
-    ensures { OnOk result (sayings.new.items ≡ sayings.old.items ++ map sayings_told.Overtaking overtaking.now) }
+    ensures { OnOk result (sayings.new.items ≡ sayings.old.items ++ map sayings_stated.Overtaking overtaking.now) }
 {
     for message in overtaking {
         sayings.push(Saying::Overtaking(*message))?;
@@ -103,9 +103,9 @@ fn add_overtaking(sayings: &mut Vec<Saying>, overtaking: &[Overtaking]) -> Resul
     Ok(())
 }
 
-/// Adds the steps of a circle.
+/// Adds the steps of a cycle.
 fn add_steps(sayings: &mut Vec<Saying>, steps: &[Step]) -> Result<(), AllocError>
-    ensures { OnOk result (sayings.new.items ≡ sayings.old.items ++ map sayings_told.Step steps.now) }
+    ensures { OnOk result (sayings.new.items ≡ sayings.old.items ++ map sayings_stated.Step steps.now) }
 {
     for step in steps {
         sayings.push(Saying::Step(*step))?;
@@ -114,12 +114,12 @@ fn add_steps(sayings: &mut Vec<Saying>, steps: &[Step]) -> Result<(), AllocError
 }
 
 /// The first thing that is told of what came of reading a file of this kind.
-fn first_told(kind: Kind, text: &[u8], verdict: &Verdict) -> Saying
-    ensures { result ≡ first_told kind text.now verdict.now }
+fn first_stated(kind: Kind, text: &[u8], verdict: &Verdict) -> Saying
+    ensures { result ≡ first_stated kind text.now verdict.now }
 {
     match verdict {
-        Verdict::Read | Verdict::Ran(_) | Verdict::Drawn(_, _) => Saying::Read,
-        Verdict::NotDrawn(why) => Saying::Finding(unread_finding(kind, text, *why)),
+        Verdict::Read | Verdict::Ran(_) | Verdict::Built(_, _) => Saying::Read,
+        Verdict::NotBuilt(why) => Saying::Finding(unread_finding(kind, text, *why)),
         Verdict::Behind(fault) => Saying::Finding(behind_finding(kind, text, *fault)),
         Verdict::Refused(fault) => Saying::Finding(fault_finding(kind, text, *fault)),
         Verdict::NoSend(receive) => Saying::Finding(no_send(text, *receive)),
@@ -129,31 +129,31 @@ fn first_told(kind: Kind, text: &[u8], verdict: &Verdict) -> Saying
 }
 
 /// The same, by what comes of its exact text, whose lines are typed in lines with these numbers.
-fn told_first(
+fn first_saying(
     kind: Kind,
     text: &[u8],
     exact: &ExactText,
     verdict: &Verdict,
     exactly: Exactly,
 ) -> Saying
-    ensures { result ≡ told_first kind text.now exact.now.bytes.items exact.now.lines.items verdict.now exactly }
+    ensures { result ≡ first_saying kind text.now exact.now.bytes.items exact.now.lines.items verdict.now exactly }
 {
     match exactly {
         Exactly::Refused(fault) => Saying::Typed(
             fault_finding(kind, &exact.bytes, fault),
             typed_number(text, &exact.lines, fault),
         ),
-        Exactly::Unasked | Exactly::Read => first_told(kind, shown(kind, text), verdict),
+        Exactly::Unasked | Exactly::Read => first_stated(kind, shown(kind, text), verdict),
     }
 }
 
 /// Adds what is told besides.
 fn add_more(sayings: &mut Vec<Saying>, verdict: &Verdict) -> Result<(), AllocError>
-    ensures { OnOk result (sayings.new.items ≡ sayings.old.items ++ more_told verdict.now) }
+    ensures { OnOk result (sayings.new.items ≡ sayings.old.items ++ more_sayings verdict.now) }
 {
     match verdict {
         Verdict::Ran(notes) => add_notes(sayings, notes),
-        Verdict::Drawn(left_out, overtaking) => {
+        Verdict::Built(left_out, overtaking) => {
             add_left_out(sayings, left_out)?;
             add_overtaking(sayings, overtaking)
         }
@@ -164,7 +164,7 @@ fn add_more(sayings: &mut Vec<Saying>, verdict: &Verdict) -> Result<(), AllocErr
 
 /// Adds what helps with it.
 fn add_last(sayings: &mut Vec<Saying>, kind: Kind, exactly: Exactly) -> Result<(), AllocError>
-    ensures { OnOk result (sayings.new.items ≡ sayings.old.items ++ told_last kind exactly) }
+    ensures { OnOk result (sayings.new.items ≡ sayings.old.items ++ last_sayings kind exactly) }
 {
     match (exactly, kind) {
         (Exactly::Read, _) => sayings.push(Saying::Tidy)?,
@@ -213,7 +213,7 @@ struct Explanation {
 }
 
 /// What came of reading a file, and what is told of it.
-fn read_and_tell(alloc: Global, text: &[u8]) -> Result<Explanation, ProgramError>
+fn read_and_explain(alloc: Global, text: &[u8]) -> Result<Explanation, ProgramError>
     ensures kind { IfOk result (λ done. done.kind ≡ kind_of text.now) }
     ensures verdict { IfOk result (λ done. IsVerdict (kind_of text.now) text.now done.verdict) }
     ensures exact { IfOk result (λ done. done.exact.bytes.items ≡ exact_text text.now) }
@@ -228,7 +228,7 @@ fn read_and_tell(alloc: Global, text: &[u8]) -> Result<Explanation, ProgramError
     let verdict = judge(alloc, kind, text)?;
     let has_comments = !exact.comments.is_empty();
     let exactly = exactly_of(alloc, &verdict, has_comments, &exact.bytes)?;
-    let first = told_first(kind, text, &exact, &verdict, exactly);
+    let first = first_saying(kind, text, &exact, &verdict, exactly);
     match sayings_of(alloc, kind, first, &verdict, exactly) {
         Ok(sayings) => Ok(Explanation {
             kind,
@@ -249,7 +249,7 @@ fn write_explanation<W: Out>(
 ) -> Result<Verdict, ProgramError>
     ensures { Explains W.sink out.old out.new text.now result }
 {
-    let done = read_and_tell(alloc, text)?;
+    let done = read_and_explain(alloc, text)?;
     let subject = subject_of(done.kind, text, &done.exact.bytes, done.exactly);
     match write_sayings(subject, &done.sayings, out) {
         Ok(()) => Ok(done.verdict),
@@ -262,7 +262,7 @@ fn write_explanation<W: Out>(
 /// fault, 1 where one is told, 2 after a refusal. Nothing is written to `out` before a refusal, but where writing to it
 /// failed (F24). A failed write to `err` changes nothing.
 pub fn explain<W: Out, V: Out>(alloc: Global, text: &[u8], out: &mut W, err: &mut V) -> u8
-    ensures { Answers (Explains W.sink out.old out.new text.now) explained_said V.sink err.old err.new result }
+    ensures { Answers (Explains W.sink out.old out.new text.now) explained_exit V.sink err.old err.new result }
 {
     answered(&write_explanation(alloc, text, out), err)
 }

@@ -4,7 +4,7 @@ ghost use Rattle.chart.specs.Charts.{chart_lines};
 ghost use Rattle.closure.specs.Faults.{Refuses};
 ghost use Rattle.diagram_import.specs.Importing.{imported};
 ghost use Rattle.diagram_import.specs.Refusals.{Gives};
-ghost use Rattle.diagram_join.specs.Drawing.{joined_drawn_view};
+ghost use Rattle.diagram_join.specs.Drawing.{joined_chart_view};
 ghost use Rattle.cmd_explain_file.specs.Verdicts.{IsOfSchedule, IsOfDiagram, no_options, unread, IsOfLines, IsOfWhole, IsOfChart, IsVerdict};
 ghost use Rattle.cmd_explain_file.specs.declared.kind.Kind.TheVariants.{Schedule};
 ghost use Rattle.cmd_base.specs.Files.{Named, is_schedule, chart_part};
@@ -17,7 +17,7 @@ use closure::{ChartError, Closure};
 use cmd_base::{ProgramError, Text, chart_in, schedule_in};
 use cmd_import_diagram::in_order;
 use diagram_import::{ImportError, Options, import_text};
-use diagram_join::JoinedDrawn;
+use diagram_join::JoinedChart;
 use fault_places::steps_of;
 use schedule_replay::notes::notes_of;
 use std::alloc::Global;
@@ -52,8 +52,8 @@ fn unread(error: &ImportError) -> Unread
 }
 
 /// The diagram that a text says, where nothing is skipped or joined, and things may be left out.
-fn drawn_in(alloc: Global, text: &[u8]) -> Result<JoinedDrawn, ImportError>
-    ensures { Gives joined_drawn_view result (imported None text.now no_options) }
+fn diagram_chart_in(alloc: Global, text: &[u8]) -> Result<JoinedChart, ImportError>
+    ensures { Gives joined_chart_view result (imported None text.now no_options) }
 {
     let options = Options {
         skipped: &[],
@@ -68,19 +68,19 @@ fn judge_diagram(alloc: Global, text: &[u8]) -> Result<Verdict, ProgramError>
     ensures verdict { IfOk result (IsOfDiagram text.now) }
     ensures memory { IfErr result (λ e. e ≡ ProgramError.Memory) }
 {
-    let drawn = match drawn_in(alloc, text) {
-        Ok(drawn) => drawn,
+    let built = match diagram_chart_in(alloc, text) {
+        Ok(built) => built,
         Err(ImportError::Memory) => return Err(ProgramError::Memory),
-        Err(error) => return Ok(Verdict::NotDrawn(unread(&error))),
+        Err(error) => return Ok(Verdict::NotBuilt(unread(&error))),
     };
-    match in_order(alloc, &drawn.drawn.left_out) {
-        Ok(left_out) => Ok(Verdict::Drawn(left_out, drawn.overtaking)),
+    match in_order(alloc, &built.built.left_out) {
+        Ok(left_out) => Ok(Verdict::Built(left_out, built.overtaking)),
         Err(_) => Err(ProgramError::Memory),
     }
 }
 
-/// A shortest circle of the chart of this text, in which events come before each other.
-fn judge_circle(
+/// A shortest cycle of the chart of this text, in which events come before each other.
+fn judge_cycle(
     alloc: Global,
     text: &[u8],
     names: &Names,
@@ -115,7 +115,7 @@ fn judge_lines(
     match error {
         ChartError::ReceiveWithoutSend(receive) => Ok(Verdict::NoSend(receive)),
         ChartError::NameMismatch(receive) => Ok(Verdict::OtherName(receive)),
-        ChartError::Cyclic => judge_circle(alloc, text, names, chart),
+        ChartError::Cyclic => judge_cycle(alloc, text, names, chart),
         ChartError::Memory => Err(ProgramError::Memory),
     }
 }
@@ -144,8 +144,8 @@ fn or_whole(alloc: Global, text: &[u8], judged: Verdict) -> Result<Verdict, Prog
         Verdict::OtherName(receive) => Ok(Verdict::OtherName(receive)),
         Verdict::Cyclic(steps) => Ok(Verdict::Cyclic(steps)),
         Verdict::Ran(_) => unreachable!(),
-        Verdict::Drawn(_, _) => unreachable!(),
-        Verdict::NotDrawn(_) => unreachable!(),
+        Verdict::Built(_, _) => unreachable!(),
+        Verdict::NotBuilt(_) => unreachable!(),
         Verdict::Behind(_) => unreachable!(),
         Verdict::Refused(_) => unreachable!(),
     }

@@ -6,7 +6,7 @@ ghost use Rattle.cmd_explain_file.specs.Kinds.{has_brace, begins_chart, shown, k
 
 use cmd_base::is_schedule;
 use diagram_tool::Tool;
-use diagram_tool::detection::told_tool;
+use diagram_tool::detection::detected_tool;
 use fault_places::line_from;
 
 /// What kind of file it is.
@@ -66,7 +66,7 @@ pub(crate) fn kind_by(text: &[u8], exact: &[u8]) -> Kind
     if is_schedule(text) || is_schedule(exact) {
         return Kind::Schedule;
     }
-    match told_tool(behind_mark(text)) {
+    match detected_tool(behind_mark(text)) {
         Ok(Tool::Mscgen) if begins_chart(text) => Kind::Chart,
         Ok(tool) => Kind::Diagram(tool),
         Err(_) => Kind::Other,

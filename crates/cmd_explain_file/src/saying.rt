@@ -36,7 +36,7 @@ pub(crate) enum Saying {
     Overtaking(Overtaking),
     /// F18.
     Cyclic,
-    /// A step of the circle.
+    /// A step of the cycle.
     Step(Step),
     /// That `mscview tidy` writes it so that it is read.
     Tidy,

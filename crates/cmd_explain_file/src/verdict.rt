@@ -1,6 +1,6 @@
 //! What came of reading a file.
 ghost use Rattle.std.specs.Prelude.{◌≡◌, None};
-ghost use Rattle.cmd_explain_file.specs.Verdicts.{status_of, verdict_said};
+ghost use Rattle.cmd_explain_file.specs.Verdicts.{status_of, verdict_exit};
 
 use chart::EventNo;
 use cmd_base::Answer;
@@ -33,9 +33,9 @@ pub(crate) enum Verdict {
     /// A schedule, with the notes that its commands leave.
     Ran(Vec<Noted>),
     /// A diagram, with what its chart doesn't keep.
-    Drawn(Vec<LeftOut>, Vec<Overtaking>),
+    Built(Vec<LeftOut>, Vec<Overtaking>),
     /// A diagram that is refused.
-    NotDrawn(Unread),
+    NotBuilt(Unread),
     /// A chart with a text behind it, and the fault of the whole text.
     Behind(Fault),
     /// The first fault of the text.
@@ -44,7 +44,7 @@ pub(crate) enum Verdict {
     NoSend(EventNo),
     /// F17: the message of this receive was sent by another name.
     OtherName(EventNo),
-    /// F18: these events come before each other, in a circle.
+    /// F18: these events come before each other, in a cycle.
     Cyclic(Vec<Step>),
 }
 
@@ -61,12 +61,12 @@ pub(crate) enum Exactly {
 
 /// The exit status: 1 where a fault is told.
 impl Answer for Verdict {
-    ghost said = { verdict_said };
+    ghost exit = { verdict_exit };
 
     fn status(&self) -> u8 {
         match self {
-            Verdict::Read | Verdict::Ran(_) | Verdict::Drawn(_, _) | Verdict::Behind(_) => 0,
-            Verdict::NotDrawn(_)
+            Verdict::Read | Verdict::Ran(_) | Verdict::Built(_, _) | Verdict::Behind(_) => 0,
+            Verdict::NotBuilt(_)
             | Verdict::Refused(_)
             | Verdict::NoSend(_)
             | Verdict::OtherName(_)
@@ -74,5 +74,5 @@ impl Answer for Verdict {
         }
     }
 
-    fn tell<V: Out>(&self, _err: &mut V) {}
+    fn print_diagnostics<V: Out>(&self, _err: &mut V) {}
 }

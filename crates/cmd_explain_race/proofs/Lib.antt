@@ -1,2 +1,2 @@
 pub mod RaceLemmas
-pub mod TurningLemmas
+pub mod ReorderingLemmas

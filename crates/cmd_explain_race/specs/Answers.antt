@@ -1,9 +1,9 @@
 -- What is printed on standard error.
 use Rattle.std.specs.Prelude.{ℕ, Bool, true, false, List, ◌++◌, Option, None, Some, codes, Result}
-use Rattle.cmd_base.specs.Answers.{Said, said_of}
+use Rattle.cmd_base.specs.Answers.{Exit, exit_of}
 use Rattle.cmd_base.specs.Refusals as refusals
 use Rattle.cmd_base.specs.declared.pairs.error.ViewError.{ViewError}
-use Rattle.cmd_base.specs.Pairs.Answers.{error_said}
+use Rattle.cmd_base.specs.Pairs.Answers.{error_exit}
 use Rattle.cmd_base.specs.Pairs.SayingText.{hidden_text}
 use Rattle.cmd_explain_race.specs.declared.verdict.Verdict.{Verdict}
 use Rattle.cmd_explain_race.specs.declared.verdict.Verdict.TheVariants.{Enforced, Race, Hidden}
@@ -11,10 +11,10 @@ use Rattle.cmd_explain_race.specs.declared.verdict.Witnessed.{Witnessed}
 use Rattle.cmd_explain_race.specs.Verdicts.{code_of}
 
 -- what is told beside what explains a pair
-abbrev pub told_of : Verdict → Option (List ℕ)
-told_of Enforced = None
-told_of Race = None
-told_of Hidden = Some hidden_text
+abbrev pub diagnostics_of : Verdict → Option (List ℕ)
+diagnostics_of Enforced = None
+diagnostics_of Race = None
+diagnostics_of Hidden = Some hidden_text
 
 unfoldable pub closes_text : List ℕ
 closes_text = codes "closes are left out\n"
@@ -23,32 +23,32 @@ unfoldable pub enforced_text : List ℕ
 enforced_text = codes "enforced: each run has the two in this order\n"
 
 -- that a schedule's closes are left out
-abbrev pub told_of_closes : Bool → Option (List ℕ)
-told_of_closes true = Some closes_text
-told_of_closes false = None
+abbrev pub closes_diagnostics : Bool → Option (List ℕ)
+closes_diagnostics true = Some closes_text
+closes_diagnostics false = None
 
 -- the same, and that a coregion hides the pair
-abbrev pub told_of_hidden : Bool → Option (List ℕ)
-told_of_hidden true = Some (closes_text ++ hidden_text)
-told_of_hidden false = Some hidden_text
+abbrev pub hidden_diagnostics : Bool → Option (List ℕ)
+hidden_diagnostics true = Some (closes_text ++ hidden_text)
+hidden_diagnostics false = Some hidden_text
 
 -- what is told beside a witness, or in place of one
-abbrev pub told_of_witness : Bool → Verdict → Option (List ℕ)
-told_of_witness has_closes Enforced = Some enforced_text
-told_of_witness has_closes Race = told_of_closes has_closes
-told_of_witness has_closes Hidden = told_of_hidden has_closes
+abbrev pub witness_diagnostics : Bool → Verdict → Option (List ℕ)
+witness_diagnostics has_closes Enforced = Some enforced_text
+witness_diagnostics has_closes Race = closes_diagnostics has_closes
+witness_diagnostics has_closes Hidden = hidden_diagnostics has_closes
 
 -- what is said of a pair that was explained
-abbrev pub verdict_said : Verdict → Said
-verdict_said verdict = record { status = code_of verdict; told = told_of verdict }
+abbrev pub verdict_exit : Verdict → Exit
+verdict_exit verdict = record { status = code_of verdict; diagnostics = diagnostics_of verdict }
 
 -- of a pair for which a witness was looked for
-abbrev pub witnessed_said : Witnessed → Said
-witnessed_said witnessed =
-    record { status = code_of witnessed.verdict; told = told_of_witness witnessed.has_closes witnessed.verdict }
+abbrev pub witnessed_exit : Witnessed → Exit
+witnessed_exit witnessed =
+    record { status = code_of witnessed.verdict; diagnostics = witness_diagnostics witnessed.has_closes witnessed.verdict }
 
-abbrev pub why_said : Result Verdict ViewError → Said
-why_said = said_of verdict_said error_said
+abbrev pub why_exit : Result Verdict ViewError → Exit
+why_exit = exit_of verdict_exit error_exit
 
-abbrev pub witness_said : Result Witnessed ViewError → Said
-witness_said = said_of witnessed_said error_said
+abbrev pub witness_exit : Result Witnessed ViewError → Exit
+witness_exit = exit_of witnessed_exit error_exit

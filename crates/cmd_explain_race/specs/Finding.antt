@@ -5,7 +5,7 @@ use Rattle.chart.specs.Charts.{chart_lines, IsPossible}
 use Rattle.closure.specs.Faults.{place_of}
 use Rattle.cmd_base.specs.declared.error.ProgramError.TheVariants as errors
 use Rattle.cmd_base.specs.declared.source.Source.{Source}
-use Rattle.cmd_base.specs.declared.source.Source.TheVariants.{Run, Drawn}
+use Rattle.cmd_base.specs.declared.source.Source.TheVariants.{Run, Written}
 use Rattle.cmd_base.specs.Files.{Named}
 use Rattle.cmd_base.specs.Texts.{named_of}
 use Rattle.reordering.specs.OtherRuns.OtherRuns.{CanBeOvertaken}
@@ -24,8 +24,8 @@ use Rattle.cmd_explain_race.specs.declared.verdict.Verdict.TheVariants.{Enforced
 use Rattle.cmd_explain_race.specs.declared.verdict.Witnessed.{Witnessed}
 use Rattle.cmd_explain_race.specs.Explaining.{AreInOneRegion}
 use Rattle.cmd_base.specs.Pairs.Pairs.{pair_of}
-use Rattle.cmd_explain_race.specs.Turning.{Origin, IsAskedFor, IsWitness, NeedsSlots}
-use Rattle.cmd_explain_race.specs.Turning.Origin.{recorded, drawn}
+use Rattle.cmd_explain_race.specs.Reordering.{Origin, IsAskedFor, IsWitness, NeedsSlots}
+use Rattle.cmd_explain_race.specs.Reordering.Origin.{recorded, from_chart}
 use Rattle.cmd_explain_race.specs.Verdicts.{verdict_in}
 
 -- it closes a lane
@@ -44,12 +44,12 @@ has_closes plan = list_any (λ (c : Command). is_close c.action) plan.commands
 -- what a witness is made from: what a schedule's commands made, or a chart's lines as drawn
 abbrev pub origin_of : Source → Origin
 origin_of (Run schedule outcome) = recorded schedule.now
-origin_of (Drawn named) = drawn
+origin_of (Written named) = from_chart
 
 -- whether closes are left out
 abbrev pub closes_in : Source → Bool
 closes_in (Run schedule outcome) = has_closes schedule.now
-closes_in (Drawn named) = false
+closes_in (Written named) = false
 
 -- what there is to show of a pair of the chart: a witness; that no run turns it round; how many slots each run needs
 -- that does

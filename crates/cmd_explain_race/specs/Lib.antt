@@ -1,7 +1,7 @@
 pub mod Answers
 pub mod Explaining
 pub mod Finding
-pub mod Turning
+pub mod Reordering
 pub mod Verdicts
 pub mod Views
 pub mod Witnessing

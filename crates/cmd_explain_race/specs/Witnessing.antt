@@ -18,7 +18,7 @@ use Rattle.cmd_explain_race.specs.declared.verdict.Verdict.{Verdict}
 use Rattle.cmd_explain_race.specs.declared.verdict.Witnessed.{Witnessed}
 use Rattle.cmd_explain_race.specs.Finding.{origin_of, closes_in}
 use Rattle.cmd_base.specs.Pairs.Pairs.{pair_of}
-use Rattle.cmd_explain_race.specs.Turning.{Origin, Shows}
+use Rattle.cmd_explain_race.specs.Reordering.{Origin, Shows}
 
 module _ {S : Type 0} (sink : S → Sink) where
   -- what is written of what there is to show: the text of the schedule, or a beginning of it, where a put failed; and

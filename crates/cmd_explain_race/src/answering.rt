@@ -1,12 +1,12 @@
 //! What is told on standard error: refusals, and what is told beside an answer.
 ghost use Rattle.std.specs.Prelude.{◌≡◌, ◌++◌};
 ghost use Rattle.texts.specs.Writing.{Wrote, Adds};
-ghost use Rattle.cmd_explain_race.specs.Answers.{enforced_text, closes_text, verdict_said, witnessed_said, told_of_hidden};
-ghost use Rattle.cmd_base.specs.Answers.{Tells};
+ghost use Rattle.cmd_explain_race.specs.Answers.{enforced_text, closes_text, verdict_exit, witnessed_exit, hidden_diagnostics};
+ghost use Rattle.cmd_base.specs.Answers.{Prints};
 
 use crate::verdict::{Verdict, Witnessed};
 use cmd_base::pairs::hidden_text;
-use cmd_base::{Answer, tell};
+use cmd_base::{Answer, print_diagnostics};
 use texts::{Out, TextBuffer, WriteError};
 
 #[tactic(auto, unfolding(crate::specs::Answers::closes_text))]
@@ -25,16 +25,16 @@ fn enforced_text() -> &'static [u8]
 
 /// What is told beside what explains a pair.
 impl Answer for Verdict {
-    ghost said = { verdict_said };
+    ghost exit = { verdict_exit };
 
     fn status(&self) -> u8 {
         self.code()
     }
 
-    fn tell<V: Out>(&self, err: &mut V) {
+    fn print_diagnostics<V: Out>(&self, err: &mut V) {
         match self {
             Verdict::Enforced | Verdict::Race => {}
-            Verdict::Hidden => tell(hidden_text(), err),
+            Verdict::Hidden => print_diagnostics(hidden_text(), err),
         }
     }
 }
@@ -61,33 +61,33 @@ fn write_both<V: Out>(first: &[u8], second: &[u8], err: &mut V) -> Result<(), Wr
 }
 
 /// Writes what is told of a pair that a coregion hides.
-fn tell_hidden<V: Out>(has_closes: bool, err: &mut V)
-    ensures { Tells V.sink err.old err.new (told_of_hidden has_closes) }
+fn print_hidden<V: Out>(has_closes: bool, err: &mut V)
+    ensures { Prints V.sink err.old err.new (hidden_diagnostics has_closes) }
 {
     if has_closes {
         let _ = write_both(closes_text(), hidden_text(), err);
     } else {
-        tell(hidden_text(), err);
+        print_diagnostics(hidden_text(), err);
     }
 }
 
 /// What is told beside a witness, or in place of one.
 impl Answer for Witnessed {
-    ghost said = { witnessed_said };
+    ghost exit = { witnessed_exit };
 
     fn status(&self) -> u8 {
         self.verdict.code()
     }
 
-    fn tell<V: Out>(&self, err: &mut V) {
+    fn print_diagnostics<V: Out>(&self, err: &mut V) {
         match self.verdict {
-            Verdict::Enforced => tell(enforced_text(), err),
+            Verdict::Enforced => print_diagnostics(enforced_text(), err),
             Verdict::Race => {
                 if self.has_closes {
-                    tell(closes_text(), err);
+                    print_diagnostics(closes_text(), err);
                 }
             }
-            Verdict::Hidden => tell_hidden(self.has_closes, err),
+            Verdict::Hidden => print_hidden(self.has_closes, err),
         }
     }
 }

@@ -59,8 +59,8 @@ fn explain(
 ) -> Result<(Verdict, Vec<Saying>), AllocError>
     requires limit { length closure.now ≤ MAX_INSTANCES }
     requires pair { IsPair (chart_lines closure.now) pair.now }
-    ensures { IfOk result (λ told. IsExplained (length closure.now) (chart_lines closure.now) pair.now told.0
-        told.1.items) }
+    ensures { IfOk result (λ diagnostics. IsExplained (length closure.now) (chart_lines closure.now) pair.now diagnostics.0
+        diagnostics.1.items) }
 {
     match shortest_chain(alloc, closure, &pair.earlier, &pair.receive)? {
         Some(links) => {

@@ -4,11 +4,11 @@ ghost use Rattle.closure.specs.Faults.{place_of};
 ghost use Rattle.chart.specs.Charts.{chart_lines};
 ghost use Rattle.cmd_base.specs.Texts.{named_of, ComesFrom};
 ghost use Rattle.schedule.specs.Outcomes.Outcomes.{IsOutcome};
-ghost use Rattle.schedule_replay.specs.ReorderedRuns.Turns.{IsTurned};
+ghost use Rattle.schedule_replay.specs.ReorderedRuns.Reorderings.{IsReordered};
 ghost use Rattle.cmd_base.specs.Pairs.Pairs.{IsPair};
 ghost use Rattle.cmd_explain_race.specs.Finding.{IsFoundOf, IsFound, is_close, has_closes, closes_in, origin_of, Judges};
-ghost use Rattle.cmd_explain_race.specs.Turning.{Origin, first_of, IsKeptFrom, IsAskedFor};
-ghost use Rattle.cmd_explain_race.specs.Turning.Origin.{drawn, recorded};
+ghost use Rattle.cmd_explain_race.specs.Reordering.{Origin, first_of, IsKeptFrom, IsAskedFor};
+ghost use Rattle.cmd_explain_race.specs.Reordering.Origin.{from_chart, recorded};
 
 use crate::explained::are_in_one_region;
 use crate::verdict::{Verdict, Witnessed};
@@ -18,7 +18,7 @@ use cmd_base::{ProgramError, Source, closure_of};
 use schedule::outcomes::Outcome;
 use schedule::{Action, Schedule};
 use schedule_replay::reordered_runs::{
-    Shown, Turned, overtake_of_chart, overtake_of_schedule, show,
+    Reordered, Shown, overtake_of_chart, overtake_of_schedule, show,
 };
 use std::alloc::Global;
 
@@ -48,20 +48,20 @@ fn found_of(
     alloc: Global,
     names: &Names,
     chart: &Chart,
-    turned: &Turned,
+    reordered: &Reordered,
     pair: &Pair,
 ) -> Result<Found, ViewError>
     requires named { length names.now ≡ length chart.now }
-    requires turned { (first : ℕ) × (1 ≤ first) × IsTurned (length names.now) first (chart_lines chart.now)
-        (place_of pair.now.earlier) (place_of pair.now.receive) turned.now }
-    ensures { (origin : Origin) → 1 ≤ first_of origin → IsTurned (length names.now) (first_of origin)
-        (chart_lines chart.now) (place_of pair.now.earlier) (place_of pair.now.receive) turned.now
-        → IsKeptFrom (names.now, chart.now) origin pair.now turned.now
+    requires reordered { (first : ℕ) × (1 ≤ first) × IsReordered (length names.now) first (chart_lines chart.now)
+        (place_of pair.now.earlier) (place_of pair.now.receive) reordered.now }
+    ensures { (origin : Origin) → 1 ≤ first_of origin → IsReordered (length names.now) (first_of origin)
+        (chart_lines chart.now) (place_of pair.now.earlier) (place_of pair.now.receive) reordered.now
+        → IsKeptFrom (names.now, chart.now) origin pair.now reordered.now
         → IsFoundOf (names.now, chart.now) origin pair.now result }
 {
     let lines = chart.lines();
     prove!(2 <= lines.len());
-    match show(alloc, names, turned) {
+    match show(alloc, names, reordered) {
         Ok(shown) => Ok(Found { pair: *pair, shown }),
         Err(_) => Err(ViewError::Program(ProgramError::Memory)),
     }
@@ -75,13 +75,13 @@ fn found_in_chart(
     asked: &Asked<'_>,
 ) -> Result<Found, ViewError>
     requires { length names.now ≡ length chart.now }
-    ensures { IsFound (names.now, chart.now) drawn asked.now result }
+    ensures { IsFound (names.now, chart.now) from_chart asked.now result }
 {
     let pair = pair_of_possible(alloc, names, chart, asked)?;
-    let Ok(turned) = overtake_of_chart(alloc, chart, pair.receive, pair.earlier) else {
+    let Ok(reordered) = overtake_of_chart(alloc, chart, pair.receive, pair.earlier) else {
         return Err(ViewError::Program(ProgramError::Memory));
     };
-    found_of(alloc, names, chart, &turned, &pair)
+    found_of(alloc, names, chart, &reordered, &pair)
 }
 
 /// The same for two events of the chart that a schedule comes to. What needn't come with the receive stays in the
@@ -96,23 +96,23 @@ fn found_in_run(
     ensures { IsFound (outcome.now.names, outcome.now.chart) (recorded schedule.now) asked.now result }
 {
     let pair = pair_of_possible(alloc, outcome.names(), outcome.chart(), asked)?;
-    let Ok(turned) = overtake_of_schedule(alloc, schedule, pair.receive, pair.earlier) else {
+    let Ok(reordered) = overtake_of_schedule(alloc, schedule, pair.receive, pair.earlier) else {
         return Err(ViewError::Program(ProgramError::Memory));
     };
     prove!(1 <= schedule.capacity().slots());
-    found_of(alloc, outcome.names(), outcome.chart(), &turned, &pair)
+    found_of(alloc, outcome.names(), outcome.chart(), &reordered, &pair)
 }
 
 /// What is found for two events of a chart that was read: a run in which they stand the other way round, as a schedule,
-/// or that there is none, or how many slots one needs. F16, F17 or F18: the chart isn't possible. F31 and F32: there are
-/// no two such events. F6: a growth was refused.
+/// or that there is none, or how many slots one needs. F16, F17 or F18: the chart isn't possible. F31 and F32: there
+/// are no two such events. F6: a growth was refused.
 pub fn found_in(alloc: Global, source: &Source<'_>, asked: &Asked<'_>) -> Result<Found, ViewError>
     requires { ComesFrom source.now }
     ensures { IsFound (named_of source.now) (origin_of source.now) asked.now result }
 {
     match source {
         Source::Run(schedule, outcome) => found_in_run(alloc, schedule, outcome, asked),
-        Source::Drawn(named) => found_in_chart(alloc, named.names(), named.chart(), asked),
+        Source::Written(named) => found_in_chart(alloc, named.names(), named.chart(), asked),
     }
 }
 
@@ -142,12 +142,12 @@ fn closes_in(source: &Source<'_>) -> bool
 {
     match source {
         Source::Run(schedule, _) => has_closes(schedule),
-        Source::Drawn(_) => false,
+        Source::Written(_) => false,
     }
 }
 
-/// What the two events of the source's chart are, by what was found for them. F33: the only runs that turn them round need
-/// more than 64 slots.
+/// What the two events of the source's chart are, by what was found for them. F33: the only runs that turn them round
+/// need more than 64 slots.
 pub fn judged(source: &Source<'_>, found: &Found) -> Result<Witnessed, ViewError>
     requires { IsPair (chart_lines (named_of source.now).1) found.now.pair }
     ensures { Judges source.now found.now result }

@@ -1,4 +1,4 @@
-//! What the program `mscview` does with the bytes of a file, and what it says where it can't.
+//! What `mscview why` and `mscview witness` do with the bytes of a file, and what they say where they can't.
 //!
 //! What is promised ([`why`]): the bytes of the file, an instance's name and the numbers of two events decide the
 //! output's bytes.

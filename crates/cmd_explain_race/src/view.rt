@@ -1,7 +1,7 @@
 //! What the program explains of the bytes of a file.
 ghost use Rattle.cmd_base.specs.Answers.{Answers};
 ghost use Rattle.cmd_base.specs.Texts.{named_of};
-ghost use Rattle.cmd_explain_race.specs.Answers.{why_said};
+ghost use Rattle.cmd_explain_race.specs.Answers.{why_exit};
 ghost use Rattle.cmd_explain_race.specs.Explaining.{Explains};
 ghost use Rattle.cmd_explain_race.specs.Views.{Whys};
 
@@ -26,7 +26,8 @@ fn why_text<W: Out>(
     why_in(alloc, source.names(), source.chart(), asked, out)
 }
 
-/// Explains two events of a chart that was read: the same as [`why`] does with the bytes of the file that it comes from.
+/// Explains two events of a chart that was read: the same as [`why`] does with the bytes of the file that it comes
+/// from.
 pub fn why_of_source<W: Out, V: Out>(
     alloc: Global,
     source: &Source<'_>,
@@ -34,7 +35,7 @@ pub fn why_of_source<W: Out, V: Out>(
     out: &mut W,
     err: &mut V,
 ) -> u8
-    ensures { Answers (λ done. Explains W.sink out.old out.new done (named_of source.now) asked.now) why_said
+    ensures { Answers (λ done. Explains W.sink out.old out.new done (named_of source.now) asked.now) why_exit
         V.sink err.old err.new result }
 {
     answered(
@@ -55,7 +56,7 @@ pub fn why<W: Out, V: Out>(
     out: &mut W,
     err: &mut V,
 ) -> u8
-    ensures { Answers (Whys W.sink out.old out.new bytes.now asked.now) why_said V.sink err.old err.new result }
+    ensures { Answers (Whys W.sink out.old out.new bytes.now asked.now) why_exit V.sink err.old err.new result }
 {
     answered(&why_text(alloc, bytes, asked, out), err)
 }

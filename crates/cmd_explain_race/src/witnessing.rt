@@ -1,7 +1,7 @@
 //! What `mscview witness` does with the bytes of a file.
 ghost use Rattle.cmd_base.specs.Answers.{Answers};
 ghost use Rattle.cmd_base.specs.Texts.{ComesFrom};
-ghost use Rattle.cmd_explain_race.specs.Answers.{witness_said};
+ghost use Rattle.cmd_explain_race.specs.Answers.{witness_exit};
 ghost use Rattle.cmd_explain_race.specs.Witnessing.{WritesShown, FindsIn, Witnesses};
 
 use crate::finding::{found_in, judged};
@@ -41,8 +41,8 @@ fn witness_of<W: Out>(
     Ok(witnessed)
 }
 
-/// Writes a witness for two events of a chart that was read: the same as [`witness`] does with the bytes of the file that
-/// it comes from.
+/// Writes a witness for two events of a chart that was read: the same as [`witness`] does with the bytes of the file
+/// that it comes from.
 pub fn witness_of_source<W: Out, V: Out>(
     alloc: Global,
     source: &Source<'_>,
@@ -51,7 +51,7 @@ pub fn witness_of_source<W: Out, V: Out>(
     err: &mut V,
 ) -> u8
     requires { ComesFrom source.now }
-    ensures { Answers (FindsIn W.sink out.old out.new asked.now source.now) witness_said V.sink err.old err.new result }
+    ensures { Answers (FindsIn W.sink out.old out.new asked.now source.now) witness_exit V.sink err.old err.new result }
 {
     answered(&witness_of(alloc, source, asked, out), err)
 }
@@ -82,7 +82,7 @@ pub fn witness<W: Out, V: Out>(
     out: &mut W,
     err: &mut V,
 ) -> u8
-    ensures { Answers (Witnesses W.sink out.old out.new bytes.now asked.now) witness_said V.sink err.old err.new result }
+    ensures { Answers (Witnesses W.sink out.old out.new bytes.now asked.now) witness_exit V.sink err.old err.new result }
 {
     answered(&witness_text(alloc, bytes, asked, out), err)
 }

@@ -4,35 +4,35 @@ use Rattle.chart.specs.Charts.{chart_lines, IsPossible}
 use Rattle.diagram_import.specs.Importing.{OptionsView, imported}
 use Rattle.diagram_import.specs.Refusals.{Fails}
 use Rattle.diagram_import.specs.declared.error.ImportError.{ImportError}
-use Rattle.cmd_base.specs.Answers.{Said, refusal, said_of}
+use Rattle.cmd_base.specs.Answers.{Exit, refusal, exit_of}
 use Rattle.cmd_base.specs.Refusals.{labelled_text}
-use Rattle.diagram_join.specs.Drawing.{joined_drawn_view}
-use Rattle.diagram_join.specs.declared.drawing.JoinedDrawn.{JoinedDrawn}
+use Rattle.diagram_join.specs.Drawing.{joined_chart_view}
+use Rattle.diagram_join.specs.declared.drawing.JoinedChart.{JoinedChart}
 use Rattle.msc_text.specs.ChartText.{chart_text}
 use Rattle.texts.specs.Outs.{Sink}
 use Rattle.texts.specs.Writing.{Puts, Breaks}
 use Rattle.diagram_tool.specs.declared.Tool.{Tool}
 use Rattle.cmd_import_diagram.specs.Order.{in_order}
 use Rattle.cmd_import_diagram.specs.Refusals.{drawing_refusal_text}
-use Rattle.cmd_import_diagram.specs.Telling.{told_text}
+use Rattle.cmd_import_diagram.specs.Diagnostics.{diagnostics_text}
 use Rattle.cmd_import_diagram.specs.declared.importing.Drawing.{Drawing}
-use Rattle.cmd_import_diagram.specs.declared.importing.Told.{Told}
-use Rattle.cmd_import_diagram.specs.declared.importing.Untranslated.{Untranslated}
-use Rattle.cmd_import_diagram.specs.declared.importing.Untranslated.TheVariants.{Diagram, Write}
+use Rattle.cmd_import_diagram.specs.declared.importing.Diagnostics.{Diagnostics}
+use Rattle.cmd_import_diagram.specs.declared.importing.ImportWriteError.{ImportWriteError}
+use Rattle.cmd_import_diagram.specs.declared.importing.ImportWriteError.TheVariants.{Diagram, Write}
 
 -- the chart that is read of the bytes, which is possible
-abbrev pub IsChartOf : JoinedDrawn → Option Tool → List ℕ → OptionsView → Type 0
-IsChartOf drawn tool bytes options =
-    (imported tool bytes options ≡ Ok (joined_drawn_view drawn)) × IsPossible (length drawn.drawn.chart) (chart_lines drawn.drawn.chart)
+abbrev pub IsChartOf : JoinedChart → Option Tool → List ℕ → OptionsView → Type 0
+IsChartOf built tool bytes options =
+    (imported tool bytes options ≡ Ok (joined_chart_view built)) × IsPossible (length built.built.chart) (chart_lines built.built.chart)
 
 -- this is told of the chart: what is left out, in its order, the messages that overtake, and the names
-abbrev pub IsToldOf : Told → JoinedDrawn → Type 0
-IsToldOf told drawn = (told.left_out.items ≡ in_order drawn.drawn.left_out.items) × (told.overtaking ≡ drawn.overtaking) × (told.renamed ≡ drawn.drawn.renamed)
+abbrev pub AreDiagnosticsOf : Diagnostics → JoinedChart → Type 0
+AreDiagnosticsOf diagnostics built = (diagnostics.left_out.items ≡ in_order built.built.left_out.items) × (diagnostics.overtaking ≡ built.overtaking) × (diagnostics.renamed ≡ built.built.renamed)
 
 -- the names and the chart are those that are read of the bytes, and what is told is told of it
 abbrev pub IsDrawingOf : Drawing → Option Tool → List ℕ → OptionsView → Type 0
-IsDrawingOf drawing tool bytes options = (drawn : JoinedDrawn) × IsChartOf drawn tool bytes options
-    × IsToldOf drawing.told drawn × (drawing.names ≡ drawn.drawn.names) × (drawing.chart ≡ drawn.drawn.chart)
+IsDrawingOf drawing tool bytes options = (built : JoinedChart) × IsChartOf built tool bytes options
+    × AreDiagnosticsOf drawing.diagnostics built × (drawing.names ≡ built.built.names) × (drawing.chart ≡ built.built.chart)
 
 -- the chart is read of the bytes, or they are refused, or memory ran out
 abbrev pub ReadsDrawing : Result Drawing ImportError → Option Tool → List ℕ → OptionsView → Type 0
@@ -42,22 +42,22 @@ ReadsDrawing (Err error) tool bytes options = Fails error (imported tool bytes o
 module _ {S : Type 0} (sink : S → Sink) where
   -- the text of the chart was written that is read of the bytes; or a beginning of it, where a put failed; or nothing,
   -- where the bytes are refused or memory ran out
-  abbrev pub Imports : S → S → Result Told Untranslated → Option Tool → List ℕ → OptionsView → Type 0
-  Imports old new (Ok told) tool bytes options = (drawn : JoinedDrawn) × IsChartOf drawn tool bytes options
-      × IsToldOf told drawn × Puts sink old new (chart_text drawn.drawn.names drawn.drawn.chart)
+  abbrev pub Imports : S → S → Result Diagnostics ImportWriteError → Option Tool → List ℕ → OptionsView → Type 0
+  Imports old new (Ok diagnostics) tool bytes options = (built : JoinedChart) × IsChartOf built tool bytes options
+      × AreDiagnosticsOf diagnostics built × Puts sink old new (chart_text built.built.names built.built.chart)
   Imports old new (Err (Diagram error)) tool bytes options = Fails error (imported tool bytes options) × (new ≡ old)
-  Imports old new (Err Write) tool bytes options = (drawn : JoinedDrawn) × IsChartOf drawn tool bytes options
-      × Breaks sink old new (chart_text drawn.drawn.names drawn.drawn.chart)
+  Imports old new (Err Write) tool bytes options = (built : JoinedChart) × IsChartOf built tool bytes options
+      × Breaks sink old new (chart_text built.built.names built.built.chart)
 
 -- what is told of a chart that was written
-abbrev pub told_said : Told → Said
-told_said told = record { status = 0; told = Some (told_text told.left_out.items told.overtaking.items told.renamed.items) }
+abbrev pub diagnostics_exit : Diagnostics → Exit
+diagnostics_exit diagnostics = record { status = 0; diagnostics = Some (diagnostics_text diagnostics.left_out.items diagnostics.overtaking.items diagnostics.renamed.items) }
 
 -- what is said of a refusal
-abbrev pub untranslated_said : Untranslated → Said
-untranslated_said Write = refusal (labelled_text (codes "F24 Write") None)
-untranslated_said (Diagram error) = refusal (drawing_refusal_text error)
+abbrev pub import_write_error_exit : ImportWriteError → Exit
+import_write_error_exit Write = refusal (labelled_text (codes "F24 Write") None)
+import_write_error_exit (Diagram error) = refusal (drawing_refusal_text error)
 
 -- what is said of an import
-abbrev pub imported_said : Result Told Untranslated → Said
-imported_said = said_of told_said untranslated_said
+abbrev pub imported_exit : Result Diagnostics ImportWriteError → Exit
+imported_exit = exit_of diagnostics_exit import_write_error_exit

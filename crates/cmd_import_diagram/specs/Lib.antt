@@ -2,4 +2,4 @@ pub mod Importing
 pub mod KindWords
 pub mod Order
 pub mod Refusals
-pub mod Telling
+pub mod Diagnostics

@@ -6,17 +6,17 @@ ghost use Rattle.cmd_base.specs.Refusals.{Tried};
 ghost use Rattle.diagram_import.specs.Importing.{options_view};
 ghost use Rattle.cmd_import_diagram.specs.Importing.{ReadsDrawing, Imports};
 ghost use Rattle.cmd_import_diagram.specs.Refusals.{not_read_text, chart_refusal_text, drawing_refusal_text};
-ghost use Rattle.cmd_import_diagram.specs.Importing.{told_said, untranslated_said, imported_said};
+ghost use Rattle.cmd_import_diagram.specs.Importing.{diagnostics_exit, import_write_error_exit, imported_exit};
 
+use crate::diagnostics::write_diagnostics;
 use crate::order::in_order;
-use crate::telling::write_told;
 use chart::{Chart, Names};
 use cmd_base::{Answer, answered, refused_by};
 use diagram_import::{ImportError, Options, import_text};
-use diagram_join::{JoinError, JoinedDrawn, Overtaking};
+use diagram_join::{JoinError, JoinedChart, Overtaking};
 use diagram_labels::Renamed;
 use diagram_tool::Tool;
-use diagrams::{Drawn, LeftOut, Place};
+use diagrams::{DiagramChart, LeftOut, Place};
 use std::alloc::Global;
 use texts::pieces::{Piece, add_pieces};
 use texts::{Out, TextBuffer, WriteError};
@@ -24,7 +24,7 @@ use texts::{Out, TextBuffer, WriteError};
 /// What is told of a chart beside its text: what is left out of its diagram, in the order of the first places, the
 /// messages that overtake another one, and each name that isn't its label's words.
 #[derive(Debug, Drop)]
-pub struct Told {
+pub struct Diagnostics {
     left_out: Vec<LeftOut>,
     overtaking: Vec<Overtaking>,
     renamed: Vec<Renamed>,
@@ -36,12 +36,12 @@ pub struct Drawing {
     /// A name for each line of the chart.
     pub names: Names,
     pub chart: Chart,
-    pub told: Told,
+    pub diagnostics: Diagnostics,
 }
 
 /// Why no chart was written.
 #[derive(Debug, Drop)]
-pub enum Untranslated {
+pub enum ImportWriteError {
     /// The diagram isn't read or has no chart, or memory ran out.
     Diagram(ImportError),
     /// F24: a write failed.
@@ -59,13 +59,13 @@ pub fn drawing_in(
     ensures reads { ReadsDrawing result tool text.now (options_view options.entry) }
     ensures named { IfOk result (λ d. length d.names ≡ length d.chart) }
 {
-    let JoinedDrawn { drawn, overtaking } = import_text(alloc, tool, text, options)?;
-    let Drawn {
+    let JoinedChart { built, overtaking } = import_text(alloc, tool, text, options)?;
+    let DiagramChart {
         names,
         chart,
         left_out,
         renamed,
-    } = drawn;
+    } = built;
     let left_out = match in_order(alloc, &left_out) {
         Ok(left_out) => left_out,
         Err(_) => return Err(ImportError::Memory),
@@ -73,7 +73,7 @@ pub fn drawing_in(
     Ok(Drawing {
         names,
         chart,
-        told: Told {
+        diagnostics: Diagnostics {
             left_out,
             overtaking,
             renamed,
@@ -88,16 +88,16 @@ fn translate<W: Out>(
     text: &[u8],
     options: Options<'_>,
     out: &mut W,
-) -> Result<Told, Untranslated>
+) -> Result<Diagnostics, ImportWriteError>
     ensures { Imports W.sink out.old out.new result tool text.now (options_view options.entry) }
 {
     let drawing = match drawing_in(alloc, tool, text, options) {
         Ok(drawing) => drawing,
-        Err(error) => return Err(Untranslated::Diagram(error)),
+        Err(error) => return Err(ImportWriteError::Diagram(error)),
     };
     match msc_text::write(&drawing.names, &drawing.chart, out) {
-        Ok(()) => Ok(drawing.told),
-        Err(_) => Err(Untranslated::Write),
+        Ok(()) => Ok(drawing.diagnostics),
+        Err(_) => Err(ImportWriteError::Write),
     }
 }
 
@@ -176,30 +176,30 @@ pub fn refused_drawing<V: Out>(error: &ImportError, err: &mut V) -> u8
 }
 
 /// What is left out, and each name that isn't its label's words, with status 0.
-impl Answer for Told {
-    ghost said = { told_said };
+impl Answer for Diagnostics {
+    ghost exit = { diagnostics_exit };
 
     fn status(&self) -> u8 {
         0
     }
 
-    fn tell<V: Out>(&self, err: &mut V) {
-        let _ = write_told(&self.left_out, &self.overtaking, &self.renamed, err);
+    fn print_diagnostics<V: Out>(&self, err: &mut V) {
+        let _ = write_diagnostics(&self.left_out, &self.overtaking, &self.renamed, err);
     }
 }
 
 /// A refusal's line, with status 2.
-impl Answer for Untranslated {
-    ghost said = { untranslated_said };
+impl Answer for ImportWriteError {
+    ghost exit = { import_write_error_exit };
 
     fn status(&self) -> u8 {
         2
     }
 
-    fn tell<V: Out>(&self, err: &mut V) {
+    fn print_diagnostics<V: Out>(&self, err: &mut V) {
         let _ = match self {
-            Untranslated::Write => refused_by(b"F24 Write", None, err),
-            Untranslated::Diagram(error) => refused_drawing(error, err),
+            ImportWriteError::Write => refused_by(b"F24 Write", None, err),
+            ImportWriteError::Diagram(error) => refused_drawing(error, err),
         };
     }
 }
@@ -218,7 +218,7 @@ pub fn import<W: Out, V: Out>(
     err: &mut V,
 ) -> u8
     ensures { Answers (λ done. Imports W.sink out.old out.new done tool text.now (options_view options.entry))
-        imported_said V.sink err.old err.new result }
+        imported_exit V.sink err.old err.new result }
 {
     answered(&translate(alloc, tool, text, options, out), err)
 }

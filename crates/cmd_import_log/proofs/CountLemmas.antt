@@ -9,7 +9,7 @@ use Rattle.log_chart.specs.declared.entry.Entry.{Entry}
 use Rattle.log_chart.specs.declared.item.Item.{Item}
 use Rattle.log_chart.proofs.ChartsLemmas.ItemLemmas.{hosts_count}
 use Rattle.log_chart.specs.Charts.ChartLines.{chart_from, first_full}
-use Rattle.log_chart.specs.Charts.Told.{invented_from, all_invented}
+use Rattle.log_chart.specs.Charts.Listing.{invented_from, all_invented}
 
 -- the chart has a line for each host
 lines_whole : (log : List Entry) (p : ℕ) (lines : List (List Item)) → length (chart_from log p lines) ≡ length lines

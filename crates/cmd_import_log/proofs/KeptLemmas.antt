@@ -15,7 +15,7 @@ use Rattle.log_chart.specs.declared.item.Item.{Item}
 use Rattle.log_chart.specs.declared.matching.LogLine.{LogLine}
 use Rattle.race_verdicts.specs.Recordings.{words_view}
 use Rattle.cmd_import_log.specs.Drawing.{named_in}
-use Rattle.cmd_import_log.specs.Entries.{said_of, entries_in}
+use Rattle.cmd_import_log.specs.Entries.{host_event_of, entries_in}
 use Rattle.cmd_import_log.specs.Options.{OptionsView}
 use Rattle.cmd_import_log.specs.Recording.{lent_of, IsRecordingOf}
 use Rattle.cmd_import_log.specs.declared.recording.LogRecording.{LogRecording}
@@ -53,10 +53,10 @@ recording_keeps o texts r its =
     let drawing = its.recording.drawing in
     let recorded = its.recording.recorded in
     let settled = drawing.settled in
-    let hosts = length r.drawing.told.names in
-    let streams = settled_streams (entries_in n) settled drawing.settles (have_streams n.hosts.names (map said_of n.lines)) in
+    let hosts = length r.drawing.diagnostics.names in
+    let streams = settled_streams (entries_in n) settled drawing.settles (have_streams n.hosts.names (map host_event_of n.lines)) in
     let chart : r.drawing.chart ≡ chart_from settled 1 (host_lines hosts settled) =
-    drawing.chart ∙ drawing.is_drawn.chart ∙ ap (λ (names : List (List ℕ)). chart_from settled 1 (host_lines (length names) settled)) (sym drawing.told.names) in
+    drawing.chart ∙ drawing.is_built.chart ∙ ap (λ (names : List (List ℕ)). chart_from settled 1 (host_lines (length names) settled)) (sym drawing.diagnostics.names) in
     subst (Keeps (lent_of r).lines (lent_of r).hosts) (sym chart)
     (subst₂ (λ (lines : List LogLine) (items : List (List Item)). Keeps lines items (chart_from settled 1 (host_lines hosts settled))) (sym recorded.lines) (sym recorded.hosts) (log_keeps hosts settled streams))
 

@@ -10,7 +10,7 @@ use Rattle.cmd_import_log.specs.declared.drawing.LogDrawing.{LogDrawing}
 use Rattle.cmd_import_log.specs.declared.error.LogImportError.{LogImportError}
 use Rattle.cmd_import_log.specs.declared.error.LogImportError.TheVariants.{Memory, BadPattern, NotALog, Instances, ToItself, LineFull}
 
-module _ (o : OptionsView) (texts : List (List ℕ)) (log : LogView) (says : Says o.form o.range texts log) (some : log.read.said ≡ [] → ⊥) where
+module _ (o : OptionsView) (texts : List (List ℕ)) (log : LogView) (says : Says o.form o.range texts log) (some : log.read.logged ≡ [] → ⊥) where
   pub draws_as : (r : Result LogDrawing LogImportError) (b : Beside) (n : NamedView) → b ≡ beside log → n ≡ named_in o log → DrawsNamed r b n → Draws r o texts
   draws_as (Ok d) b n be ne drawing = record { log = log; says = says; some = some; drawing = subst₂ (λ (x : Beside) (y : NamedView). IsNamedDrawing x y d) be ne drawing }
   draws_as (Err Memory) b n be ne refused = tt

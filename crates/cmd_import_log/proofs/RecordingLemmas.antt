@@ -6,19 +6,19 @@ use Rattle.log_chart.specs.Cycles.Freeing.{Settles, done, turn, freed}
 use Rattle.log_chart.proofs.CyclesLemmas.SettleLemmas.{freed_length}
 use Rattle.log_chart.proofs.NamedLemmas.EntryLemmas.{entries_whole}
 use Rattle.log_chart.specs.Named.Logs.{begun}
-use Rattle.log_lines.specs.Events.{SaidView}
+use Rattle.log_lines.specs.Events.{LoggedEventView}
 use Rattle.log_lines.specs.Names.Naming.{NamedView}
 use Rattle.log_lines.proofs.TakesLemmas.CountLemmas.{words_whole}
-use Rattle.log_lines.proofs.TakesLemmas.ToldLemmas.{told_pairs}
-use Rattle.log_lines.specs.Takes.Telling.{ToldView}
+use Rattle.log_lines.proofs.TakesLemmas.ObservationLemmas.{observed_pairs}
+use Rattle.log_lines.specs.Takes.Observations.{ObservationsView}
 use Rattle.log_chart.proofs.OrderLemmas.{matched_length}
 use Rattle.log_chart.specs.declared.entry.Entry.{Entry}
 use Rattle.race_verdicts.specs.Recordings.{TakenView, words_view}
 use Rattle.cmd_import_log.specs.Drawing.{beside, named_in, IsNamedDrawing, IsRefused}
-use Rattle.cmd_import_log.specs.Entries.{said_of, entries_in}
+use Rattle.cmd_import_log.specs.Entries.{host_event_of, entries_in}
 use Rattle.cmd_import_log.specs.Options.{FormView, Plain, Pattern, ShiViz, OptionsView}
 use Rattle.cmd_import_log.specs.Reading.{LogView, Says}
-use Rattle.cmd_import_log.specs.Recording.{is_known, told_of, lent_of, IsRecorded, IsNamedRecording, RecordsNamed, IsRecordingOf, Records}
+use Rattle.cmd_import_log.specs.Recording.{is_known, observed_of, lent_of, IsRecorded, IsNamedRecording, RecordsNamed, IsRecordingOf, Records}
 use Rattle.cmd_import_log.specs.declared.drawing.Beside.{Beside}
 use Rattle.cmd_import_log.specs.declared.drawing.LogDrawing.{LogDrawing}
 use Rattle.cmd_import_log.specs.declared.error.LogImportError.{LogImportError}
@@ -30,29 +30,29 @@ abbrev IsOfEntries : List Entry → Beside → NamedView → LogDrawing → Type
 IsOfEntries settled b n d = (its : IsNamedDrawing b n d) × (its.settled ≡ settled)
 
 -- the recording of the entries of a chart
-pub named_as : (b : Beside) (n : NamedView) (o : OptionsView) (said : List SaidView) (told : ToldView) (r : LogRecording) (settled : List Entry) (d : LogDrawing) → r.drawing ≡ d → IsOfEntries settled b n d
-    → IsRecorded o said settled told r → r.is_known ≡ is_known o.form b → IsNamedRecording b n o said told r
-named_as b n o said told r settled d same its recorded known =
-    let drawn = subst (IsOfEntries settled b n) (sym same) its in
-    record { drawing = drawn.0; recorded = subst (λ (e : List Entry). IsRecorded o said e told r) (sym drawn.1) recorded; known = known }
+pub named_as : (b : Beside) (n : NamedView) (o : OptionsView) (logged : List LoggedEventView) (observed : ObservationsView) (r : LogRecording) (settled : List Entry) (d : LogDrawing) → r.drawing ≡ d → IsOfEntries settled b n d
+    → IsRecorded o logged settled observed r → r.is_known ≡ is_known o.form b → IsNamedRecording b n o logged observed r
+named_as b n o logged observed r settled d same its recorded known =
+    let built = subst (IsOfEntries settled b n) (sym same) its in
+    record { drawing = built.0; recorded = subst (λ (e : List Entry). IsRecorded o logged e observed r) (sym built.1) recorded; known = known }
 
-module _ (o : OptionsView) (texts : List (List ℕ)) (log : LogView) (says : Says o.form o.range texts log) (some : log.read.said ≡ [] → ⊥) where
-  pub records_as : (result : Result LogRecording LogImportError) (b : Beside) (n : NamedView) (said : List SaidView) → b ≡ beside log → n ≡ named_in o log → said ≡ log.read.said
-      → RecordsNamed result b n o said (told_of o.form o texts) → Records result o texts
-  records_as (Ok r) b n said be ne se recording = record {
+module _ (o : OptionsView) (texts : List (List ℕ)) (log : LogView) (says : Says o.form o.range texts log) (some : log.read.logged ≡ [] → ⊥) where
+  pub records_as : (result : Result LogRecording LogImportError) (b : Beside) (n : NamedView) (logged : List LoggedEventView) → b ≡ beside log → n ≡ named_in o log → logged ≡ log.read.logged
+      → RecordsNamed result b n o logged (observed_of o.form o texts) → Records result o texts
+  records_as (Ok r) b n logged be ne se recording = record {
     log = log;
     says = says;
     some = some;
     recording =
-        subst (λ (l : List SaidView). IsNamedRecording (beside log) (named_in o log) o l (told_of o.form o texts) r) se
-        (subst₂ (λ (x : Beside) (y : NamedView). IsNamedRecording x y o said (told_of o.form o texts) r) be ne recording);
+        subst (λ (l : List LoggedEventView). IsNamedRecording (beside log) (named_in o log) o l (observed_of o.form o texts) r) se
+        (subst₂ (λ (x : Beside) (y : NamedView). IsNamedRecording x y o logged (observed_of o.form o texts) r) be ne recording);
   }
-  records_as (Err Memory) b n said be ne se refused = tt
-  records_as (Err (BadPattern place)) b n said be ne se refused = absurd refused
-  records_as (Err NotALog) b n said be ne se refused = absurd refused
-  records_as (Err Instances) b n said be ne se refused = record { log = log; says = says; some = some; refused = subst (λ (y : NamedView). IsRefused y Instances) ne refused }
-  records_as (Err (ToItself place)) b n said be ne se refused = record { log = log; says = says; some = some; refused = subst (λ (y : NamedView). IsRefused y (ToItself place)) ne refused }
-  records_as (Err (LineFull name)) b n said be ne se refused = record { log = log; says = says; some = some; refused = subst (λ (y : NamedView). IsRefused y (LineFull name)) ne refused }
+  records_as (Err Memory) b n logged be ne se refused = tt
+  records_as (Err (BadPattern place)) b n logged be ne se refused = absurd refused
+  records_as (Err NotALog) b n logged be ne se refused = absurd refused
+  records_as (Err Instances) b n logged be ne se refused = record { log = log; says = says; some = some; refused = subst (λ (y : NamedView). IsRefused y Instances) ne refused }
+  records_as (Err (ToItself place)) b n logged be ne se refused = record { log = log; says = says; some = some; refused = subst (λ (y : NamedView). IsRefused y (ToItself place)) ne refused }
+  records_as (Err (LineFull name)) b n logged be ne se refused = record { log = log; says = says; some = some; refused = subst (λ (y : NamedView). IsRefused y (LineFull name)) ne refused }
 
 -- there are words for each line
 settled_length : (log out : List Entry) → Settles log out → length out ≡ length log
@@ -61,28 +61,28 @@ settled_length log out (turn k first rest) = settled_length (freed k log) out re
 
 pub words_for_all : (o : OptionsView) (texts : List (List ℕ)) (r : LogRecording) → IsRecordingOf o texts r → length r.words.items ≡ length r.lines.items
 words_for_all o texts r its =
-    let said = its.log.read.said in
+    let logged = its.log.read.logged in
     let n = named_in o its.log in
     let drawing = its.recording.drawing in
     let recorded = its.recording.recorded in
     sym (length-map r.words.items words_view)
     ∙ ap length recorded.words
-    ∙ words_whole o.hosts o.peers said
-    ∙ sym (length-map n.lines said_of)
-    ∙ sym (entries_whole (begun n.hosts.names) (map said_of n.lines))
+    ∙ words_whole o.hosts o.peers logged
+    ∙ sym (length-map n.lines host_event_of)
+    ∙ sym (entries_whole (begun n.hosts.names) (map host_event_of n.lines))
     ∙ sym (settled_length (entries_in n) drawing.settled drawing.settles)
     ∙ sym (matched_length drawing.settled)
     ∙ sym (ap length recorded.lines)
 
 -- what receives would have taken stands by their lines
-told_rises : (form : FormView) (o : OptionsView) (texts : List (List ℕ)) → AllPairs (λ a b. a.line ≤ b.line) (told_of form o texts).taken
-told_rises Plain o texts = told_pairs o.peers o.range texts
-told_rises (Pattern text) o texts = λ i j d before within. absurd (omega (arith, within))
-told_rises ShiViz o texts = λ i j d before within. absurd (omega (arith, within))
+observed_rises : (form : FormView) (o : OptionsView) (texts : List (List ℕ)) → AllPairs (λ a b. a.line ≤ b.line) (observed_of form o texts).taken
+observed_rises Plain o texts = observed_pairs o.peers o.range texts
+observed_rises (Pattern text) o texts = λ i j d before within. absurd (omega (arith, within))
+observed_rises ShiViz o texts = λ i j d before within. absurd (omega (arith, within))
 
 pub taken_rises : (o : OptionsView) (texts : List (List ℕ)) (r : LogRecording) → IsRecordingOf o texts r → AllPairs (λ a b. a.line ≤ b.line) (lent_of r).taken
 taken_rises o texts r its =
-    subst (λ (l : List TakenView). AllPairs (λ a b. a.line ≤ b.line) l) (sym its.recording.recorded.taken) (told_rises o.form o texts)
+    subst (λ (l : List TakenView). AllPairs (λ a b. a.line ≤ b.line) l) (sym its.recording.recorded.taken) (observed_rises o.form o texts)
 
 -- the same of what was answered
 pub records_words : (o : OptionsView) (texts : List (List ℕ)) (result : Result LogRecording LogImportError) → Records result o texts → IfOk result (λ r. vec_len r.words ≡ vec_len r.lines)

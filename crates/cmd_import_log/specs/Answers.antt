@@ -1,3 +1,3 @@
 pub mod Spots
-pub mod Telling
-pub mod Told
+pub mod DiagnosticLines
+pub mod Diagnostics

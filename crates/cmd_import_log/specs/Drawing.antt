@@ -4,13 +4,13 @@ use Rattle.chart.specs.Charts.{chart_lines, IsPossible}
 use Rattle.diagram_labels.specs.Renaming.{renamed_view, renamed_from}
 use Rattle.diagram_labels.specs.Labels.{Labelling}
 use Rattle.cmd_import_log.specs.declared.answers.overtaking.Overtaking.{Overtaking}
-use Rattle.cmd_import_log.specs.declared.answers.told.Told.{Told}
+use Rattle.cmd_import_log.specs.declared.answers.diagnostics.Diagnostics.{Diagnostics}
 use Rattle.log_chart.specs.Charts.ChartLines.{first_full}
-use Rattle.log_chart.specs.Charts.Drawing.{IsDrawn}
+use Rattle.log_chart.specs.Charts.Drawing.{IsLogChart}
 use Rattle.log_chart.specs.declared.charts.drawing.DrawError.{DrawError}
 use Rattle.log_chart.specs.declared.charts.drawing.DrawError.TheVariants as draws
-use Rattle.log_chart.specs.declared.charts.drawing.Drawn.{Drawn}
-use Rattle.log_chart.specs.declared.charts.told.Overtaking.{Overtaking as DrawnOvertaking}
+use Rattle.log_chart.specs.declared.charts.drawing.LogChart.{LogChart}
+use Rattle.log_chart.specs.declared.charts.listing.Overtaking.{Overtaking as ChartOvertaking}
 use Rattle.log_chart.specs.Cycles.Freeing.{Settles}
 use Rattle.log_chart.specs.declared.named.entering.LogError.TheVariants as faults
 use Rattle.log_lines.specs.declared.event.Place.{Place}
@@ -29,15 +29,15 @@ use Rattle.cmd_import_log.specs.declared.error.LogImportError.{LogImportError}
 use Rattle.cmd_import_log.specs.declared.error.LogImportError.TheVariants as errors
 
 -- a line of a file, as it is told
-abbrev pub told_place : EntryPlace → Place
-told_place p = record { text = p.file; line = p.line }
+abbrev pub log_place : EntryPlace → Place
+log_place p = record { text = p.file; line = p.line }
 
-abbrev pub told_overtaking : DrawnOvertaking → Overtaking
-told_overtaking o = record { line = told_place o.line; overtaken = told_place o.overtaken }
+abbrev pub log_overtaking : ChartOvertaking → Overtaking
+log_overtaking o = record { line = log_place o.line; overtaken = log_place o.overtaken }
 
 -- the labels whose names have to be told, each with its name
-abbrev pub told_labels : Labelling → List (List ℕ × List ℕ)
-told_labels l = renamed_from [] l.labels l.names
+abbrev pub renames_of : Labelling → List (List ℕ × List ℕ)
+renames_of l = renamed_from [] l.labels l.names
 
 -- what was read of a log beside its events
 abbrev pub beside : LogView → Beside
@@ -45,19 +45,19 @@ beside log = record { lines = log.lines; others = log.read.others; is_captured =
 
 -- this is told of what was read beside a log's events, of its lines by names, of the names of its instances, and of its
 -- chart
-pub record IsToldOf (b : Beside) (n : NamedView) (called : List (List ℕ)) (drawn : Drawn) (told : Told) : Type 0 where
-  pub lines : told.lines ≡ b.lines
-  pub others : told.others ≡ b.others
-  pub own : told.own ≡ n.own
-  pub captured : told.is_captured ≡ b.is_captured
-  pub timed : told.is_timed ≡ b.is_timed
-  pub lost : told.lost.items ≡ map told_place drawn.lost.items
-  pub overtaking : told.overtaking.items ≡ map told_overtaking drawn.overtaking.items
-  pub freed : told.freed.items ≡ map told_place drawn.freed.items
-  pub names : told.names ≡ called
-  pub invented : told.invented ≡ drawn.invented
-  pub hosts : map renamed_view told.hosts.items ≡ told_labels n.hosts
-  pub messages : map renamed_view told.messages.items ≡ told_labels n.messages
+pub record AreDiagnosticsOf (b : Beside) (n : NamedView) (called : List (List ℕ)) (built : LogChart) (diagnostics : Diagnostics) : Type 0 where
+  pub lines : diagnostics.lines ≡ b.lines
+  pub others : diagnostics.others ≡ b.others
+  pub own : diagnostics.own ≡ n.own
+  pub captured : diagnostics.is_captured ≡ b.is_captured
+  pub timed : diagnostics.is_timed ≡ b.is_timed
+  pub lost : diagnostics.lost.items ≡ map log_place built.lost.items
+  pub overtaking : diagnostics.overtaking.items ≡ map log_overtaking built.overtaking.items
+  pub freed : diagnostics.freed.items ≡ map log_place built.freed.items
+  pub names : diagnostics.names ≡ called
+  pub invented : diagnostics.invented ≡ built.invented
+  pub hosts : map renamed_view diagnostics.hosts.items ≡ renames_of n.hosts
+  pub messages : map renamed_view diagnostics.messages.items ≡ renames_of n.messages
 
 -- the chart is that of the entries of lines by names, whose receives are freed, and what is told is told of it; it is
 -- possible
@@ -66,11 +66,11 @@ pub record IsNamedDrawing (b : Beside) (n : NamedView) (d : LogDrawing) : Type 0
   pub faultless : fault_in n ≡ None
   pub settles : Settles (entries_in n) settled
   pub short : first_full 1 (host_lines (length (names_in n)) settled) ≡ None
-  pub drawn : Drawn
-  pub is_drawn : IsDrawn (length (names_in n)) settled drawn
-  pub chart : d.chart ≡ drawn.chart
+  pub built : LogChart
+  pub is_built : IsLogChart (length (names_in n)) settled built
+  pub chart : d.chart ≡ built.chart
   pub possible : IsPossible (length d.chart) (chart_lines d.chart)
-  pub told : IsToldOf b n (names_in n) drawn d.told
+  pub diagnostics : AreDiagnosticsOf b n (names_in n) built d.diagnostics
 
 -- the chart is that of lines by names, whose entries these are once receives are freed
 abbrev pub IsSettled : Beside → NamedView → Settled → Type 0
@@ -106,7 +106,7 @@ IsRefused n errors.Memory = Unit {0}
 IsRefused n (errors.BadPattern place) = ⊥
 IsRefused n errors.NotALog = ⊥
 IsRefused n errors.Instances = AreUnfit n
-IsRefused n (errors.ToItself place) = (p : EntryPlace) × (fault_in n ≡ Some (faults.ToItself p)) × (place ≡ told_place p)
+IsRefused n (errors.ToItself place) = (p : EntryPlace) × (fault_in n ≡ Some (faults.ToItself p)) × (place ≡ log_place p)
 IsRefused n (errors.LineFull name) = IsFull (names_in n) (entries_in n) name
 
 abbrev pub DrawsNamed : Result LogDrawing LogImportError → Beside → NamedView → Type 0
@@ -115,27 +115,27 @@ DrawsNamed (Err e) b n = IsRefused n e
 
 -- the lines of a log by names
 abbrev pub named_in : OptionsView → LogView → NamedView
-named_in o log = named o.hosts o.peers log.read.said
+named_in o log = named o.hosts o.peers log.read.logged
 
 -- the chart is that of what the texts say, and so is what is told
 pub record IsDrawingOf (o : OptionsView) (texts : List (List ℕ)) (d : LogDrawing) : Type 0 where
   pub log : LogView
   pub says : Says o.form o.range texts log
-  pub some : log.read.said ≡ [] → ⊥
+  pub some : log.read.logged ≡ [] → ⊥
   pub drawing : IsNamedDrawing (beside log) (named_in o log) d
 
 -- the texts say a log that has no chart
 pub record IsRefusedLog (o : OptionsView) (texts : List (List ℕ)) (error : LogImportError) : Type 0 where
   pub log : LogView
   pub says : Says o.form o.range texts log
-  pub some : log.read.said ≡ [] → ⊥
+  pub some : log.read.logged ≡ [] → ⊥
   pub refused : IsRefused (named_in o log) error
 
 -- the texts say no message
 pub record IsNoLog (o : OptionsView) (texts : List (List ℕ)) : Type 0 where
   pub log : LogView
   pub says : Says o.form o.range texts log
-  pub none : log.read.said ≡ []
+  pub none : log.read.logged ≡ []
 
 -- the texts have no chart, or memory ran out
 abbrev pub IsRefusalOf : OptionsView → List (List ℕ) → LogImportError → Type 0

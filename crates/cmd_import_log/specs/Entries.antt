@@ -4,7 +4,7 @@ use Rattle.log_chart.specs.Named.Entering.{hosts_from, entries_from}
 use Rattle.log_chart.specs.Named.Faults.{fault_of}
 use Rattle.log_chart.specs.Named.Logs.{begun}
 use Rattle.log_chart.specs.declared.named.entering.LogError.{LogError}
-use Rattle.log_chart.specs.declared.named.said.Said.{Said}
+use Rattle.log_chart.specs.declared.named.host_event.HostEvent.{HostEvent}
 use Rattle.log_lines.specs.declared.event.Place.{Place}
 use Rattle.log_lines.specs.Names.Naming.{NamedView}
 use Rattle.log_lines.specs.declared.names.line.NamedLine.{NamedLine}
@@ -15,17 +15,17 @@ use Rattle.log_chart.specs.declared.entry.Place.{Place as EntryPlace}
 abbrev pub entry_place : Place → EntryPlace
 entry_place p = record { file = p.text; line = p.line }
 
-abbrev pub said_of : NamedLine → Said
-said_of l = record { host = l.host; sends = l.sends; peer = l.peer; name = l.name; id = l.id; place = entry_place l.place }
+abbrev pub host_event_of : NamedLine → HostEvent
+host_event_of l = record { host = l.host; sends = l.sends; peer = l.peer; name = l.name; id = l.id; place = entry_place l.place }
 
 -- the entries of the lines, where the hosts come in the order of their names
 abbrev pub entries_in : NamedView → List Entry
-entries_in n = entries_from (begun n.hosts.names) (map said_of n.lines)
+entries_in n = entries_from (begun n.hosts.names) (map host_event_of n.lines)
 
 -- and the names of the instances
 abbrev pub names_in : NamedView → List (List ℕ)
-names_in n = hosts_from (begun n.hosts.names) (map said_of n.lines)
+names_in n = hosts_from (begun n.hosts.names) (map host_event_of n.lines)
 
 -- and why they are no log: the first line with one host too many, or with a host that is its own peer
 abbrev pub fault_in : NamedView → Option LogError
-fault_in n = fault_of n.hosts.names (map said_of n.lines)
+fault_in n = fault_of n.hosts.names (map host_event_of n.lines)

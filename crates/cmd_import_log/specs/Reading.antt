@@ -2,7 +2,7 @@
 use Rattle.std.specs.Prelude.{◌≡◌, ℕ, ◌+◌, ◌==◌, ◌&&◌, ◌≤◌, Bool, true, false, List, [], ◌∷◌, Option, None, Some, length, if◌then◌else◌}
 use Rattle.regex.specs.Bytes.{regex_pattern}
 use Rattle.log_formats.specs.Clocks.Saying.{by_clocks, is_timed}
-use Rattle.log_lines.specs.Events.{SaidView}
+use Rattle.log_lines.specs.Events.{LoggedEventView}
 use Rattle.log_lines.specs.PlainReading.{plain_read}
 use Rattle.log_lines.specs.Reading.{ReadView, read_view}
 use Rattle.log_lines.specs.ShiViz.{shiviz_read}
@@ -44,9 +44,9 @@ is_of_line None place = false
 is_of_line (Some above) place = above.text == place.text && above.line == place.line
 
 -- a line says two events: the send and the receive of a captured message
-abbrev pub is_captured : Option Place → List SaidView → Bool
+abbrev pub is_captured : Option Place → List LoggedEventView → Bool
 is_captured above [] = false
-is_captured above (s ∷ said) = if is_of_line above s.place then true else is_captured (Some s.place) said
+is_captured above (s ∷ logged) = if is_of_line above s.place then true else is_captured (Some s.place) logged
 
 -- what an expression finds
 abbrev pub found : Expression → LineRange → List (List ℕ) → ReadView
@@ -56,7 +56,7 @@ abbrev pub pattern_log : Expression → LineRange → List (List ℕ) → LogVie
 pattern_log e range texts = record {
   read = by_clocks (found e range texts);
   lines = lines_read range texts;
-  is_captured = is_captured None (found e range texts).said;
+  is_captured = is_captured None (found e range texts).logged;
   is_timed = is_timed (found e range texts);
 }
 

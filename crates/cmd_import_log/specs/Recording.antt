@@ -1,10 +1,10 @@
 -- The recording of a log: its lines as its chart has them, and what it tells beside them (this project's profile of logs).
 use Rattle.std.specs.Prelude.{◌≡◌, ℕ, ◌&&◌, Bool, false, not, List, [], length, map, Result, Ok, Err}
-use Rattle.log_lines.specs.Events.{SaidView}
+use Rattle.log_lines.specs.Events.{LoggedEventView}
 use Rattle.log_lines.specs.Names.Naming.{NamedView}
 use Rattle.log_lines.specs.Takes.Arrivals.{arrivals_in}
 use Rattle.log_lines.specs.Takes.Messages.{words_in, keys_in}
-use Rattle.log_lines.specs.Takes.Telling.{ToldView, nothing_told, told_in}
+use Rattle.log_lines.specs.Takes.Observations.{ObservationsView, no_observations, observed_in}
 use Rattle.log_chart.specs.HostLines.{host_lines}
 use Rattle.log_chart.specs.Matching.{matched}
 use Rattle.log_chart.specs.declared.entry.Entry.{Entry}
@@ -33,39 +33,39 @@ is_known ShiViz b = false
 is_known form b = not b.is_captured && not b.is_timed
 
 -- what the texts tell beside messages: only those in plain words do
-abbrev pub told_of : FormView → OptionsView → List (List ℕ) → ToldView
-told_of Plain o texts = told_in o.peers o.range texts
-told_of (Pattern text) o texts = nothing_told
-told_of ShiViz o texts = nothing_told
+abbrev pub observed_of : FormView → OptionsView → List (List ℕ) → ObservationsView
+observed_of Plain o texts = observed_in o.peers o.range texts
+observed_of (Pattern text) o texts = no_observations
+observed_of ShiViz o texts = no_observations
 
 -- the arrivals that are told, where the log's entries are these
-abbrev pub arrivals_of : OptionsView → List SaidView → List Entry → ToldView → List Arrival
-arrivals_of o said entries told = arrivals_in (keys_in o.peers said) (map (λ e. e.stream) entries) told.arrived
+abbrev pub arrivals_of : OptionsView → List LoggedEventView → List Entry → ObservationsView → List Arrival
+arrivals_of o logged entries observed = arrivals_in (keys_in o.peers logged) (map (λ e. e.stream) entries) observed.arrived
 
 -- beside its chart the recording has this, where these are the log's events, and its entries once receives are freed
-pub record IsRecorded (o : OptionsView) (said : List SaidView) (settled : List Entry) (told : ToldView) (r : LogRecording) : Type 0 where
+pub record IsRecorded (o : OptionsView) (logged : List LoggedEventView) (settled : List Entry) (observed : ObservationsView) (r : LogRecording) : Type 0 where
   pub lines : r.lines.items ≡ matched settled
-  pub hosts : r.hosts.items ≡ host_lines (length r.drawing.told.names) settled
-  pub words : map words_view r.words.items ≡ words_in o.peers said
-  pub taken : map taken_view r.taken.items ≡ told.taken
-  pub arrivals : r.arrivals.items ≡ arrivals_of o said settled told
+  pub hosts : r.hosts.items ≡ host_lines (length r.drawing.diagnostics.names) settled
+  pub words : map words_view r.words.items ≡ words_in o.peers logged
+  pub taken : map taken_view r.taken.items ≡ observed.taken
+  pub arrivals : r.arrivals.items ≡ arrivals_of o logged settled observed
 
 -- the recording is that of lines by names, and of what was read and is told beside them
-pub record IsNamedRecording (b : Beside) (n : NamedView) (o : OptionsView) (said : List SaidView) (told : ToldView) (r : LogRecording) : Type 0 where
+pub record IsNamedRecording (b : Beside) (n : NamedView) (o : OptionsView) (logged : List LoggedEventView) (observed : ObservationsView) (r : LogRecording) : Type 0 where
   pub drawing : IsNamedDrawing b n r.drawing
-  pub recorded : IsRecorded o said drawing.settled told r
+  pub recorded : IsRecorded o logged drawing.settled observed r
   pub known : r.is_known ≡ is_known o.form b
 
-abbrev pub RecordsNamed : Result LogRecording LogImportError → Beside → NamedView → OptionsView → List SaidView → ToldView → Type 0
-RecordsNamed (Ok r) b n o said told = IsNamedRecording b n o said told r
-RecordsNamed (Err e) b n o said told = IsRefused n e
+abbrev pub RecordsNamed : Result LogRecording LogImportError → Beside → NamedView → OptionsView → List LoggedEventView → ObservationsView → Type 0
+RecordsNamed (Ok r) b n o logged observed = IsNamedRecording b n o logged observed r
+RecordsNamed (Err e) b n o logged observed = IsRefused n e
 
 -- the recording is that of what the texts say
 pub record IsRecordingOf (o : OptionsView) (texts : List (List ℕ)) (r : LogRecording) : Type 0 where
   pub log : LogView
   pub says : Says o.form o.range texts log
-  pub some : log.read.said ≡ [] → ⊥
-  pub recording : IsNamedRecording (beside log) (named_in o log) o log.read.said (told_of o.form o texts) r
+  pub some : log.read.logged ≡ [] → ⊥
+  pub recording : IsNamedRecording (beside log) (named_in o log) o log.read.logged (observed_of o.form o texts) r
 
 -- texts without a recording are those without a chart
 abbrev pub Records : Result LogRecording LogImportError → OptionsView → List (List ℕ) → Type 0

@@ -1,15 +1,15 @@
 //! What is told of a chart that was drawn from a log.
 //!
-//! What is promised ([`write_told`]): exactly the text of what is told was written, or where a write failed a
-//! beginning of it: how many lines don't match, what is left out, which receives are freed and which sends are
+//! What is promised ([`write_diagnostics`]): exactly the text of what is told was written, or where a write failed
+//! a beginning of it: how many lines don't match, what is left out, which receives are freed and which sends are
 //! invented, and each name that isn't its word. A line is told by its number, and by its file's name too where
 //! there are several.
 
+mod diagnostic_lines;
+mod diagnostics;
 mod overtaking;
 mod spot;
-mod telling;
-mod told;
 
+pub use diagnostics::{Diagnostics, write_diagnostics};
 pub use overtaking::Overtaking;
 pub use spot::Spot;
-pub use told::{Told, write_told};

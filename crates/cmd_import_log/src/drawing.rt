@@ -1,24 +1,24 @@
 //! The chart of a log, and what is told of it.
 ghost use Rattle.std.specs.Prelude.{◌≡◌, ◌≤◌, length, map, All, IfOk, IfErr};
 ghost use Rattle.chart.specs.Charts.{chart_lines, IsPossible};
-ghost use Rattle.log_chart.specs.Charts.Drawing.{IsDrawn, IsRefusalOf};
+ghost use Rattle.log_chart.specs.Charts.Drawing.{IsLogChart, IsRefusalOf};
 ghost use Rattle.log_chart.specs.Cycles.Freeing.{Settles};
 ghost use Rattle.log_lines.specs.Names.Naming.{named_view};
 ghost use Rattle.log_chart.specs.Entries.{HaveStreams};
 ghost use Rattle.log_chart.specs.declared.entry.Entry.{Entry};
-ghost use Rattle.cmd_import_log.specs.Drawing.{refusal_of, IsOfAmong, IsToldOf, IsSettled, IsRefused, DrawsNamed, Draws};
+ghost use Rattle.cmd_import_log.specs.Drawing.{refusal_of, IsOfAmong, AreDiagnosticsOf, IsSettled, IsRefused, DrawsNamed, Draws};
 ghost use Rattle.cmd_import_log.specs.Entries.{entries_in, names_in};
 ghost use Rattle.cmd_import_log.specs.Options.{options_view};
 
-use crate::answers::Told;
+use crate::answers::Diagnostics;
+use crate::diagnostics::{overtakings_of, places_of, renamed_in};
 use crate::entries::entries_in;
 use crate::error::LogImportError;
 use crate::options::Options;
 use crate::reading::{ReadLog, read_log};
-use crate::telling::{overtakings_of, places_of, renamed_in};
 use chart::{Chart, Names};
 use log_chart::Entry;
-use log_chart::charts::{DrawError, Drawn, draw};
+use log_chart::charts::{DrawError, LogChart, draw};
 use log_chart::named::Log;
 use log_lines::Others;
 use log_lines::names::{NamedLog, named};
@@ -29,7 +29,7 @@ use texts::named as name_of;
 #[derive(Debug, Drop)]
 pub struct LogDrawing {
     pub chart: Chart,
-    pub told: Told,
+    pub diagnostics: Diagnostics,
 }
 
 /// Why a log of hosts of these names has no chart.
@@ -55,26 +55,26 @@ pub(crate) struct Beside {
 }
 
 /// The chart, with what is told of it.
-fn with_told(
+fn with_diagnostics(
     alloc: Global,
     beside: Beside,
     named: &NamedLog,
     names: Names,
-    drawn: Drawn,
+    built: LogChart,
 ) -> Result<LogDrawing, AllocError>
-    ensures told { IfOk result (λ d. IsToldOf beside (named_view named.now) names drawn d.told) }
-    ensures chart { IfOk result (λ d. d.chart ≡ drawn.chart) }
+    ensures diagnostics { IfOk result (λ d. AreDiagnosticsOf beside (named_view named.now) names built d.diagnostics) }
+    ensures chart { IfOk result (λ d. d.chart ≡ built.chart) }
 {
-    let Drawn {
+    let LogChart {
         chart,
         lost,
         overtaking,
         invented,
         freed,
-    } = drawn;
+    } = built;
     Ok(LogDrawing {
         chart,
-        told: Told {
+        diagnostics: Diagnostics {
             lines: beside.lines,
             others: beside.others,
             own: named.own,
@@ -107,23 +107,23 @@ pub(crate) fn settled_of(
     ensures settled { IfOk result (IsSettled beside (named_view named.now)) }
     ensures refused { IfErr result (IsRefused (named_view named.now)) }
     ensures streams { IfOk result (λ s. HaveStreams s.entries.items) }
-    ensures named { IfOk result (λ s. length s.drawing.told.names ≡ length s.drawing.chart) }
-    ensures invented { IfOk result (λ s. All (λ e. e.instance ≤ length s.drawing.told.names) s.drawing.told.invented.items) }
+    ensures named { IfOk result (λ s. length s.drawing.diagnostics.names ≡ length s.drawing.chart) }
+    ensures invented { IfOk result (λ s. All (λ e. e.instance ≤ length s.drawing.diagnostics.names) s.drawing.diagnostics.invented.items) }
 {
     let Log { names, mut entries } = entries_in(alloc, named)?;
-    let drawn = match draw(alloc, names.len(), &mut entries) {
-        Ok(drawn) => drawn,
+    let built = match draw(alloc, names.len(), &mut entries) {
+        Ok(built) => built,
         Err(error) => return Err(refusal(&names, error)),
     };
-    let drawing = with_told(alloc, beside, named, names, drawn)?;
+    let drawing = with_diagnostics(alloc, beside, named, names, built)?;
     Ok(Settled { drawing, entries })
 }
 
 /// The chart of the lines by names.
 fn drawing_of(alloc: Global, beside: Beside, named: &NamedLog) -> Result<LogDrawing, LogImportError>
     ensures draws { DrawsNamed result beside (named_view named.now) }
-    ensures named { IfOk result (λ d. length d.told.names ≡ length d.chart) }
-    ensures invented { IfOk result (λ d. All (λ e. e.instance ≤ length d.told.names) d.told.invented.items) }
+    ensures named { IfOk result (λ d. length d.diagnostics.names ≡ length d.chart) }
+    ensures invented { IfOk result (λ d. All (λ e. e.instance ≤ length d.diagnostics.names) d.diagnostics.invented.items) }
 {
     match settled_of(alloc, beside, named) {
         Ok(settled) => Ok(settled.drawing),
@@ -141,8 +141,8 @@ pub fn drawing_in(
     texts: &[&[u8]],
 ) -> Result<LogDrawing, LogImportError>
     ensures draws { Draws result (options_view options.entry) (map (λ text. text.now) texts.now) }
-    ensures named { IfOk result (λ d. length d.told.names ≡ length d.chart) }
-    ensures invented { IfOk result (λ d. All (λ e. e.instance ≤ length d.told.names) d.told.invented.items) }
+    ensures named { IfOk result (λ d. length d.diagnostics.names ≡ length d.chart) }
+    ensures invented { IfOk result (λ d. All (λ e. e.instance ≤ length d.diagnostics.names) d.diagnostics.invented.items) }
 {
     let ReadLog {
         read,
@@ -150,10 +150,10 @@ pub fn drawing_in(
         is_captured,
         is_timed,
     } = read_log(alloc, options.form, options.range, texts)?;
-    if read.said.as_slice().is_empty() {
+    if read.logged.as_slice().is_empty() {
         return Err(LogImportError::NotALog);
     }
-    let named = named(alloc, options.hosts, options.peers, &read.said)?;
+    let named = named(alloc, options.hosts, options.peers, &read.logged)?;
     let beside = Beside {
         lines,
         others: read.others,

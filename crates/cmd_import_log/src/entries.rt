@@ -3,12 +3,12 @@ ghost use Rattle.std.specs.Prelude.{◌≡◌, None, length, map, IfOk, OnOk, If
 ghost use Rattle.log_chart.specs.Entries.{HaveStreams};
 ghost use Rattle.log_chart.specs.Cycles.Freeing.{AreAmong, HaveLanes};
 ghost use Rattle.log_lines.specs.Names.Naming.{named_view};
-ghost use Rattle.cmd_import_log.specs.Entries.{entry_place, said_of, entries_in, names_in, fault_in};
+ghost use Rattle.cmd_import_log.specs.Entries.{entry_place, host_event_of, entries_in, names_in, fault_in};
 ghost use Rattle.cmd_import_log.specs.Drawing.{IsRefused};
 
+use crate::diagnostics::log_place;
 use crate::error::LogImportError;
-use crate::telling::told_place;
-use log_chart::named::{Log, LogError, Said, entries_of};
+use log_chart::named::{HostEvent, Log, LogError, entries_of};
 use log_lines::Place;
 use log_lines::names::{NamedLine, NamedLog};
 use std::alloc::{AllocError, Global};
@@ -24,10 +24,10 @@ fn entry_place(place: Place) -> log_chart::Place
 }
 
 /// What a line says.
-fn said_of(line: &NamedLine) -> Said
-    ensures { result ≡ said_of line.now }
+fn host_event_of(line: &NamedLine) -> HostEvent
+    ensures { result ≡ host_event_of line.now }
 {
-    Said {
+    HostEvent {
         host: line.host,
         sends: line.sends,
         peer: line.peer,
@@ -38,14 +38,14 @@ fn said_of(line: &NamedLine) -> Said
 }
 
 /// What all lines say.
-fn all_said(alloc: Global, lines: &[NamedLine]) -> Result<Vec<Said>, AllocError>
-    ensures { IfOk result (λ said. said.items ≡ map said_of lines.now) }
+fn host_events(alloc: Global, lines: &[NamedLine]) -> Result<Vec<HostEvent>, AllocError>
+    ensures { IfOk result (λ events. events.items ≡ map host_event_of lines.now) }
 {
-    lines.iter().map(|line| said_of(line)).collect(alloc)
+    lines.iter().map(|line| host_event_of(line)).collect(alloc)
 }
 
-/// The entries of these lines, where the hosts come in the order of their names. F8: there are more than 32. F13: a host
-/// is its own peer.
+/// The entries of these lines, where the hosts come in the order of their names. F8: there are more than 32. F13: a
+/// host is its own peer.
 pub(crate) fn entries_in(alloc: Global, named: &NamedLog) -> Result<Log, LogImportError>
     ensures names { IfOk result (λ log. log.names ≡ names_in (named_view named.now)) }
     ensures entries { IfOk result (λ log. log.entries.items ≡ entries_in (named_view named.now)) }
@@ -55,11 +55,11 @@ pub(crate) fn entries_in(alloc: Global, named: &NamedLog) -> Result<Log, LogImpo
     ensures faultless { OnOk result (fault_in (named_view named.now) ≡ None) }
     ensures refused { IfErr result (IsRefused (named_view named.now)) }
 {
-    let said = all_said(alloc, &named.lines)?;
-    match entries_of(alloc, named.hosts.names(), &said) {
+    let events = host_events(alloc, &named.lines)?;
+    match entries_of(alloc, named.hosts.names(), &events) {
         Ok(log) => Ok(log),
         Err(LogError::Instances) => Err(LogImportError::Instances),
         Err(LogError::Memory) => Err(LogImportError::Memory),
-        Err(LogError::ToItself(place)) => Err(LogImportError::ToItself(told_place(&place))),
+        Err(LogError::ToItself(place)) => Err(LogImportError::ToItself(log_place(&place))),
     }
 }

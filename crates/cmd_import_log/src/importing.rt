@@ -2,11 +2,11 @@
 ghost use Rattle.std.specs.Prelude.{◌≡◌, ◌≤◌, length, map, All, IfOk};
 ghost use Rattle.cmd_base.specs.Answers.{Answers};
 ghost use Rattle.cmd_base.specs.Refusals.{Tried};
-ghost use Rattle.cmd_import_log.specs.Answers.Told.{told_text};
-ghost use Rattle.cmd_import_log.specs.Importing.{Imports, imported_said, unimported_text};
+ghost use Rattle.cmd_import_log.specs.Answers.Diagnostics.{diagnostics_text};
+ghost use Rattle.cmd_import_log.specs.Importing.{Imports, imported_exit, log_write_error_text};
 ghost use Rattle.cmd_import_log.specs.Options.{options_view};
 
-use crate::answers::{Told, write_told};
+use crate::answers::{Diagnostics, write_diagnostics};
 use crate::drawing::drawing_in;
 use crate::error::LogImportError;
 use crate::options::Options;
@@ -17,7 +17,7 @@ use texts::Out;
 
 /// Why no chart was written.
 #[derive(Clone, Copy, Debug, PartialEq, Eq)]
-pub enum Unimported {
+pub enum LogWriteError {
     /// The log isn't read or has no chart, or memory ran out.
     Log(LogImportError),
     /// F24: a write failed.
@@ -30,45 +30,45 @@ fn translate<W: Out>(
     options: Options<'_>,
     texts: &[&[u8]],
     out: &mut W,
-) -> Result<Told, Unimported>
+) -> Result<Diagnostics, LogWriteError>
     ensures imports { Imports W.sink out.old out.new result (options_view options.entry) (map (λ text. text.now) texts.now) }
-    ensures invented { IfOk result (λ told. All (λ e. e.instance ≤ length told.names) told.invented.items) }
+    ensures invented { IfOk result (λ diagnostics. All (λ e. e.instance ≤ length diagnostics.names) diagnostics.invented.items) }
 {
     let drawing = match drawing_in(alloc, options, texts) {
         Ok(drawing) => drawing,
-        Err(error) => return Err(Unimported::Log(error)),
+        Err(error) => return Err(LogWriteError::Log(error)),
     };
-    match msc_text::write(&drawing.told.names, &drawing.chart, out) {
-        Ok(()) => Ok(drawing.told),
-        Err(_) => Err(Unimported::Write),
+    match msc_text::write(&drawing.diagnostics.names, &drawing.chart, out) {
+        Ok(()) => Ok(drawing.diagnostics),
+        Err(_) => Err(LogWriteError::Write),
     }
 }
 
 /// Prints the line of a refusal, and answers the exit status.
-fn refused<V: Out>(error: &Unimported, err: &mut V) -> u8
+fn refused<V: Out>(error: &LogWriteError, err: &mut V) -> u8
     ensures status { result ≡ 2 }
-    ensures line { Tried V.sink err.old err.new (unimported_text error.now) }
+    ensures line { Tried V.sink err.old err.new (log_write_error_text error.now) }
 {
     match error {
-        Unimported::Log(error) => refused_log(error, err),
-        Unimported::Write => refused_by(b"F24 Write", None, err),
+        LogWriteError::Log(error) => refused_log(error, err),
+        LogWriteError::Write => refused_by(b"F24 Write", None, err),
     }
 }
 
 /// Tells what the chart isn't, and answers the exit status.
-fn tell<V: Out>(files: &[&[u8]], told: &Told, err: &mut V) -> u8
-    requires { All (λ e. e.instance ≤ length told.now.names) told.now.invented.items }
+fn print_diagnostics<V: Out>(files: &[&[u8]], diagnostics: &Diagnostics, err: &mut V) -> u8
+    requires { All (λ e. e.instance ≤ length diagnostics.now.names) diagnostics.now.invented.items }
     ensures status { result ≡ 0 }
-    ensures line { Tried V.sink err.old err.new (told_text (map (λ file. file.now) files.now) told.now) }
+    ensures line { Tried V.sink err.old err.new (diagnostics_text (map (λ file. file.now) files.now) diagnostics.now) }
 {
-    let _ = write_told(files, told, err);
+    let _ = write_diagnostics(files, diagnostics, err);
     0
 }
 
 /// Writes the text of the chart that the texts of a log say, of which these are the names where there are several, and
 /// none where there is one. On `err` is told what isn't in the chart, and what of it isn't in the log. Writes the line
-/// of a refusal to `err`. Answers the exit status: 0 where it was written, 2 after a refusal. Nothing is written to `out`
-/// before a refusal, but where writing to it failed (F24). A failed write to `err` changes nothing.
+/// of a refusal to `err`. Answers the exit status: 0 where it was written, 2 after a refusal. Nothing is written to
+/// `out` before a refusal, but where writing to it failed (F24). A failed write to `err` changes nothing.
 pub fn import<W: Out, V: Out>(
     alloc: Global,
     options: Options<'_>,
@@ -78,10 +78,10 @@ pub fn import<W: Out, V: Out>(
     err: &mut V,
 ) -> u8
     ensures { Answers (λ done. Imports W.sink out.old out.new done (options_view options.entry) (map (λ text. text.now) texts.now))
-        (imported_said (map (λ file. file.now) files.now)) V.sink err.old err.new result }
+        (imported_exit (map (λ file. file.now) files.now)) V.sink err.old err.new result }
 {
     match translate(alloc, options, texts, out) {
-        Ok(told) => tell(files, &told, err),
+        Ok(diagnostics) => print_diagnostics(files, &diagnostics, err),
         Err(error) => refused(&error, err),
     }
 }

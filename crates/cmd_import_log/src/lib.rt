@@ -11,6 +11,7 @@
 
 pub mod answers;
 mod counting;
+mod diagnostics;
 mod drawing;
 mod entries;
 mod error;
@@ -19,11 +20,10 @@ mod options;
 mod reading;
 mod recording;
 mod refusing;
-mod telling;
 
 pub use drawing::{LogDrawing, drawing_in};
 pub use error::LogImportError;
-pub use importing::{Unimported, import};
+pub use importing::{LogWriteError, import};
 pub use options::{Form, Options};
 pub use recording::{LogRecording, recording_in};
 pub use refusing::refused_log;

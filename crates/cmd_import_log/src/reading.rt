@@ -1,6 +1,6 @@
 //! What the bytes of a log say.
 ghost use Rattle.std.specs.Prelude.{◌≡◌, None, map, IfOk, IfErr};
-ghost use Rattle.log_lines.specs.Events.{said_view};
+ghost use Rattle.log_lines.specs.Events.{logged_event_view};
 ghost use Rattle.log_formats.specs.Patterns.Expressions.{IsExpression, IsBad};
 ghost use Rattle.cmd_import_log.specs.Options.{form_view};
 ghost use Rattle.cmd_import_log.specs.Reading.{log_view, is_of_line, is_captured, plain_log, clocked_log, IsReadBy, Says, IsBadExpression, IsBadForm};
@@ -10,7 +10,7 @@ use crate::error::LogImportError;
 use crate::options::Form;
 use log_formats::clocks::{Timed, by_clocks};
 use log_formats::patterns::{BadExpression, Expression, read_by};
-use log_lines::{LineRange, Place, Read, Said, read_plain, read_shiviz};
+use log_lines::{LineRange, LoggedEvent, Place, Read, read_plain, read_shiviz};
 use std::alloc::{AllocError, Global};
 
 /// What is read of a log.
@@ -72,11 +72,11 @@ fn is_of_line(above: Option<Place>, place: Place) -> bool
 }
 
 /// Whether a line says two events, which are the send and the receive of a captured message.
-fn is_captured(said: &[Said<'_>]) -> bool
-    ensures { result ≡ is_captured None (map said_view said.now) }
+fn is_captured(logged: &[LoggedEvent<'_>]) -> bool
+    ensures { result ≡ is_captured None (map logged_event_view logged.now) }
 {
     let mut above: Option<Place> = None;
-    for event in said {
+    for event in logged {
         if is_of_line(above, event.place) {
             return true;
         }
@@ -109,7 +109,7 @@ fn by_pattern<'a>(
 {
     let expression = expression_in(alloc, pattern)?;
     let read = read_by(alloc, &expression, range, texts)?;
-    let is_captured = is_captured(&read.said);
+    let is_captured = is_captured(&read.logged);
     let Timed { read, is_timed } = by_clocks(alloc, read)?;
     let lines = lines_read(range, texts)?;
     Ok(ReadLog {

@@ -1,21 +1,21 @@
 //! The recording of a log: its chart, and what it tells beside it.
 ghost use Rattle.std.specs.Prelude.{◌≡◌, ◌≤◌, length, vec_len, map, All, AllPairs, IfOk};
-ghost use Rattle.log_lines.specs.Events.{said_view};
+ghost use Rattle.log_lines.specs.Events.{logged_event_view};
 ghost use Rattle.log_lines.specs.Names.Naming.{named_view};
-ghost use Rattle.log_lines.specs.Takes.Telling.{told_view};
+ghost use Rattle.log_lines.specs.Takes.Observations.{observations_view};
 ghost use Rattle.log_chart.specs.Entries.{HaveStreams};
 ghost use Rattle.race_verdicts.specs.Recordings.{recording_view};
 ghost use Rattle.cmd_import_log.specs.Options.{form_view, options_view};
-ghost use Rattle.cmd_import_log.specs.Recording.{lent_of, is_known, told_of, arrivals_of, IsRecorded, RecordsNamed, Records};
+ghost use Rattle.cmd_import_log.specs.Recording.{lent_of, is_known, observed_of, arrivals_of, IsRecorded, RecordsNamed, Records};
 
 use crate::drawing::{Beside, LogDrawing, Settled, settled_of};
 use crate::error::LogImportError;
 use crate::options::{Form, Options};
 use crate::reading::{ReadLog, read_log};
 use log_chart::{Entry, HostLine, HostLines, LogLine, host_lines};
-use log_lines::Said;
+use log_lines::LoggedEvent;
 use log_lines::names::{NamedLog, named};
-use log_lines::takes::{Arrived, Told, arrivals_in, keys_in, read_told, words_in};
+use log_lines::takes::{Arrived, Observations, arrivals_in, keys_in, read_observed, words_in};
 use race_verdicts::{Arrival, LineWords, Recording, Taken};
 use std::alloc::{AllocError, Global};
 
@@ -53,17 +53,17 @@ impl<'a> LogRecording<'a> {
 }
 
 /// What the texts tell beside messages: only those in plain words do.
-fn told_of<'a>(
+fn observed_of<'a>(
     alloc: Global,
     options: &Options<'a>,
     texts: &[&'a [u8]],
-) -> Result<Told<'a>, AllocError>
-    ensures { IfOk result (λ told. told_view told
-        ≡ told_of (options_view options.now).form (options_view options.now) (map (λ text. text.now) texts.now)) }
+) -> Result<Observations<'a>, AllocError>
+    ensures { IfOk result (λ observed. observations_view observed
+        ≡ observed_of (options_view options.now).form (options_view options.now) (map (λ text. text.now) texts.now)) }
 {
     match options.form {
-        Form::Plain => read_told(alloc, options.peers, options.range, texts),
-        Form::Pattern(_) | Form::ShiViz => Ok(Told::new(alloc)),
+        Form::Plain => read_observed(alloc, options.peers, options.range, texts),
+        Form::Pattern(_) | Form::ShiViz => Ok(Observations::new(alloc)),
     }
 }
 
@@ -81,46 +81,46 @@ fn is_known(form: Form<'_>, beside: Beside) -> bool
 fn arrivals_of<'a>(
     alloc: Global,
     options: &Options<'a>,
-    said: &[Said<'a>],
+    logged: &[LoggedEvent<'a>],
     entries: &[Entry],
-    told: &Told<'a>,
+    observed: &Observations<'a>,
 ) -> Result<Vec<Arrival>, AllocError>
     ensures { IfOk result (λ arrivals. arrivals.items
-        ≡ arrivals_of (options_view options.now) (map said_view said.now) entries.now (told_view told.now)) }
+        ≡ arrivals_of (options_view options.now) (map logged_event_view logged.now) entries.now (observations_view observed.now)) }
 {
-    let keys = keys_in(alloc, options.peers, said)?;
-    arrivals_in(alloc, &keys, entries, &told.arrived)
+    let keys = keys_in(alloc, options.peers, logged)?;
+    arrivals_in(alloc, &keys, entries, &observed.arrived)
 }
 
 /// The recording of a log with these events, whose entries are settled.
 fn recorded<'a>(
     alloc: Global,
     options: &Options<'a>,
-    said: &[Said<'a>],
+    logged: &[LoggedEvent<'a>],
     settled: Settled,
-    told: Told<'a>,
+    observed: Observations<'a>,
     is_known: bool,
 ) -> Result<LogRecording<'a>, AllocError>
     requires streams { HaveStreams settled.entries.items }
     ensures drawing { IfOk result (λ r. r.drawing ≡ settled.drawing) }
-    ensures recorded { IfOk result (IsRecorded (options_view options.now) (map said_view said.now) settled.entries.items (told_view told.entry)) }
+    ensures recorded { IfOk result (IsRecorded (options_view options.now) (map logged_event_view logged.now) settled.entries.items (observations_view observed.entry)) }
     ensures known { IfOk result (λ r. r.is_known ≡ is_known) }
 {
     let Settled { drawing, entries } = settled;
-    let arrivals = arrivals_of(alloc, options, said, &entries, &told)?;
-    let words = words_in(alloc, options.peers, said)?;
+    let arrivals = arrivals_of(alloc, options, logged, &entries, &observed)?;
+    let words = words_in(alloc, options.peers, logged)?;
     let HostLines {
         matched,
         fates,
         given,
         lines,
-    } = host_lines(alloc, drawing.told.names.len(), &entries)?;
+    } = host_lines(alloc, drawing.diagnostics.names.len(), &entries)?;
     Ok(LogRecording {
         drawing,
         lines: matched,
         hosts: lines,
         words,
-        taken: told.taken,
+        taken: observed.taken,
         arrivals,
         is_known,
     })
@@ -131,23 +131,23 @@ fn recording_of<'a>(
     alloc: Global,
     options: &Options<'a>,
     beside: Beside,
-    said: &[Said<'a>],
+    logged: &[LoggedEvent<'a>],
     named: &NamedLog,
     texts: &[&'a [u8]],
 ) -> Result<LogRecording<'a>, LogImportError>
-    ensures records { RecordsNamed result beside (named_view named.now) (options_view options.now) (map said_view said.now)
-        (told_of (options_view options.now).form (options_view options.now) (map (λ text. text.now) texts.now)) }
-    ensures named { IfOk result (λ r. length r.drawing.told.names ≡ length r.drawing.chart) }
-    ensures invented { IfOk result (λ r. All (λ e. e.instance ≤ length r.drawing.told.names) r.drawing.told.invented.items) }
+    ensures records { RecordsNamed result beside (named_view named.now) (options_view options.now) (map logged_event_view logged.now)
+        (observed_of (options_view options.now).form (options_view options.now) (map (λ text. text.now) texts.now)) }
+    ensures named { IfOk result (λ r. length r.drawing.diagnostics.names ≡ length r.drawing.chart) }
+    ensures invented { IfOk result (λ r. All (λ e. e.instance ≤ length r.drawing.diagnostics.names) r.drawing.diagnostics.invented.items) }
 {
     let settled = settled_of(alloc, beside, named)?;
-    let told = told_of(alloc, options, texts)?;
+    let observed = observed_of(alloc, options, texts)?;
     let is_known = is_known(options.form, beside);
-    Ok(recorded(alloc, options, said, settled, told, is_known)?)
+    Ok(recorded(alloc, options, logged, settled, observed, is_known)?)
 }
 
-/// The recording that the texts of a log say: its chart is the one of [`drawing_in`](crate::drawing_in), and there is none
-/// exactly where that has none.
+/// The recording that the texts of a log say: its chart is the one of [`drawing_in`](crate::drawing_in), and there is
+/// none exactly where that has none.
 ///
 /// F39 refuses an expression that is none, F38 texts in which no line says a message, then F8, F13 and F7 a log
 /// without a chart. F6 may come at any point.
@@ -157,8 +157,8 @@ pub fn recording_in<'a>(
     texts: &[&'a [u8]],
 ) -> Result<LogRecording<'a>, LogImportError>
     ensures records { Records result (options_view options.entry) (map (λ text. text.now) texts.now) }
-    ensures named { IfOk result (λ r. length r.drawing.told.names ≡ length r.drawing.chart) }
-    ensures invented { IfOk result (λ r. All (λ e. e.instance ≤ length r.drawing.told.names) r.drawing.told.invented.items) }
+    ensures named { IfOk result (λ r. length r.drawing.diagnostics.names ≡ length r.drawing.chart) }
+    ensures invented { IfOk result (λ r. All (λ e. e.instance ≤ length r.drawing.diagnostics.names) r.drawing.diagnostics.invented.items) }
     ensures words { IfOk result (λ r. vec_len r.words ≡ vec_len r.lines) }
     ensures taken { IfOk result (λ r. AllPairs (λ a b. a.line ≤ b.line) (lent_of r).taken) }
 {
@@ -168,15 +168,15 @@ pub fn recording_in<'a>(
         is_captured,
         is_timed,
     } = read_log(alloc, options.form, options.range, texts)?;
-    if read.said.as_slice().is_empty() {
+    if read.logged.as_slice().is_empty() {
         return Err(LogImportError::NotALog);
     }
-    let named = named(alloc, options.hosts, options.peers, &read.said)?;
+    let named = named(alloc, options.hosts, options.peers, &read.logged)?;
     let beside = Beside {
         lines,
         others: read.others,
         is_captured,
         is_timed,
     };
-    recording_of(alloc, &options, beside, &read.said, &named, texts)
+    recording_of(alloc, &options, beside, &read.logged, &named, texts)
 }

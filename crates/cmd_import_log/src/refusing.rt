@@ -43,7 +43,8 @@ fn refused_full<V: Out>(name: &Name, err: &mut V) -> u8
     2
 }
 
-/// Prints the line of a log's refusal, and answers the exit status, which is 2 whether or not the line could be written.
+/// Prints the line of a log's refusal, and answers the exit status, which is 2 whether or not the line could be
+/// written.
 pub fn refused_log<V: Out>(error: &LogImportError, err: &mut V) -> u8
     ensures status { result ≡ 2 }
     ensures line { Tried V.sink err.old err.new (log_refusal_text error.now) }

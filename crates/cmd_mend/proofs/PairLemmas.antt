@@ -13,8 +13,8 @@ use Rattle.cmd_base.specs.declared.pairs.error.ViewError.TheVariants.{Program, N
 use Rattle.cmd_base.specs.declared.pairs.pair.Asked.{Asked}
 use Rattle.cmd_base.specs.declared.pairs.pair.Pair.{Pair}
 use Rattle.cmd_base.specs.Pairs.Pairs.{pair_on, pair_at, pair_of}
-use Rattle.cmd_base.specs.Named.Asked.{instance_said, has_event}
-use Rattle.schedule_replay.specs.ReorderedRuns.Turns.{receives}
+use Rattle.cmd_base.specs.Named.Asked.{instance_named, has_event}
+use Rattle.schedule_replay.specs.ReorderedRuns.Reorderings.{receives}
 use Rattle.cmd_mend.specs.declared.error.MendRefusal.TheVariants.{View}
 use Rattle.cmd_mend.specs.declared.showing.Wanted.{Wanted}
 use Rattle.cmd_mend.specs.Showing.{Shows}
@@ -53,7 +53,7 @@ on_line names p events e r error is =
     by_test (receives (ith events r)) _ (NotAReceive r) error tt third (λ fourth. cc))))
 
 no_pair : (names : List (List ℕ)) (lines : List LineView) (asked : Asked) (error : ViewError) → pair_of names lines asked ≡ Err error → IsNoPair error
-no_pair names lines asked error is = by_instance (instance_said names asked.instance.now) is
+no_pair names lines asked error is = by_instance (instance_named names asked.instance.now) is
   where
     by_instance : (found : Option ℕ) → pair_at names found lines asked.earlier asked.receive ≡ Err error → IsNoPair error
     by_instance None h = subst IsNoPair (same_error (NoSuchEvent Instance) error h) tt

@@ -1,6 +1,6 @@
 -- What is printed on standard error, and the exit status.
 use Rattle.std.specs.Prelude.{ℕ, List, ◌++◌, Some, Result}
-use Rattle.cmd_base.specs.Answers.{Said, refusal, program_said, said_of}
+use Rattle.cmd_base.specs.Answers.{Exit, refusal, program_exit, exit_of}
 use Rattle.cmd_base.specs.declared.error.ProgramError.{ProgramError}
 use Rattle.cmd_base.specs.Pairs.Answers as pairs
 use Rattle.cmd_base.specs.declared.pairs.error.ViewError.TheVariants.{Program}
@@ -25,21 +25,21 @@ abbrev pub refusal_text : MendRefusal → List ℕ
 refusal_text (View cause) = pairs.refusal_text cause
 refusal_text (LineFull name) = full_text name
 
-abbrev pub refusal_said : MendRefusal → Said
-refusal_said error = refusal (refusal_text error)
+abbrev pub refusal_exit : MendRefusal → Exit
+refusal_exit error = refusal (refusal_text error)
 
 -- 0 where it was done or needn't be, and 1 where it can't
 abbrev pub code_of : Status → ℕ
 code_of Done = 0
 code_of Undone = 1
 
-abbrev pub outcome_said : Outcome → Said
-outcome_said outcome = record { status = code_of outcome.status; told = Some outcome.told.items }
+abbrev pub outcome_exit : Outcome → Exit
+outcome_exit outcome = record { status = code_of outcome.status; diagnostics = Some outcome.diagnostics.items }
 
 -- what is said of a race pair that was to be mended
-abbrev pub mend_said : Result Outcome MendRefusal → Said
-mend_said = said_of outcome_said refusal_said
+abbrev pub mend_exit : Result Outcome MendRefusal → Exit
+mend_exit = exit_of outcome_exit refusal_exit
 
 -- and of all
-abbrev pub mend_all_said : Result Outcome ProgramError → Said
-mend_all_said = said_of outcome_said program_said
+abbrev pub mend_all_exit : Result Outcome ProgramError → Exit
+mend_all_exit = exit_of outcome_exit program_exit

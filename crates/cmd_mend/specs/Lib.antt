@@ -4,5 +4,5 @@ pub mod Changes
 pub mod Laws
 pub mod Naming
 pub mod Showing
-pub mod Telling
+pub mod Outcomes
 pub mod Words

@@ -26,7 +26,7 @@ use Rattle.cmd_mend.specs.declared.error.MendRefusal.{MendRefusal}
 use Rattle.cmd_mend.specs.declared.error.MendRefusal.TheVariants.{View, LineFull}
 use Rattle.cmd_mend.specs.declared.showing.Wanted.{Wanted}
 use Rattle.cmd_mend.specs.Naming.{IsMessageName}
-use Rattle.cmd_mend.specs.Telling.{IsTold, IsToldAll}
+use Rattle.cmd_mend.specs.Outcomes.{IsOutcome, IsOutcomeOfAll}
 
 -- the bytes of the name that is asked for, if there are some
 abbrev pub name_asked : Wanted → Option (List ℕ)
@@ -67,7 +67,7 @@ module _ {S : Type 0} (sink : S → Sink) where
 
   -- what became of a pair that is asked about was written, and is told
   abbrev pub Writes : S → S → Named → Pair → Mending → Result Outcome MendRefusal → Type 0
-  Writes old new named pair mending (Ok outcome) = WritesIt old new named.0 mending × IsTold named pair mending outcome
+  Writes old new named pair mending (Ok outcome) = WritesIt old new named.0 mending × IsOutcome named pair mending outcome
   Writes old new named pair mending (Err (View (Program errors.Memory))) = new ≡ old
   Writes old new named pair mending (Err (View (Program errors.Write))) = BreaksOff old new named.0 mending
   Writes old new named pair mending (Err error) = ⊥
@@ -103,7 +103,7 @@ module _ {S : Type 0} (sink : S → Sink) where
   -- out
   abbrev pub ShowsAll : S → S → Result Outcome ProgramError → Named → Type 0
   ShowsAll old new (Ok outcome) named = (m : MendedChart) × IsPossible (length named.1) (chart_lines named.1)
-      × IsMendedChart named.1 m × Puts sink old new (chart_text named.0 m.chart) × IsToldAll named.0 m outcome
+      × IsMendedChart named.1 m × Puts sink old new (chart_text named.0 m.chart) × IsOutcomeOfAll named.0 m outcome
   ShowsAll old new (Err errors.Memory) named = new ≡ old
   ShowsAll old new (Err errors.Write) named = (m : MendedChart) × IsPossible (length named.1) (chart_lines named.1)
       × IsMendedChart named.1 m × Breaks sink old new (chart_text named.0 m.chart)

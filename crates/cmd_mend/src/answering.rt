@@ -2,12 +2,12 @@
 ghost use Rattle.std.specs.Prelude.{◌≡◌};
 ghost use Rattle.texts.specs.Writing.{Wrote, Adds};
 ghost use Rattle.cmd_base.specs.Refusals.{Tried};
-ghost use Rattle.cmd_mend.specs.Answers.{code_of, full_text, outcome_said, refusal_text, refusal_said};
+ghost use Rattle.cmd_mend.specs.Answers.{code_of, full_text, outcome_exit, refusal_text, refusal_exit};
 
 use crate::error::MendRefusal;
 use crate::word::{Word, add_word};
 use chart::Name;
-use cmd_base::{Answer, tell};
+use cmd_base::{Answer, print_diagnostics};
 use texts::{Out, TextBuffer, WriteError};
 
 /// Whether what was asked for could be done.
@@ -23,7 +23,7 @@ pub(crate) enum Status {
 #[derive(Debug, Drop)]
 pub(crate) struct Outcome {
     pub status: Status,
-    pub told: Vec<u8>,
+    pub diagnostics: Vec<u8>,
 }
 
 impl Status {
@@ -39,14 +39,14 @@ impl Status {
 }
 
 impl Answer for Outcome {
-    ghost said = { outcome_said };
+    ghost exit = { outcome_exit };
 
     fn status(&self) -> u8 {
         self.status.code()
     }
 
-    fn tell<V: Out>(&self, err: &mut V) {
-        tell(self.told.as_slice(), err)
+    fn print_diagnostics<V: Out>(&self, err: &mut V) {
+        print_diagnostics(self.diagnostics.as_slice(), err)
     }
 }
 
@@ -69,7 +69,7 @@ fn write_full<V: Out>(name: &Name, err: &mut V) -> Result<(), WriteError>
 }
 
 /// Writes the line of a refusal, or a beginning of it where that fails.
-fn tell_refusal<V: Out>(error: &MendRefusal, err: &mut V)
+fn print_refusal<V: Out>(error: &MendRefusal, err: &mut V)
     ensures { Tried V.sink err.old err.new (refusal_text error.now) }
 {
     match error {
@@ -83,13 +83,13 @@ fn tell_refusal<V: Out>(error: &MendRefusal, err: &mut V)
 }
 
 impl Answer for MendRefusal {
-    ghost said = { refusal_said };
+    ghost exit = { refusal_exit };
 
     fn status(&self) -> u8 {
         2
     }
 
-    fn tell<V: Out>(&self, err: &mut V) {
-        tell_refusal(self, err)
+    fn print_diagnostics<V: Out>(&self, err: &mut V) {
+        print_refusal(self, err)
     }
 }

@@ -21,9 +21,9 @@ mod change_text;
 mod error;
 pub mod laws;
 mod naming;
+mod outcomes;
 mod showing;
 mod showing_all;
-mod told;
 mod word;
 
 pub use error::MendRefusal;

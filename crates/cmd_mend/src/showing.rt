@@ -4,14 +4,14 @@ ghost use Rattle.chart.specs.Charts.{chart_lines};
 ghost use Rattle.cmd_base.specs.Answers.{Answers};
 ghost use Rattle.cmd_base.specs.Texts.{named_of};
 ghost use Rattle.repair.specs.Mends.{IsMadeOf};
-ghost use Rattle.cmd_mend.specs.Answers.{by_program, mend_said};
+ghost use Rattle.cmd_mend.specs.Answers.{by_program, mend_exit};
 ghost use Rattle.cmd_mend.specs.Showing.{IsNamedFor, refused_so, Writes, Shows, ShowsText};
 ghost use Rattle.cmd_base.specs.Pairs.Pairs.{IsPair};
 
 use crate::answering::Outcome;
 use crate::error::MendRefusal;
 use crate::naming::message_name;
-use crate::told::told_of;
+use crate::outcomes::outcome_of;
 use chart::{Chart, Names};
 use closure::Closure;
 use cmd_base::pairs::{Asked, Pair, ViewError, pair_in};
@@ -60,7 +60,7 @@ fn write_mending<W: Out>(
     requires made { IsMadeOf closure.now mending.now }
     ensures { Writes W.sink out.old out.new (names.now, closure.now) pair.now mending.now result }
 {
-    let Ok(outcome) = told_of(alloc, names, closure, pair, mending) else {
+    let Ok(outcome) = outcome_of(alloc, names, closure, pair, mending) else {
         return Err(refusal(ProgramError::Memory));
     };
     match mending {
@@ -114,7 +114,7 @@ pub fn mend_of_source<W: Out, V: Out>(
     out: &mut W,
     err: &mut V,
 ) -> u8
-    ensures { Answers (λ done. Shows W.sink out.old out.new done wanted.now (named_of source.now)) mend_said
+    ensures { Answers (λ done. Shows W.sink out.old out.new done wanted.now (named_of source.now)) mend_exit
         V.sink err.old err.new result }
 {
     answered(
@@ -137,7 +137,7 @@ pub fn mend<W: Out, V: Out>(
     out: &mut W,
     err: &mut V,
 ) -> u8
-    ensures { Answers (ShowsText W.sink out.old out.new wanted.now bytes.now) mend_said V.sink err.old err.new result }
+    ensures { Answers (ShowsText W.sink out.old out.new wanted.now bytes.now) mend_exit V.sink err.old err.new result }
 {
     answered(&mend_text(alloc, bytes, wanted, out), err)
 }

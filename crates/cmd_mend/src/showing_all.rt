@@ -2,11 +2,11 @@
 ghost use Rattle.std.specs.Prelude.{◌≡◌, length};
 ghost use Rattle.cmd_base.specs.Answers.{Answers};
 ghost use Rattle.cmd_base.specs.Texts.{named_of};
-ghost use Rattle.cmd_mend.specs.Answers.{mend_all_said};
+ghost use Rattle.cmd_mend.specs.Answers.{mend_all_exit};
 ghost use Rattle.cmd_mend.specs.Showing.{ShowsAll, ShowsAllText};
 
 use crate::answering::Outcome;
-use crate::told::told_additions;
+use crate::outcomes::additions_outcome;
 use chart::{Chart, Names};
 use cmd_base::{ProgramError, Source, Text, answered, closure_of};
 use msc_text::write;
@@ -27,7 +27,7 @@ fn mend_all_in<W: Out>(
     let Ok(mended) = repair::mend_all(alloc, chart) else {
         return Err(ProgramError::Memory);
     };
-    let Ok(outcome) = told_additions(alloc, names, &mended) else {
+    let Ok(outcome) = additions_outcome(alloc, names, &mended) else {
         return Err(ProgramError::Memory);
     };
     match write(names, &mended.chart, out) {
@@ -51,7 +51,7 @@ fn mend_all_text<W: Out>(alloc: Global, bytes: &[u8], out: &mut W) -> Result<Out
 /// no race is left, 1 where one is, 2 after a refusal. Nothing is written to `out` before a refusal, but where writing
 /// to it failed (F24). A failed write to `err` changes nothing.
 pub fn mend_all<W: Out, V: Out>(alloc: Global, bytes: &[u8], out: &mut W, err: &mut V) -> u8
-    ensures { Answers (ShowsAllText W.sink out.old out.new bytes.now) mend_all_said V.sink err.old err.new result }
+    ensures { Answers (ShowsAllText W.sink out.old out.new bytes.now) mend_all_exit V.sink err.old err.new result }
 {
     answered(&mend_all_text(alloc, bytes, out), err)
 }

@@ -49,21 +49,21 @@ HasAnswers true bytes names events race above None = ⊥
 HasAnswers true bytes names events race above (Some answers) = IsAnswered bytes names events race above answers
 
 -- a race of a chart's page
-pub record IsRace (told : Bool) (bytes : List ℕ) (named : Named) (of : RaceRange) (race : Race) : Type 0 where
+pub record IsPageRace (explained : Bool) (bytes : List ℕ) (named : Named) (of : RaceRange) (race : Race) : Type 0 where
   pub receive : race.receive ≡ of.receive
   pub first : race.first ≡ of.earlier.first.index
   pub last : race.last ≡ last_of of.earlier
   pub marks : AreMarks (length named.1) (chart_lines named.1) of.receive race.before.items race.also.items
   pub line : race.line.items ≡ title_text named.0 (chart_lines named.1 of.receive.instance) of
-  pub answers : HasAnswers told bytes named.0 (chart_lines named.1 of.receive.instance) of
+  pub answers : HasAnswers explained bytes named.0 (chart_lines named.1 of.receive.instance) of
       (plus (length race.before.items) (length race.also.items)) race.answers
 
 -- the first n of them, of which so many are told in full
-pub record AreFirst (bytes : List ℕ) (named : Named) (told : ℕ) (of : List RaceRange) (n : ℕ) (races : List Race) : Type 0 where
+pub record AreFirst (bytes : List ℕ) (named : Named) (explained : ℕ) (of : List RaceRange) (n : ℕ) (races : List Race) : Type 0 where
   pub whole : length races ≡ n
   pub each : (place : ℕ) (race : Race) → slice_get races place ≡ Some race → (pair : RaceRange)
-      → slice_get of place ≡ Some pair → IsRace (nat_lt place told) bytes named pair race
+      → slice_get of place ≡ Some pair → IsPageRace (nat_lt place explained) bytes named pair race
 
 -- all of them
 abbrev pub AreRaces : List ℕ → Named → ℕ → List RaceRange → List Race → Type 0
-AreRaces bytes named told of races = AreFirst bytes named told of (length of) races
+AreRaces bytes named explained of races = AreFirst bytes named explained of (length of) races

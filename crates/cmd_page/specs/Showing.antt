@@ -2,7 +2,7 @@
 use Rattle.std.specs.Prelude.{◌≡◌, ℕ, ◌-◌, ◌^◌, false, List, [], length, Option, None, Some, option_map, Result, Ok, Err}
 use Rattle.chart.specs.Charts.{chart_lines, IsPossible}
 use Rattle.chart.specs.Reports.{ReportView, AreReports}
-use Rattle.cmd_base.specs.Answers.{Said, said_of, program_said}
+use Rattle.cmd_base.specs.Answers.{Exit, exit_of, program_exit}
 use Rattle.cmd_base.specs.Files.{Named, IsRefused}
 use Rattle.cmd_base.specs.Texts.{OfFile, named_of}
 use Rattle.cmd_base.specs.declared.error.ProgramError.{ProgramError}
@@ -15,7 +15,7 @@ use Rattle.texts.specs.Writing.{Puts, Breaks}
 use Rattle.cmd_page.specs.Text.PageText.{page_text}
 use Rattle.cmd_page.specs.declared.text.page.Page.{Page}
 use Rattle.cmd_page.specs.Answers.Leaving.{memory, none}
-use Rattle.cmd_page.specs.Marks.Pairing.{pairs_of, told_of}
+use Rattle.cmd_page.specs.Marks.Pairing.{pairs_of, explained_of}
 use Rattle.cmd_page.specs.Races.{AreRaces}
 use Rattle.cmd_page.specs.declared.showing.Heading.{Heading}
 
@@ -69,8 +69,8 @@ pub record IsPageOf (bytes : List ℕ) (heading : HeadingView) (named : Named) (
   pub are : AreReports named.1 reports
   pub title : page.title.now ≡ heading.title
   pub picture : HasPicture heading.turns bytes heading.title named page.picture.now
-  pub told : page.told ≡ told_of (length bytes) (length (pairs_of reports))
-  pub races : AreRaces bytes named page.told (pairs_of reports) page.races.now
+  pub explained : page.explained ≡ explained_of (length bytes) (length (pairs_of reports))
+  pub races : AreRaces bytes named page.explained (pairs_of reports) page.races.now
 
 module _ {S : Type 0} (sink : S → Sink) where
   -- the page was written; or a beginning of it, where a put failed; or nothing, where the chart is not possible, or where
@@ -90,5 +90,5 @@ module _ {S : Type 0} (sink : S → Sink) where
       OfFile (λ error. error) (λ source done. Shows old new done bytes heading (named_of source)) old new bytes done
 
 -- what is said of a page that was written: nothing
-abbrev pub page_said : Result (Unit {0}) ProgramError → Said
-page_said = said_of (λ done. record { status = 0; told = None }) program_said
+abbrev pub page_exit : Result (Unit {0}) ProgramError → Exit
+page_exit = exit_of (λ done. record { status = 0; diagnostics = None }) program_exit

@@ -12,4 +12,4 @@
 
 mod drawings;
 
-pub use drawings::{Unshown, page_of_drawing};
+pub use drawings::{PageError, page_of_drawing};

@@ -18,14 +18,14 @@
 #![tactic(auto)]
 
 pub mod answers;
-mod drawn;
 pub mod imports;
 pub mod logs;
 pub mod marks;
 mod races;
 mod showing;
 pub mod text;
+mod text_page;
 
-pub use drawn::show_drawn;
-pub use marks::{MOST_BYTES, MOST_TOLD};
+pub use marks::{MOST_BYTES, MOST_EXPLAINED};
 pub use showing::{Heading, show_text, write_page_of};
+pub use text_page::show_drawn;

@@ -10,4 +10,4 @@
 
 mod showing;
 
-pub use showing::{Unshown, page_of_log};
+pub use showing::{PageError, page_of_log};

@@ -8,4 +8,4 @@ mod marks;
 mod pairs;
 
 pub use marks::{Marks, line_of, marks_of};
-pub use pairs::{MOST_BYTES, MOST_TOLD, RaceRange, pairs_of, told_of};
+pub use pairs::{MOST_BYTES, MOST_EXPLAINED, RaceRange, explained_of, pairs_of};

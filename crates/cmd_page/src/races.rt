@@ -1,12 +1,12 @@
 //! The races of a page.
 ghost use Rattle.std.specs.Prelude.{◌≡◌, length, All, IfOk};
 ghost use Rattle.chart.specs.Ranges.{IsRange};
-ghost use Rattle.cmd_base.specs.Texts.{IsSaid};
+ghost use Rattle.cmd_base.specs.Texts.{IsReadAs};
 ghost use Rattle.texts.specs.Instances.{name_at};
 ghost use Rattle.texts.specs.Writing.{Wrote, Adds};
 ghost use Rattle.cmd_page.specs.Answers.Answering.{plus};
 ghost use Rattle.cmd_page.specs.Marks.Pairing.{HasRange};
-ghost use Rattle.cmd_page.specs.Races.{title_text, IsAnswered, HasAnswers, IsRace, AreRaces};
+ghost use Rattle.cmd_page.specs.Races.{title_text, IsAnswered, HasAnswers, IsPageRace, AreRaces};
 
 use crate::answers::{Subject, answers_of, name_bytes};
 use crate::marks::{Marks, RaceRange, line_of, marks_of};
@@ -87,7 +87,7 @@ fn named_answers<'a>(
     race: &RaceRange,
     above: u64,
 ) -> Result<Answers, AllocError>
-    requires said { IsSaid file.bytes.now file.source.now }
+    requires read_as { IsReadAs file.bytes.now file.source.now }
     requires name { name.now ≡ name_at names.now race.now.receive.instance }
     ensures { IfOk result (IsAnswered file.entry.bytes.now names.now events.now race.now above) }
 {
@@ -128,7 +128,7 @@ fn full_answers(
     race: &RaceRange,
     above: u64,
 ) -> Result<Answers, AllocError>
-    requires { IsSaid file.bytes.now file.source.now }
+    requires { IsReadAs file.bytes.now file.source.now }
     ensures { IfOk result (IsAnswered file.entry.bytes.now names.now events.now race.now above) }
 {
     let name = name_bytes(alloc, names, race.receive.instance)?;
@@ -143,12 +143,12 @@ fn answers_if(
     events: &[Event],
     race: &RaceRange,
     above: u64,
-    is_told: bool,
+    is_explained: bool,
 ) -> Result<Option<Answers>, AllocError>
-    requires { IsSaid file.bytes.now file.source.now }
-    ensures { IfOk result (HasAnswers is_told file.entry.bytes.now names.now events.now race.now above) }
+    requires { IsReadAs file.bytes.now file.source.now }
+    ensures { IfOk result (HasAnswers is_explained file.entry.bytes.now names.now events.now race.now above) }
 {
-    if is_told {
+    if is_explained {
         let answers = full_answers(alloc, file, names, events, race, above)?;
         Ok(Some(answers))
     } else {
@@ -163,17 +163,17 @@ fn race_of(
     names: &Names,
     closure: &Closure<'_>,
     race: &RaceRange,
-    is_told: bool,
+    is_explained: bool,
 ) -> Result<Race, AllocError>
-    requires said { IsSaid file.bytes.now file.source.now }
+    requires read_as { IsReadAs file.bytes.now file.source.now }
     requires range { IsRange race.now.earlier }
-    ensures { IfOk result (IsRace is_told file.entry.bytes.now (names.now, closure.now) race.now) }
+    ensures { IfOk result (IsPageRace is_explained file.entry.bytes.now (names.now, closure.now) race.now) }
 {
     let events = line_of(closure, race.receive.instance);
     let marks = marks_of(alloc, closure, &race.receive)?;
     let line = title_of(alloc, names, events, race)?;
     let above = above_rows(&marks);
-    let answers = answers_if(alloc, file, names, events, race, above, is_told)?;
+    let answers = answers_if(alloc, file, names, events, race, above, is_explained)?;
     let Marks { before, also } = marks;
     Ok(Race {
         receive: race.receive,
@@ -193,11 +193,11 @@ pub(crate) fn races_of(
     names: &Names,
     closure: &Closure<'_>,
     pairs: &[RaceRange],
-    told: u64,
+    explained: u64,
 ) -> Result<Vec<Race>, AllocError>
-    requires said { IsSaid file.bytes.now file.source.now }
+    requires read_as { IsReadAs file.bytes.now file.source.now }
     requires ranges { All HasRange pairs.now }
-    ensures { IfOk result (λ races. AreRaces file.entry.bytes.now (names.now, closure.now) told pairs.now races.items) }
+    ensures { IfOk result (λ races. AreRaces file.entry.bytes.now (names.now, closure.now) explained pairs.now races.items) }
 {
     let mut races = Vec::new(alloc);
     for place in 0..pairs.len() {
@@ -207,7 +207,7 @@ pub(crate) fn races_of(
             names,
             closure,
             &pairs[place],
-            (place as u64) < told,
+            (place as u64) < explained,
         )?;
         races.push(race)?;
     }

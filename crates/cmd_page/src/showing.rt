@@ -2,7 +2,7 @@
 ghost use Rattle.std.specs.Prelude.{◌≡◌, length, option_map, IfOk};
 ghost use Rattle.chart.specs.Charts.{chart_lines, IsPossible};
 ghost use Rattle.cmd_base.specs.Answers.{Answers};
-ghost use Rattle.cmd_base.specs.Texts.{IsSaid};
+ghost use Rattle.cmd_base.specs.Texts.{IsReadAs};
 ghost use Rattle.cmd_page.specs.Showing.{
   HasPicture,
   IsAskedOf,
@@ -11,12 +11,12 @@ ghost use Rattle.cmd_page.specs.Showing.{
   Shows,
   ShowsText,
   heading_view,
-  page_said,
+  page_exit,
   titled,
 };
 
 use crate::answers::Collected;
-use crate::marks::{pairs_of, told_of};
+use crate::marks::{explained_of, pairs_of};
 use crate::races::{ReadFile, races_of};
 use crate::text::{Page, write_page};
 use chart::{Chart, InstanceNo, Names};
@@ -101,7 +101,8 @@ fn picture_in(
     }
 }
 
-/// Writes the page of a possible chart, of which this is the picture. All memory is taken before the first byte is written.
+/// Writes the page of a possible chart, of which this is the picture. All memory is taken before the first byte is
+/// written.
 fn show_closure<W: Out>(
     alloc: Global,
     file: ReadFile<'_>,
@@ -111,7 +112,7 @@ fn show_closure<W: Out>(
     closure: &Closure<'_>,
     out: &mut W,
 ) -> Result<(), ProgramError>
-    requires said { IsSaid file.bytes.now file.source.now }
+    requires read_as { IsReadAs file.bytes.now file.source.now }
     requires possible { IsPossible (length closure.now) (chart_lines closure.now) }
     requires picture { HasPicture (option_map (λ turns. turns.now) heading.now.turns) file.bytes.now heading.now.title.now
         (names.now, closure.now) picture.now }
@@ -124,15 +125,15 @@ fn show_closure<W: Out>(
     let Ok(pairs) = pairs_of(alloc, reports.as_slice()) else {
         return Err(ProgramError::Memory);
     };
-    let told = told_of(file.bytes.len(), pairs.len());
-    let Ok(races) = races_of(alloc, file, names, closure, pairs.as_slice(), told) else {
+    let explained = explained_of(file.bytes.len(), pairs.len());
+    let Ok(races) = races_of(alloc, file, names, closure, pairs.as_slice(), explained) else {
         return Err(ProgramError::Memory);
     };
     let page = Page {
         title: heading.title,
         picture,
         races: races.as_slice(),
-        told,
+        explained,
     };
     match write_page(&page, out) {
         Ok(()) => Ok(()),
@@ -149,7 +150,7 @@ fn show_chart<W: Out>(
     chart: &Chart,
     out: &mut W,
 ) -> Result<(), ProgramError>
-    requires said { IsSaid file.bytes.now file.source.now }
+    requires read_as { IsReadAs file.bytes.now file.source.now }
     requires named { length names.now ≡ length chart.now }
     ensures { Shows W.sink out.old out.new result file.entry.bytes.now (heading_view heading.now) (names.now, chart.now) }
 {
@@ -168,8 +169,8 @@ fn show_chart<W: Out>(
     )
 }
 
-/// Writes the page of what the file says, with a picture by turns where these are given. It is read once for all that is told
-/// of its races. The refusals are those of [`write_page_of`].
+/// Writes the page of what the file says, with a picture by turns where these are given. It is read once for all that
+/// is told of its races. The refusals are those of [`write_page_of`].
 pub fn show_text<W: Out>(
     alloc: Global,
     bytes: &[u8],
@@ -199,7 +200,7 @@ pub fn write_page_of<W: Out, V: Out>(
     out: &mut W,
     err: &mut V,
 ) -> u8
-    ensures { Answers (ShowsText W.sink out.old out.new (titled title.now) bytes.now) page_said V.sink err.old err.new
+    ensures { Answers (ShowsText W.sink out.old out.new (titled title.now) bytes.now) page_exit V.sink err.old err.new
         result }
 {
     let heading = Heading { title, turns: None };

@@ -14,7 +14,7 @@ use Rattle.cmd_races.specs.Showing.{manner_of, AreWanted, Shows}
 use Rattle.cmd_races.specs.declared.judging.LuckWanted.{LuckWanted}
 use Rattle.cmd_base.specs.declared.status.Status.{Status}
 use Rattle.race_verdicts.specs.declared.verdict.Verdict.{Verdict}
-use Rattle.races_text.specs.Judged.Telling.{LuckManner, PartedReport, ArePartedTo, luck_text, shows_luck}
+use Rattle.races_text.specs.Judged.Listing.{LuckManner, PartedReport, ArePartedTo, luck_text, shows_luck}
 
 -- how they are told: of these instances
 abbrev pub luck_manner_of : LuckWanted → List ℕ → LuckManner

@@ -13,7 +13,7 @@ use Rattle.texts.specs.Outs.{Sink}
 use Rattle.texts.specs.Writing.{Puts, Breaks}
 use Rattle.cmd_races.specs.declared.showing.Wanted.{Wanted}
 use Rattle.cmd_base.specs.declared.status.Status.{Status}
-use Rattle.races_text.specs.Named.Telling.{Manner, AreTold, races_text, shows_races}
+use Rattle.races_text.specs.Named.Listing.{Manner, AreSelected, races_text, shows_races}
 
 -- how they are told: of these instances
 abbrev pub manner_of : Wanted → List ℕ → Manner
@@ -28,7 +28,7 @@ manner_of wanted instances = record {
 pub record AreWanted (wanted : Wanted) (named : Named) (instances : List ℕ) (reports : List ReportView) : Type 0 where
   pub named_so : AreColumns named.0 (only_of wanted.only) instances
   pub possible : IsPossible (length named.1) (chart_lines named.1)
-  pub races : AreTold wanted.run_to_completion named.1 reports
+  pub races : AreSelected wanted.run_to_completion named.1 reports
 
 -- what is written of them
 abbrev pub text_of : Wanted → Named → List ℕ → List ReportView → List ℕ

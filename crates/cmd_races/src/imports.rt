@@ -11,4 +11,4 @@
 
 mod showing;
 
-pub use showing::{Shown, Unshown, races_of};
+pub use showing::{RaceShowError, Shown, races_of};

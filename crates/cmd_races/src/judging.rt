@@ -3,8 +3,8 @@ ghost use Rattle.std.specs.Prelude.{◌≡◌, length, IfSome};
 ghost use Rattle.chart.specs.declared.instance.EventNo.{EventNo};
 ghost use Rattle.chart.specs.Charts.{chart_lines, IsPossible};
 ghost use Rattle.cmd_base.specs.Columns.Columns.{AreColumns, only_of};
-ghost use Rattle.races_text.specs.Judged.Telling.{IsRaceIn};
-ghost use Rattle.races_text.specs.Named.Telling.{is_there};
+ghost use Rattle.races_text.specs.Judged.Listing.{IsRaceIn};
+ghost use Rattle.races_text.specs.Named.Listing.{is_there};
 ghost use Rattle.cmd_races.specs.Judging.{ShowsJudged, IsLuckRefused, ShowsUnknown};
 
 use crate::showing::{Wanted, show_chart};
@@ -12,8 +12,8 @@ use chart::{Chart, InstanceNo, Names};
 use closure::Closure;
 use cmd_base::columns::{FormatError, columns_in};
 use cmd_base::{ProgramError, Status};
-use races_text::judged::{ToldLuck, Verdicts, write_luck};
-use races_text::named::Told;
+use races_text::judged::{VerdictQuery, Verdicts, write_luck};
+use races_text::named::RaceQuery;
 use reordering::completion::Completion;
 use std::alloc::Global;
 use texts::Out;
@@ -26,9 +26,9 @@ pub struct LuckWanted<'a> {
     pub luck: bool,
 }
 
-/// Writes the races of these instances of a possible chart with the words of their verdicts, where there is a completion of
-/// those that are left. All memory is taken before the first byte is written.
-fn show_told<W: Out, V: Verdicts>(
+/// Writes the races of these instances of a possible chart with the words of their verdicts, where there is a
+/// completion of those that are left. All memory is taken before the first byte is written.
+fn show_selected<W: Out, V: Verdicts>(
     names: &Names,
     closure: &Closure<'_>,
     instances: &[InstanceNo],
@@ -47,8 +47,8 @@ fn show_told<W: Out, V: Verdicts>(
     let Ok(reporter) = closure.reporter() else {
         return Err(FormatError::Program(ProgramError::Memory));
     };
-    let told = ToldLuck {
-        told: Told {
+    let query = VerdictQuery {
+        query: RaceQuery {
             names,
             lines: closure.lines(),
             only: instances,
@@ -59,7 +59,7 @@ fn show_told<W: Out, V: Verdicts>(
         verdicts,
         luck: wanted.luck,
     };
-    match write_luck(&told, reporter, out) {
+    match write_luck(&query, reporter, out) {
         Ok(shown) => Ok(Status::of(shown)),
         Err(_) => Err(FormatError::Program(ProgramError::Write)),
     }
@@ -81,12 +81,12 @@ pub fn show_judged<W: Out, V: Verdicts>(
     ensures { ShowsJudged W.sink (V.is_verdict verdicts.now) out.old out.new result wanted.now (names.now, closure.now) }
 {
     if !wanted.races.run_to_completion {
-        return show_told(names, closure, instances, wanted, None, verdicts, out);
+        return show_selected(names, closure, instances, wanted, None, verdicts, out);
     }
     let Ok(completion) = Completion::of(alloc, closure) else {
         return Err(FormatError::Program(ProgramError::Memory));
     };
-    show_told(
+    show_selected(
         names,
         closure,
         instances,
@@ -97,8 +97,8 @@ pub fn show_judged<W: Out, V: Verdicts>(
     )
 }
 
-/// Refuses luck where it isn't known. F34: a name of `only` is none of the chart's, or is there twice. Else G1. F6 may come
-/// before.
+/// Refuses luck where it isn't known. F34: a name of `only` is none of the chart's, or is there twice. Else G1. F6 may
+/// come before.
 fn refuse_luck(alloc: Global, names: &Names, wanted: &Wanted<'_>) -> Result<Status, FormatError>
     ensures { IsLuckRefused names.now (only_of wanted.now.only) result }
 {

@@ -12,4 +12,4 @@
 mod known;
 mod showing;
 
-pub use showing::{Shown, Unshown, races_of_log};
+pub use showing::{RaceShowError, Shown, races_of_log};

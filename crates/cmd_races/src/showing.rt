@@ -4,14 +4,14 @@ ghost use Rattle.chart.specs.Charts.{chart_lines, IsPossible};
 ghost use Rattle.cmd_base.specs.Answers.{Answers};
 ghost use Rattle.cmd_base.specs.Columns.Columns.{AreColumns, only_of};
 ghost use Rattle.cmd_races.specs.Showing.{Shows, ShowsText};
-ghost use Rattle.cmd_races.specs.Statuses.{shown_said};
-ghost use Rattle.races_text.specs.Named.Telling.{is_there};
+ghost use Rattle.cmd_races.specs.Statuses.{shown_exit};
+ghost use Rattle.races_text.specs.Named.Listing.{is_there};
 
 use chart::{Chart, InstanceNo, Names};
 use closure::Closure;
 use cmd_base::columns::{FormatError, columns_in};
 use cmd_base::{ProgramError, Source, Status, Text, answered, closure_of};
-use races_text::named::{Form, Told, write_races};
+use races_text::named::{Form, RaceQuery, write_races};
 use reordering::completion::Completion;
 use std::alloc::Global;
 use texts::Out;
@@ -31,7 +31,7 @@ pub struct Wanted<'a> {
 
 /// Writes the races of these instances of a possible chart, where there is a completion those that are left. All memory
 /// is taken before the first byte is written.
-fn show_told<W: Out>(
+fn show_selected<W: Out>(
     names: &Names,
     closure: &Closure<'_>,
     instances: &[InstanceNo],
@@ -48,7 +48,7 @@ fn show_told<W: Out>(
     let Ok(reporter) = closure.reporter() else {
         return Err(FormatError::Program(ProgramError::Memory));
     };
-    let told = Told {
+    let query = RaceQuery {
         names,
         lines: closure.lines(),
         only: instances,
@@ -56,7 +56,7 @@ fn show_told<W: Out>(
         completion,
         form: wanted.form,
     };
-    match write_races(&told, reporter, out) {
+    match write_races(&query, reporter, out) {
         Ok(shown) => Ok(Status::of(shown)),
         Err(_) => Err(FormatError::Program(ProgramError::Write)),
     }
@@ -76,12 +76,12 @@ fn show_races<W: Out>(
     ensures { Shows W.sink out.old out.new result wanted.now (names.now, closure.now) }
 {
     if !wanted.run_to_completion {
-        return show_told(names, closure, instances, wanted, None, out);
+        return show_selected(names, closure, instances, wanted, None, out);
     }
     let Ok(completion) = Completion::of(alloc, closure) else {
         return Err(FormatError::Program(ProgramError::Memory));
     };
-    show_told(names, closure, instances, wanted, Some(&completion), out)
+    show_selected(names, closure, instances, wanted, Some(&completion), out)
 }
 
 /// Writes the races that are wanted of a chart, which has a line for each name: by the names of their messages. F34: a
@@ -128,7 +128,7 @@ pub fn races<W: Out, V: Out>(
     out: &mut W,
     err: &mut V,
 ) -> u8
-    ensures { Answers (ShowsText W.sink out.old out.new wanted.now bytes.now) shown_said V.sink err.old err.new result }
+    ensures { Answers (ShowsText W.sink out.old out.new wanted.now bytes.now) shown_exit V.sink err.old err.new result }
 {
     answered(&show_text(alloc, bytes, wanted, out), err)
 }

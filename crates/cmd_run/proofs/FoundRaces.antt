@@ -18,9 +18,9 @@ use Rattle.texts.specs.declared.text_buffer.TextBuffer.{TextBuffer}
 use Rattle.texts.proofs.Writes.{buffers_then, stops_then, stops_early, adds_early, wrote_then}
 
 -- an error says nothing of a value
-pub none_told : {T E : Type 0} (P : T → Type 0) (r : Result T E) → is_err r ≡ true → IfOk r P
-none_told P (Ok x) failed = cc
-none_told P (Err e) failed = tt
+pub vacuous : {T E : Type 0} (P : T → Type 0) (r : Result T E) → is_err r ≡ true → IfOk r P
+vacuous P (Ok x) failed = cc
+vacuous P (Err e) failed = tt
 
 or_no_more : (a b : Bool) → (a || (b || false)) ≡ (a || b)
 or_no_more true b = refl

@@ -11,15 +11,15 @@ use Rattle.cmd_base.specs.declared.status.Status.{Status}
 use Rattle.cmd_run.specs.Showing.{Shows, RunsScripts}
 
 pub runs-shown : {S : Type 0} (sink : S → Sink) (plan : Plan) (run : Run) (turns : ℕ)
-    (old new : S) (done : Result Status ProgramError) (said : Result Plan Fault) → said ≡ Ok plan
+    (old new : S) (done : Result Status ProgramError) (reading : Result Plan Fault) → reading ≡ Ok plan
     → AreScriptRuns plan turns run → Shows sink plan run old new done
-    → RunsScripts sink turns old new done said
-runs-shown sink plan run turns old new (Ok status) said is runs shows = (plan, run, is, runs, shows)
-runs-shown sink plan run turns old new (Err errors.Memory) said is runs shows = shows
-runs-shown sink plan run turns old new (Err errors.Write) said is runs shows = (plan, run, is, runs, shows)
-runs-shown sink plan run turns old new (Err errors.Usage) said is runs shows = absurd shows
-runs-shown sink plan run turns old new (Err errors.File) said is runs shows = absurd shows
-runs-shown sink plan run turns old new (Err (errors.Text fault)) said is runs shows = absurd shows
-runs-shown sink plan run turns old new (Err (errors.ReceiveWithoutSend instance index)) said is runs shows = absurd shows
-runs-shown sink plan run turns old new (Err (errors.NameMismatch instance index)) said is runs shows = absurd shows
-runs-shown sink plan run turns old new (Err errors.Cyclic) said is runs shows = absurd shows
+    → RunsScripts sink turns old new done reading
+runs-shown sink plan run turns old new (Ok status) reading is runs shows = (plan, run, is, runs, shows)
+runs-shown sink plan run turns old new (Err errors.Memory) reading is runs shows = shows
+runs-shown sink plan run turns old new (Err errors.Write) reading is runs shows = (plan, run, is, runs, shows)
+runs-shown sink plan run turns old new (Err errors.Usage) reading is runs shows = absurd shows
+runs-shown sink plan run turns old new (Err errors.File) reading is runs shows = absurd shows
+runs-shown sink plan run turns old new (Err (errors.Text fault)) reading is runs shows = absurd shows
+runs-shown sink plan run turns old new (Err (errors.ReceiveWithoutSend instance index)) reading is runs shows = absurd shows
+runs-shown sink plan run turns old new (Err (errors.NameMismatch instance index)) reading is runs shows = absurd shows
+runs-shown sink plan run turns old new (Err errors.Cyclic) reading is runs shows = absurd shows

@@ -14,10 +14,10 @@ use Rattle.schedule.specs.Reading.{schedule_of}
 use Rattle.cmd_base.specs.declared.error.ProgramError.{ProgramError}
 use Rattle.cmd_base.specs.declared.error.ProgramError.TheVariants as errors
 use Rattle.cmd_base.specs.declared.status.Status.{Status}
-use Rattle.cmd_base.specs.Answers.{Said, program_said, said_of}
-use Rattle.cmd_base.specs.Statuses.{status_said}
-use Rattle.cmd_run.specs.declared.showing.Unshown.{Unshown}
-use Rattle.cmd_run.specs.declared.showing.Unshown.TheVariants.{Program, Unfit}
+use Rattle.cmd_base.specs.Answers.{Exit, program_exit, exit_of}
+use Rattle.cmd_base.specs.Statuses.{status_exit}
+use Rattle.cmd_run.specs.declared.showing.RunShowError.{RunShowError}
+use Rattle.cmd_run.specs.declared.showing.RunShowError.TheVariants.{Program, InvalidInput}
 use Rattle.cmd_run.specs.Tasks.{status_of}
 
 module _ {S : Type 0} (sink : S → Sink) where
@@ -34,14 +34,14 @@ module _ {S : Type 0} (sink : S → Sink) where
   -- What is written of a run that a schedule's own scripts came to, each instance doing its own commands in their order;
   -- or nothing, where the text says no schedule, where no run has so many turns, or where memory ran out.
   abbrev pub RunsScripts : ℕ → S → S → Result Status ProgramError → Result Plan Fault → Type 0
-  RunsScripts turns old new (Ok status) said = (plan : Plan) × (run : Run) × (said ≡ Ok plan)
+  RunsScripts turns old new (Ok status) reading = (plan : Plan) × (run : Run) × (reading ≡ Ok plan)
       × AreScriptRuns plan turns run × Shows plan run old new (Ok status)
-  RunsScripts turns old new (Err errors.Memory) said = new ≡ old
-  RunsScripts turns old new (Err (errors.Text fault)) said = (said ≡ Err fault) × (new ≡ old)
-  RunsScripts turns old new (Err errors.Usage) said = IsNoTurns turns × (new ≡ old)
-  RunsScripts turns old new (Err errors.Write) said = (plan : Plan) × (run : Run) × (said ≡ Ok plan)
+  RunsScripts turns old new (Err errors.Memory) reading = new ≡ old
+  RunsScripts turns old new (Err (errors.Text fault)) reading = (reading ≡ Err fault) × (new ≡ old)
+  RunsScripts turns old new (Err errors.Usage) reading = IsNoTurns turns × (new ≡ old)
+  RunsScripts turns old new (Err errors.Write) reading = (plan : Plan) × (run : Run) × (reading ≡ Ok plan)
       × AreScriptRuns plan turns run × Shows plan run old new (Err errors.Write)
-  RunsScripts turns old new (Err _) said = ⊥
+  RunsScripts turns old new (Err _) reading = ⊥
 
   -- what is done with the bytes of a schedule whose instances run on threads
   abbrev pub DoesOnThreads : S → S → ℕ → List ℕ → Result Status ProgramError → Type 0
@@ -49,17 +49,17 @@ module _ {S : Type 0} (sink : S → Sink) where
 
   -- What is written of a run. Of one that memory kept from being made, and of one that had no fit posts, behaviours or
   -- turns, nothing is.
-  abbrev pub ShowsRun : {P B : Type 0} → S → S → Plan → Result Run (RunError P B) → Result Status Unshown → Type 0
+  abbrev pub ShowsRun : {P B : Type 0} → S → S → Plan → Result Run (RunError P B) → Result Status RunShowError → Type 0
   ShowsRun old new plan (Ok run) (Ok status) = Shows plan run old new (Ok status)
   ShowsRun old new plan (Ok run) (Err (Program error)) = Shows plan run old new (Err error)
   ShowsRun old new plan (Err causes.Memory) (Err (Program errors.Memory)) = new ≡ old
-  ShowsRun old new plan (Err (causes.Unfit posts behaviours)) (Err Unfit) = new ≡ old
+  ShowsRun old new plan (Err (causes.InvalidInput posts behaviours)) (Err InvalidInput) = new ≡ old
   ShowsRun old new plan ran shown = ⊥
 
 -- what is said of a run that isn't shown: F25 is never printed
-abbrev pub unshown_said : Unshown → Said
-unshown_said (Program error) = program_said error
-unshown_said Unfit = record { status = 2; told = None }
+abbrev pub run_show_error_exit : RunShowError → Exit
+run_show_error_exit (Program error) = program_exit error
+run_show_error_exit InvalidInput = record { status = 2; diagnostics = None }
 
-abbrev pub shown_said : Result Status Unshown → Said
-shown_said = said_of status_said unshown_said
+abbrev pub shown_exit : Result Status RunShowError → Exit
+shown_exit = exit_of status_exit run_show_error_exit

@@ -18,8 +18,8 @@ use Rattle.cmd_base.specs.declared.error.ProgramError.{ProgramError}
 use Rattle.cmd_base.specs.declared.error.ProgramError.TheVariants as errors
 use Rattle.cmd_run.specs.declared.task.Task.{Task}
 use Rattle.cmd_run.specs.declared.task.Task.TheVariants.{Replay, Random, Check}
-use Rattle.cmd_base.specs.Answers.{Said, program_said, said_of}
-use Rattle.cmd_base.specs.Statuses.{status_in, status_said}
+use Rattle.cmd_base.specs.Answers.{Exit, program_exit, exit_of}
+use Rattle.cmd_base.specs.Statuses.{status_in, status_exit}
 
 -- what a task comes to by these reports
 abbrev pub status_of : List ReportView → Status
@@ -34,26 +34,26 @@ module _ {S : Type 0} (sink : S → Sink) where
   -- the text of what the schedule comes to was written; or a beginning of it, where a put failed; or nothing, where the
   -- text says no schedule, or where memory ran out
   abbrev pub Replays : S → S → Result Status ProgramError → Result Plan Fault → Type 0
-  Replays old new (Ok status) said = (plan : Plan) × (o : OutcomeView) × (said ≡ Ok plan) × IsOutcome plan o
+  Replays old new (Ok status) reading = (plan : Plan) × (o : OutcomeView) × (reading ≡ Ok plan) × IsOutcome plan o
       × (status ≡ status_of o.reports) × Puts sink old new (outcome_text o)
-  Replays old new (Err errors.Memory) said = new ≡ old
-  Replays old new (Err (errors.Text fault)) said = (said ≡ Err fault) × (new ≡ old)
-  Replays old new (Err errors.Write) said = (plan : Plan) × (o : OutcomeView) × (said ≡ Ok plan) × IsOutcome plan o
+  Replays old new (Err errors.Memory) reading = new ≡ old
+  Replays old new (Err (errors.Text fault)) reading = (reading ≡ Err fault) × (new ≡ old)
+  Replays old new (Err errors.Write) reading = (plan : Plan) × (o : OutcomeView) × (reading ≡ Ok plan) × IsOutcome plan o
       × Breaks sink old new (outcome_text o)
-  Replays old new (Err _) said = ⊥
+  Replays old new (Err _) reading = ⊥
 
   -- the races of the chart were written, which is possible; or a beginning of them, where a put failed; or nothing,
   -- where the text says no chart, or one that is not possible, or where memory ran out
   abbrev pub Checks : S → S → Result Status ProgramError → Result Named Fault → Type 0
-  Checks old new (Ok status) said = (named : Named) × (reports : List ReportView) × (said ≡ Ok named)
+  Checks old new (Ok status) reading = (named : Named) × (reports : List ReportView) × (reading ≡ Ok named)
       × IsPossible (length named.1) (chart_lines named.1) × AreReports named.1 reports × (status ≡ status_of reports)
       × Puts sink old new (races_text named.0 reports)
-  Checks old new (Err errors.Memory) said = new ≡ old
-  Checks old new (Err (errors.Text fault)) said = (said ≡ Err fault) × (new ≡ old)
-  Checks old new (Err errors.Write) said = (named : Named) × (reports : List ReportView) × (said ≡ Ok named)
+  Checks old new (Err errors.Memory) reading = new ≡ old
+  Checks old new (Err (errors.Text fault)) reading = (reading ≡ Err fault) × (new ≡ old)
+  Checks old new (Err errors.Write) reading = (named : Named) × (reports : List ReportView) × (reading ≡ Ok named)
       × IsPossible (length named.1) (chart_lines named.1) × AreReports named.1 reports
       × Breaks sink old new (races_text named.0 reports)
-  Checks old new (Err error) said = (named : Named) × (said ≡ Ok named) × IsRefused error named × (new ≡ old)
+  Checks old new (Err error) reading = (named : Named) × (reading ≡ Ok named) × IsRefused error named × (new ≡ old)
 
   -- what the task does with the bytes
   abbrev pub Does : S → S → Task → List ℕ → Result Status ProgramError → Type 0
@@ -61,5 +61,5 @@ module _ {S : Type 0} (sink : S → Sink) where
   Does old new (Random seed) bytes done = Replays old new done (drawn_by seed (schedule_of bytes))
   Does old new Check bytes done = Checks old new done (chart_of bytes)
 
-abbrev pub task_said : Result Status ProgramError → Said
-task_said = said_of status_said program_said
+abbrev pub task_exit : Result Status ProgramError → Exit
+task_exit = exit_of status_exit program_exit

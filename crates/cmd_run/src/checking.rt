@@ -49,7 +49,7 @@ fn add_found<W: Out>(
 }
 
 /// Writes the line of each race as it is found, and answers whether there is one.
-#[tactic(auto, using(texts::proofs::Writes::joining, crate::proofs::FoundRaces::wrote_failed, crate::proofs::FoundRaces::none_told))]
+#[tactic(auto, using(texts::proofs::Writes::joining, crate::proofs::FoundRaces::wrote_failed, crate::proofs::FoundRaces::vacuous))]
 fn write<W: Out>(names: &Names, reporter: Reporter<'_>, out: &mut W) -> Result<bool, WriteError>
     requires reporter { HaveReported reporter.lines reporter.line reporter.place [] }
     requires named { length names.now ≡ length reporter.lines }

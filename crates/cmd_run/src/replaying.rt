@@ -31,8 +31,8 @@ fn replay_and_write<W: Out>(
     schedule: &Schedule,
     out: &mut W,
 ) -> Result<Status, ProgramError>
-    ensures { (said : Result Plan Fault) → said ≡ Ok schedule.now
-        → Replays W.sink out.old out.new result said }
+    ensures { (exit : Result Plan Fault) → exit ≡ Ok schedule.now
+        → Replays W.sink out.old out.new result exit }
 {
     let outcome = match replay(alloc, schedule) {
         Ok(outcome) => outcome,

@@ -2,8 +2,8 @@
 ghost use Rattle.std.specs.Prelude.{IfOk};
 ghost use Rattle.schedule_threads.specs.RunOutcomes.{IsRunOf};
 ghost use Rattle.cmd_base.specs.Answers.{Answers};
-ghost use Rattle.cmd_run.specs.Showing.{Shows, ShowsRun, DoesOnThreads, unshown_said, shown_said};
-ghost use Rattle.cmd_run.specs.Tasks.{task_said};
+ghost use Rattle.cmd_run.specs.Showing.{Shows, ShowsRun, DoesOnThreads, run_show_error_exit, shown_exit};
+ghost use Rattle.cmd_run.specs.Tasks.{task_exit};
 
 use cmd_base::{Answer, ProgramError, Status, answered, schedule_in};
 use instances::{Run, RunError};
@@ -34,23 +34,23 @@ fn write_run<W: Out>(
 
 /// Why nothing is shown of a run.
 #[derive(Clone, Copy, Debug)]
-enum Unshown {
+enum RunShowError {
     Program(ProgramError),
     /// F25: there were no fit posts, behaviours or turns. It is never printed.
-    Unfit,
+    InvalidInput,
 }
 
-impl Answer for Unshown {
-    ghost said = { unshown_said };
+impl Answer for RunShowError {
+    ghost exit = { run_show_error_exit };
 
     fn status(&self) -> u8 {
         2
     }
 
-    fn tell<V: Out>(&self, err: &mut V) {
+    fn print_diagnostics<V: Out>(&self, err: &mut V) {
         match self {
-            Unshown::Program(error) => error.tell(err),
-            Unshown::Unfit => {}
+            RunShowError::Program(error) => error.print_diagnostics(err),
+            RunShowError::InvalidInput => {}
         }
     }
 }
@@ -61,17 +61,17 @@ fn write_ran<P: Drop, B: Drop, W: Out>(
     schedule: &Schedule,
     ran: Result<Run, RunError<P, B>>,
     out: &mut W,
-) -> Result<Status, Unshown>
+) -> Result<Status, RunShowError>
     requires { IfOk ran (IsRunOf schedule.now) }
     ensures { ShowsRun W.sink out.old out.new schedule.now ran result }
 {
     match ran {
         Ok(run) => match write_run(alloc, schedule, run, out) {
             Ok(status) => Ok(status),
-            Err(error) => Err(Unshown::Program(error)),
+            Err(error) => Err(RunShowError::Program(error)),
         },
-        Err(RunError::Memory) => Err(Unshown::Program(ProgramError::Memory)),
-        Err(RunError::Unfit(..)) => Err(Unshown::Unfit),
+        Err(RunError::Memory) => Err(RunShowError::Program(ProgramError::Memory)),
+        Err(RunError::InvalidInput(..)) => Err(RunShowError::InvalidInput),
     }
 }
 
@@ -90,7 +90,7 @@ pub fn show_run<P: Drop, B: Drop, W: Out, V: Out>(
     err: &mut V,
 ) -> u8
     requires { IfOk ran (IsRunOf schedule.now) }
-    ensures { Answers (ShowsRun W.sink out.old out.new schedule.now ran) shown_said V.sink err.old err.new result }
+    ensures { Answers (ShowsRun W.sink out.old out.new schedule.now ran) shown_exit V.sink err.old err.new result }
 {
     answered(&write_ran(alloc, schedule, ran, out), err)
 }
@@ -109,7 +109,7 @@ fn run_text<R: Threads + Sync, W: Out>(
     match run_scripts(rt, alloc, &schedule, turns) {
         Ok(run) => write_run(alloc, &schedule, run, out),
         Err(RunError::Memory) => Err(ProgramError::Memory),
-        Err(RunError::Unfit(..)) => Err(ProgramError::Usage),
+        Err(RunError::InvalidInput(..)) => Err(ProgramError::Usage),
     }
 }
 
@@ -117,8 +117,8 @@ fn run_text<R: Threads + Sync, W: Out>(
 /// its own, for so many turns at most. It writes what that came to to `out`, or the line of a refusal to `err`, and
 /// answers the exit status: 0, 1 where there are races, or 2 after a refusal.
 ///
-/// G1: the turns are none or more than [`instances::MAX_TURNS`], and the text is a schedule. Nothing is written to `out`
-/// before a refusal, but where writing to it failed (F24). A failed write to `err` changes nothing.
+/// G1: the turns are none or more than [`instances::MAX_TURNS`], and the text is a schedule. Nothing is written to
+/// `out` before a refusal, but where writing to it failed (F24). A failed write to `err` changes nothing.
 pub fn perform_on_threads<R: Threads + Sync, W: Out, V: Out>(
     rt: &R,
     alloc: Global,
@@ -127,7 +127,7 @@ pub fn perform_on_threads<R: Threads + Sync, W: Out, V: Out>(
     out: &mut W,
     err: &mut V,
 ) -> u8
-    ensures { Answers (DoesOnThreads W.sink out.old out.new turns text.now) task_said V.sink err.old err.new result }
+    ensures { Answers (DoesOnThreads W.sink out.old out.new turns text.now) task_exit V.sink err.old err.new result }
 {
     answered(&run_text(rt, alloc, turns, text, out), err)
 }

@@ -1,6 +1,6 @@
 //! What the program does with the bytes of a file.
 ghost use Rattle.cmd_base.specs.Answers.{Answers};
-ghost use Rattle.cmd_run.specs.Tasks.{Does, task_said};
+ghost use Rattle.cmd_run.specs.Tasks.{Does, task_exit};
 
 use crate::checking::check;
 use crate::replaying::{replay_drawn, replay_text};
@@ -45,7 +45,7 @@ pub fn perform<W: Out, V: Out>(
     out: &mut W,
     err: &mut V,
 ) -> u8
-    ensures { Answers (Does W.sink out.old out.new task.now text.now) task_said V.sink err.old err.new result }
+    ensures { Answers (Does W.sink out.old out.new task.now text.now) task_exit V.sink err.old err.new result }
 {
     answered(&do_task(alloc, task, text, out), err)
 }

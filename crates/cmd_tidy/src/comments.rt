@@ -1,7 +1,7 @@
 //! What is told of comments that are left out.
 ghost use Rattle.std.specs.Prelude.{◌≡◌, ◌∷◌, length};
 ghost use Rattle.texts.specs.Writing.{Wrote, Adds};
-ghost use Rattle.cmd_tidy.specs.Tidying.{one_text, several_text, comments_said};
+ghost use Rattle.cmd_tidy.specs.Tidying.{one_text, several_text, comments_exit};
 
 use cmd_base::Answer;
 use texts::pieces::{Piece, add_pieces};
@@ -68,13 +68,13 @@ fn write_several<V: Out>(count: u64, line: u64, err: &mut V) -> Result<(), Write
 
 /// How many are left out is told with the line of the first.
 impl Answer for Comments {
-    ghost said = { comments_said };
+    ghost exit = { comments_exit };
 
     fn status(&self) -> u8 {
         0
     }
 
-    fn tell<V: Out>(&self, err: &mut V) {
+    fn print_diagnostics<V: Out>(&self, err: &mut V) {
         match self.lines.as_slice() {
             [] => {}
             [line] => {

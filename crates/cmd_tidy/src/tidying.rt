@@ -2,7 +2,7 @@
 ghost use Rattle.std.specs.Prelude.{◌≡◌};
 ghost use Rattle.cmd_base.specs.Answers.{Answers};
 ghost use Rattle.texts.specs.Writing.{Wrote};
-ghost use Rattle.cmd_tidy.specs.Tidying.{typed_line, typed_fault, tidy_said, Tidies};
+ghost use Rattle.cmd_tidy.specs.Tidying.{typed_line, typed_fault, tidy_exit, Tidies};
 
 use crate::comments::Comments;
 use crate::exact::exact_text;
@@ -68,7 +68,7 @@ fn write_exact<W: Out>(alloc: Global, typed: &[u8], out: &mut W) -> Result<Comme
 /// the exit status: 0 where it was written, 2 after a refusal. Nothing is written to `out` before a refusal, but where
 /// writing to it failed (F24). A failed write to `err` changes nothing.
 pub fn tidy<W: Out, V: Out>(alloc: Global, typed: &[u8], out: &mut W, err: &mut V) -> u8
-    ensures { Answers (Tidies W.sink out.old out.new typed.now) tidy_said V.sink err.old err.new result }
+    ensures { Answers (Tidies W.sink out.old out.new typed.now) tidy_exit V.sink err.old err.new result }
 {
     answered(&write_exact(alloc, typed, out), err)
 }

@@ -45,13 +45,13 @@ clock_text v stamped = spelled words.ClockStart ++ (entry_text v stamped.clock s
     ++ (flat_map (other_entry v stamped) v.lines ++ spelled words.ClockEnd))
 
 -- the earlier events that a receive may come before
-unfoldable pub races_said : ExportView → ReportView → ℕ → List ℕ
-races_said v report events = spelled words.Comma ++ (spelled words.MayComeBefore ++ (amount events
+unfoldable pub races_text : ExportView → ReportView → ℕ → List ℕ
+races_text v report events = spelled words.Comma ++ (spelled words.MayComeBefore ++ (amount events
     ++ ranges_named v (ranges_of report.earlier)))
 
 abbrev pub races_of : ExportView → Option ReportView → List ℕ
 races_of v None = []
-races_of v (Some report) = races_said v report (counted report)
+races_of v (Some report) = races_text v report (counted report)
 
 -- out MESSAGE to NAME, or in MESSAGE from NAME
 unfoldable pub sent_text : ExportView → ℕ → List ℕ → List ℕ

@@ -16,7 +16,6 @@
 #![tactic(auto)]
 
 mod clocks;
-mod drawn;
 mod earlier;
 mod export;
 mod log;
@@ -24,13 +23,14 @@ mod log_text;
 mod part;
 mod preparing;
 mod saying;
+mod source;
 mod spelling;
 mod word;
 mod writing;
 
-pub use drawn::Drawn;
 pub use export::Export;
 pub use log::Log;
 pub use log_text::write_log;
 pub use saying::has_parted;
+pub use source::ExportSource;
 pub use writing::write_export;

@@ -4,7 +4,7 @@ ghost use Rattle.std.specs.List.{flat_map};
 ghost use Rattle.texts.specs.Writing.{Wrote, Adds};
 ghost use Rattle.diagram_export.specs.ExportText.{counted};
 ghost use Rattle.diagram_export.specs.LogText.{log_start, entry_in, entry_text, next_entry, other_entry, clock_text};
-ghost use Rattle.diagram_export.specs.LogText.{races_said, races_of, sent_text, in_text, received_text, event_text, log_line, log_text};
+ghost use Rattle.diagram_export.specs.LogText.{races_text, races_of, sent_text, in_text, received_text, event_text, log_line, log_text};
 
 use crate::earlier::add_ranges;
 use crate::export::Export;
@@ -110,14 +110,14 @@ fn add_clock<W: Out>(
 }
 
 /// Adds the earlier events that a receive may come before.
-#[tactic(auto, using(texts::proofs::Writes::joining), unfolding(crate::specs::LogText::races_said))]
-fn add_races_said<W: Out>(
+#[tactic(auto, using(texts::proofs::Writes::joining), unfolding(crate::specs::LogText::races_text))]
+fn add_races_text<W: Out>(
     text: &mut TextBuffer<'_, W>,
     export: &Export<'_>,
     report: &Report,
 ) -> Result<(), WriteError>
     ensures { Adds W.sink text.old text.new result
-        (races_said export.now report.now (counted report.now)) }
+        (races_text export.now report.now (counted report.now)) }
 {
     let earlier = report.earlier();
     text.add(Word::Comma.as_bytes())?;
@@ -136,7 +136,7 @@ fn add_races_of<W: Out>(
         (races_of export.now (option_map (λ r. r.now) report.entry)) }
 {
     match report {
-        Some(report) => add_races_said(text, export, report),
+        Some(report) => add_races_text(text, export, report),
         None => text.add(b""),
     }
 }

@@ -2,8 +2,8 @@
 ghost use Rattle.std.specs.Prelude.{◌≡◌, length, replicate, None, Some, slice_set, IfOk};
 ghost use Rattle.diagram_export.specs.Preparing.{put_in, put_report, notes_of, height, below, starts_from, IsExportOf};
 
-use crate::drawn::Drawn;
 use crate::export::Export;
+use crate::source::ExportSource;
 use chart::Report;
 use chart_layout::Layout;
 use diagram_tool::Tool;
@@ -72,20 +72,20 @@ impl<'a> Export<'a> {
     /// The export of a chart to a tool.
     ///
     /// F6: it fails only where there is no memory.
-    pub fn of(alloc: Global, tool: Tool, drawn: Drawn<'a>) -> Result<Export<'a>, AllocError>
-        ensures { IfOk result (IsExportOf tool drawn.entry.names.now drawn.entry.closure.now
-            drawn.entry.layout.now drawn.entry.reports.now drawn.entry.ends.now) }
+    pub fn of(alloc: Global, tool: Tool, source: ExportSource<'a>) -> Result<Export<'a>, AllocError>
+        ensures { IfOk result (IsExportOf tool source.entry.names.now source.entry.closure.now
+            source.entry.layout.now source.entry.reports.now source.entry.ends.now) }
     {
-        prove!(drawn.closure.len() >= 2);
-        let notes = notes_of(alloc, drawn.layout, drawn.reports)?;
+        prove!(source.closure.len() >= 2);
+        let notes = notes_of(alloc, source.layout, source.reports)?;
         let starts = starts_of(alloc, notes.as_slice())?;
         Ok(Export {
             tool,
-            names: drawn.names,
-            lines: drawn.closure.lines(),
-            reports: drawn.reports,
-            layout: drawn.layout,
-            ends: drawn.ends,
+            names: source.names,
+            lines: source.closure.lines(),
+            reports: source.reports,
+            layout: source.layout,
+            ends: source.ends,
             notes,
             starts,
         })

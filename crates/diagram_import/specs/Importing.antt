@@ -6,7 +6,7 @@ use Rattle.diagrams.specs.Places.{earlier}
 use Rattle.diagrams.specs.declared.left_out.LeftOut.{LeftOut}
 use Rattle.diagrams.specs.declared.place.Place.{Place}
 use Rattle.diagrams.specs.Drawing.{◌>>=◌}
-use Rattle.diagram_join.specs.Drawing.{JoinedDrawnView, drawn_joined}
+use Rattle.diagram_join.specs.Drawing.{JoinedChartView, built_joined}
 use Rattle.diagram_join.specs.Joins.{JoinView, join_view}
 use Rattle.diagram_join.specs.declared.moves.Overtaking.{Overtaking}
 use Rattle.diagram_tool.specs.declared.Tool.{Tool}
@@ -45,24 +45,24 @@ first_overtaking so_far [] = so_far
 first_overtaking so_far (o ∷ overtaking) = first_overtaking (with_place so_far o.place) overtaking
 
 -- where nothing may be left out, the first thing that is decides
-abbrev pub strictly_at : List ℕ → JoinedDrawnView → Option Place → Result JoinedDrawnView Refusal
+abbrev pub strictly_at : List ℕ → JoinedChartView → Option Place → Result JoinedChartView Refusal
 strictly_at text d None = Ok d
 strictly_at text d (Some place) = Err (NotRead place (words_at text place))
 
-unfoldable pub strictly : Bool → List ℕ → JoinedDrawnView → Result JoinedDrawnView Refusal
-strictly true text d = strictly_at text d (first_overtaking (first_place None d.drawn.left_out) d.overtaking)
+unfoldable pub strictly : Bool → List ℕ → JoinedChartView → Result JoinedChartView Refusal
+strictly true text d = strictly_at text d (first_overtaking (first_place None d.built.left_out) d.overtaking)
 strictly false text d = Ok d
 
 -- a text without skipped lines and without a byte order mark
-unfoldable pub imported_from : Option Tool → List JoinView → Bool → List ℕ → Result JoinedDrawnView Refusal
+unfoldable pub imported_from : Option Tool → List JoinView → Bool → List ℕ → Result JoinedChartView Refusal
 imported_from tool joins is_strict text = do
   own ← tool_in tool text
   diagram ← diagram_in own text
-  chart ← refused_as NoChart (drawn_joined diagram joins)
+  chart ← refused_as NoChart (built_joined diagram joins)
   strictly is_strict text chart
 
 -- what a text is imported as
-unfoldable pub imported : Option Tool → List ℕ → OptionsView → Result JoinedDrawnView Refusal
+unfoldable pub imported : Option Tool → List ℕ → OptionsView → Result JoinedChartView Refusal
 imported tool text options =
     if is_beyond options.skipped (lines_from 0 false text) then Err Usage
     else imported_from tool options.joins options.is_strict (behind_mark (blanked_from options.skipped 1 text))

@@ -14,9 +14,9 @@ use Rattle.diagram_plantuml.specs.Diagrams as plantuml
 use Rattle.diagram_mscgen.specs.Reading.Reading as mscgen
 use Rattle.diagram_mscgen.specs.declared.reading.error.Fault.{Fault as MscgenFault}
 use Rattle.diagram_mscgen.specs.declared.reading.error.Fault.TheVariants as mscgen_faults
-use Rattle.diagram_tool.specs.Detection.Telling.{told_tool}
-use Rattle.diagram_tool.specs.declared.detection.telling.Untold.{Untold}
-use Rattle.diagram_tool.specs.declared.detection.telling.Untold.TheVariants as untold
+use Rattle.diagram_tool.specs.Detection.Detection.{detected_tool}
+use Rattle.diagram_tool.specs.declared.detection.detection.ToolError.{ToolError}
+use Rattle.diagram_tool.specs.declared.detection.detection.ToolError.TheVariants as no_tool
 use Rattle.diagram_tool.specs.declared.Tool.{Tool}
 use Rattle.diagram_tool.specs.declared.Tool.TheVariants.{Mscgen, PlantUml, Mermaid}
 use Rattle.diagram_import.specs.Refusals.{Refusal, NotRead, Unfinished, UnknownInstance, NoChart}
@@ -39,9 +39,9 @@ of_lines text (faults.NotRead place) = not_read text place.line place.column
 of_lines text faults.Unfinished = Unfinished
 
 -- the refusal of a text that tells no tool
-abbrev pub of_untold : List ℕ → Untold → Refusal
-of_untold text (untold.NotRead place) = not_read text place.line place.column
-of_untold text untold.Unfinished = Unfinished
+abbrev pub of_no_tool : List ℕ → ToolError → Refusal
+of_no_tool text (no_tool.NotRead place) = not_read text place.line place.column
+of_no_tool text no_tool.Unfinished = Unfinished
 
 abbrev pub refused_as : {A E : Type 0} → (E → Refusal) → Result A E → Result A Refusal
 refused_as refusal (Ok x) = Ok x
@@ -50,7 +50,7 @@ refused_as refusal (Err e) = Err (refusal e)
 -- the tool of a text: the one that was named, or that the text tells
 unfoldable pub tool_in : Option Tool → List ℕ → Result Tool Refusal
 tool_in (Some tool) text = Ok tool
-tool_in None text = refused_as (of_untold text) (told_tool text)
+tool_in None text = refused_as (of_no_tool text) (detected_tool text)
 
 -- the diagram of what is read of a text of lines
 abbrev pub lines_in : Breaks → List ℕ → ReadView → Result DiagramView Refusal

@@ -1,7 +1,7 @@
 //! Texts, read whole.
 ghost use Rattle.std.specs.Prelude.{◌≡◌, None, length, map, IfOk};
 ghost use Rattle.chart.specs.Charts.{chart_lines, IsPossible};
-ghost use Rattle.diagram_join.specs.Drawing.{joined_drawn_view};
+ghost use Rattle.diagram_join.specs.Drawing.{joined_chart_view};
 ghost use Rattle.diagram_join.specs.Joins.{join_view};
 ghost use Rattle.diagram_import.specs.Refusals.{Gives};
 ghost use Rattle.diagram_import.specs.Importing.{options_view, behind_mark, with_place, first_place, first_overtaking, strictly, imported_from, imported};
@@ -10,7 +10,7 @@ use crate::error::ImportError;
 use crate::places::words_at;
 use crate::reading::{diagram_in, tool_in};
 use crate::skipping::{Skip, blanked, count_of_lines, is_beyond};
-use diagram_join::{Join, JoinError, JoinedDrawn, Overtaking, draw_joined};
+use diagram_join::{Join, JoinError, JoinedChart, Overtaking, draw_joined};
 use diagram_tool::Tool;
 use diagrams::{LeftOut, Place};
 use std::alloc::Global;
@@ -82,16 +82,16 @@ fn strictly(
     alloc: Global,
     is_strict: bool,
     text: &[u8],
-    drawn: JoinedDrawn,
-) -> Result<JoinedDrawn, ImportError>
-    ensures reads { Gives joined_drawn_view result (strictly is_strict text.now (joined_drawn_view drawn)) }
-    ensures same { IfOk result (λ d. d ≡ drawn) }
+    built: JoinedChart,
+) -> Result<JoinedChart, ImportError>
+    ensures reads { Gives joined_chart_view result (strictly is_strict text.now (joined_chart_view built)) }
+    ensures same { IfOk result (λ d. d ≡ built) }
 {
     if !is_strict {
-        return Ok(drawn);
+        return Ok(built);
     }
-    match first_overtaking(first_place(&drawn.drawn.left_out), &drawn.overtaking) {
-        None => Ok(drawn),
+    match first_overtaking(first_place(&built.built.left_out), &built.overtaking) {
+        None => Ok(built),
         Some(place) => {
             let words = words_at(alloc, text, place)?;
             Err(ImportError::NotRead(place, words))
@@ -107,15 +107,15 @@ fn imported_from(
     joins: &[Join<'_>],
     is_strict: bool,
     text: &[u8],
-) -> Result<JoinedDrawn, ImportError>
-    ensures reads { Gives joined_drawn_view result (imported_from tool (map join_view joins.now) is_strict text.now) }
-    ensures named { IfOk result (λ d. length d.drawn.names ≡ length d.drawn.chart) }
-    ensures possible { IfOk result (λ d. IsPossible (length d.drawn.chart) (chart_lines d.drawn.chart)) }
+) -> Result<JoinedChart, ImportError>
+    ensures reads { Gives joined_chart_view result (imported_from tool (map join_view joins.now) is_strict text.now) }
+    ensures named { IfOk result (λ d. length d.built.names ≡ length d.built.chart) }
+    ensures possible { IfOk result (λ d. IsPossible (length d.built.chart) (chart_lines d.built.chart)) }
 {
     let tool = tool_in(alloc, tool, text)?;
     let diagram = diagram_in(alloc, tool, text)?;
     match draw_joined(alloc, diagram, joins) {
-        Ok(drawn) => strictly(alloc, is_strict, text, drawn),
+        Ok(built) => strictly(alloc, is_strict, text, built),
         Err(JoinError::Memory) => Err(ImportError::Memory),
         Err(error) => Err(ImportError::NoChart(error)),
     }
@@ -126,18 +126,18 @@ fn imported_from(
 ///
 /// The tool is the one that is named, or that the text tells. G1 refuses lines to be skipped that aren't there. Then
 /// F35 and F21 refuse what can't be read, F23 an arc of mscgen with an entity that there isn't, and F8, F34, F22, F37
-/// and F7 a diagram without a chart. Where nothing may be left out, F35 refuses the first thing that would be. F6 may come at
-/// any point.
+/// and F7 a diagram without a chart. Where nothing may be left out, F35 refuses the first thing that would be. F6 may
+/// come at any point.
 #[tactic(auto, unfolding(crate::specs::Importing::imported))]
 pub fn import_text(
     alloc: Global,
     tool: Option<Tool>,
     text: &[u8],
     options: Options<'_>,
-) -> Result<JoinedDrawn, ImportError>
-    ensures reads { Gives joined_drawn_view result (imported tool text.now (options_view options.entry)) }
-    ensures named { IfOk result (λ d. length d.drawn.names ≡ length d.drawn.chart) }
-    ensures possible { IfOk result (λ d. IsPossible (length d.drawn.chart) (chart_lines d.drawn.chart)) }
+) -> Result<JoinedChart, ImportError>
+    ensures reads { Gives joined_chart_view result (imported tool text.now (options_view options.entry)) }
+    ensures named { IfOk result (λ d. length d.built.names ≡ length d.built.chart) }
+    ensures possible { IfOk result (λ d. IsPossible (length d.built.chart) (chart_lines d.built.chart)) }
 {
     let count = count_of_lines(text)?;
     if is_beyond(options.skipped, count) {

@@ -21,8 +21,8 @@ fn diagram_from(alloc: Global, tool: Option<Tool>, text: &[u8]) -> Result<Diagra
     diagram_in(alloc, tool, text)
 }
 
-/// The diagram that a text says which was drawn for another tool, or the first of its refusals. It takes time and memory
-/// in proportion to the text.
+/// The diagram that a text says which was drawn for another tool, or the first of its refusals. It takes time and
+/// memory in proportion to the text.
 ///
 /// The tool is the one that is named, or that the text tells. G1 refuses lines to be skipped that aren't there. Then
 /// F35 and F21 refuse what can't be read, and F23 an arc of mscgen with an entity that there isn't. F6 may come at any

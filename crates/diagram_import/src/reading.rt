@@ -14,7 +14,7 @@ use diagram_join::JoinError;
 use diagram_statements::to_diagram::Breaks;
 use diagram_statements::{ReadError, ReadText};
 use diagram_tool::Tool;
-use diagram_tool::detection::{Untold, told_tool};
+use diagram_tool::detection::{ToolError, detected_tool};
 use diagrams::{Diagram, Place};
 use std::alloc::Global;
 
@@ -69,10 +69,10 @@ pub(crate) fn tool_in(alloc: Global, tool: Option<Tool>, text: &[u8]) -> Result<
     if let Some(tool) = tool {
         return Ok(tool);
     }
-    match told_tool(text) {
+    match detected_tool(text) {
         Ok(tool) => Ok(tool),
-        Err(Untold::NotRead(place)) => Err(not_read(alloc, text, place.line, place.column)),
-        Err(Untold::Unfinished) => Err(ImportError::Unfinished),
+        Err(ToolError::NotRead(place)) => Err(not_read(alloc, text, place.line, place.column)),
+        Err(ToolError::Unfinished) => Err(ImportError::Unfinished),
     }
 }
 

@@ -9,7 +9,7 @@ use Rattle.std.proofs.lemmas.Nat.{mul-le, mul-add-lt}
 use Rattle.chart.specs.declared.line.TheConstants.{MAX_EVENTS}
 use Rattle.diagram_labels.specs.Labels.{Labelling, with_label, name_of}
 use Rattle.diagrams.specs.Messages.Each.{Each, Pairs}
-use Rattle.diagrams.specs.Messages.Following.{Follows, IsMessage, AreDrawn}
+use Rattle.diagrams.specs.Messages.Following.{Follows, IsMessage, AreBuildable}
 use Rattle.diagrams.specs.Messages.Turns.{send_end, receive_end, all_ends, own_ends}
 use Rattle.diagrams.specs.declared.messages.end.End.{End}
 use Rattle.diagrams.specs.declared.messages.message.Named.{Named}
@@ -213,8 +213,8 @@ pairs_cut pre (m ∷ rest) all i is at_i pairs = (
 )
 
 -- a chart can be drawn of messages in rows that are cut where one can be drawn of them
-pub drawn_cut : (n : ℕ) (labels : Labelling) (items : List ItemView) (messages : List Message) → AreDrawn n (named_from labels items messages) → AreDrawn n (named_from labels items (cut_from messages 0 messages))
-drawn_cut n labels items messages are = record {
+pub built_cut : (n : ℕ) (labels : Labelling) (items : List ItemView) (messages : List Message) → AreBuildable n (named_from labels items messages) → AreBuildable n (named_from labels items (cut_from messages 0 messages))
+built_cut n labels items messages are = record {
   each = each_cut items n labels labels messages 0 messages are.each;
   follow = pairs_forth items labels (cut_from messages 0 messages) (pairs_cut [] messages messages 0 refl refl (pairs_back items labels messages are.follow));
   room = λ p. omega (arith, are.room p, same_room items labels labels messages 0 messages p);

@@ -7,31 +7,31 @@ use Rattle.diagrams.specs.Messages.Turns.{all_ends}
 use Rattle.diagrams.proofs.MessagesLemmas.LinesLemmas.{length-lines}
 use Rattle.diagrams.specs.Collecting.{CollectedView, collected}
 use Rattle.diagrams.specs.Diagrams.{ParticipantView, ItemView, DiagramView, participant_view}
-use Rattle.diagrams.specs.Drawing.{◌>>=◌, has_no_chart, drawn}
+use Rattle.diagrams.specs.Drawing.{◌>>=◌, has_no_chart, built}
 use Rattle.diagram_labels.specs.Renaming.{renamed_from}
 use Rattle.diagrams.specs.Naming.{names_from, labels_from, named_from}
 use Rattle.diagrams.specs.declared.diagram.Participant.{Participant}
-use Rattle.diagrams.proofs.DrawnLemmas.{labels_seen}
+use Rattle.diagrams.proofs.ChartBuildLemmas.{labels_seen}
 use Rattle.diagram_join.specs.Coregions.{cut_from}
-use Rattle.diagram_join.specs.Drawing.{JoinedDrawnView, alone, checked, joined_drawn_of, joined_by, lines_joined, drawn_joined}
+use Rattle.diagram_join.specs.Drawing.{JoinedChartView, alone, checked, joined_chart_of, joined_by, lines_joined, built_joined}
 use Rattle.diagram_join.specs.Joined.{JoinedView, joined, Fails}
 use Rattle.diagram_join.specs.Joins.{JoinView}
 use Rattle.diagram_join.specs.declared.error.JoinError.{JoinError}
 use Rattle.diagram_join.specs.declared.error.JoinError.TheVariants.{Memory, NoSuchLine, Taken, Instances, NotPossible, LineFull}
 
 -- a chart and what is told, of their parts
-pub drawn_parts : (participants : List Participant) (items : List ItemView) (lines : List (List ℕ)) (j : JoinedView) (chart : List LineView) (told : List (List ℕ × List ℕ))
+pub built_parts : (participants : List Participant) (items : List ItemView) (lines : List (List ℕ)) (j : JoinedView) (chart : List LineView) (overtakings : List (List ℕ × List ℕ))
     → chart ≡ lines_from (all_ends (named_from none items (cut_from j.messages 0 j.messages))) 1 (length j.names)
-    → told ≡ renamed_from (renamed_from [] (map (λ (p : Participant). p.label.items) participants) lines)
+    → overtakings ≡ renamed_from (renamed_from [] (map (λ (p : Participant). p.label.items) participants) lines)
     (labels_from none items (cut_from j.messages 0 j.messages)).labels (labels_from none items (cut_from j.messages 0 j.messages)).names
-    → record { drawn = record { names = j.names; lines = chart; left_out = j.left_out; renamed = told }; overtaking = j.overtaking } ≡ joined_drawn_of (map participant_view participants) items lines j
-unfolding joined_drawn_of
-drawn_parts participants items lines j chart told e f = rw (e, f, labels_seen participants) refl
+    → record { built = record { names = j.names; lines = chart; left_out = j.left_out; renamed = overtakings }; overtaking = j.overtaking } ≡ joined_chart_of (map participant_view participants) items lines j
+unfolding joined_chart_of
+built_parts participants items lines j chart overtakings e f = rw (e, f, labels_seen participants) refl
 
 -- each line has a name
-pub as_many_names : (v : JoinedDrawnView) (participants : List ParticipantView) (items : List ItemView) (lines : List (List ℕ)) (j : JoinedView)
-    → v ≡ joined_drawn_of participants items lines j → length v.drawn.names ≡ length v.drawn.lines
-unfolding joined_drawn_of
+pub as_many_names : (v : JoinedChartView) (participants : List ParticipantView) (items : List ItemView) (lines : List (List ℕ)) (j : JoinedView)
+    → v ≡ joined_chart_of participants items lines j → length v.built.names ≡ length v.built.lines
+unfolding joined_chart_of
 as_many_names v participants items lines j is = rw is (sym (length-lines (all_ends (named_from none items (cut_from j.messages 0 j.messages))) 1 (length j.names)))
 
 -- a step that failed decides
@@ -47,7 +47,7 @@ fails_first (LineFull line) r f h = ap (λ s. s >>= f) h
 pub draw_steps : (d : DiagramView) (joins : List JoinView) (lines : List (List ℕ)) (c : CollectedView) (j : JoinedView)
     → has_no_chart (length d.participants) ≡ false → lines ≡ names_from [] d.participants → c ≡ collected lines d.items d.left_out
     → joined d.participants lines joins c.messages c.left_out ≡ Ok j → checked c.fault c.messages j ≡ Ok j
-    → lines_joined d joins ≡ Ok (joined_drawn_of d.participants d.items lines j)
+    → lines_joined d joins ≡ Ok (joined_chart_of d.participants d.items lines j)
 unfolding lines_joined joined_by
 draw_steps d joins lines c j several e f g h = rw (several, sym e, sym f, g, h) refl
 
@@ -64,12 +64,12 @@ unfolding lines_joined joined_by
 check_refused error d joins lines c j several e f g h = rw (several, sym e, sym f, g) (fails_first error (checked c.fault c.messages j) _ h)
 
 -- with or without joins
-pub without_joins : {A : Type 0} (f : A → JoinView) (d : DiagramView) (joins : List A) → length joins < 1 → drawn_joined d (map f joins) ≡ alone (drawn d)
-unfolding drawn_joined
+pub without_joins : {A : Type 0} (f : A → JoinView) (d : DiagramView) (joins : List A) → length joins < 1 → built_joined d (map f joins) ≡ alone (built d)
+unfolding built_joined
 without_joins f d [] few = refl
 without_joins f d (j ∷ joins) few = absurd (omega (arith, few))
 
-pub with_joins : {A : Type 0} (f : A → JoinView) (d : DiagramView) (joins : List A) → 1 ≤ length joins → drawn_joined d (map f joins) ≡ lines_joined d (map f joins)
-unfolding drawn_joined
+pub with_joins : {A : Type 0} (f : A → JoinView) (d : DiagramView) (joins : List A) → 1 ≤ length joins → built_joined d (map f joins) ≡ lines_joined d (map f joins)
+unfolding built_joined
 with_joins f d [] some = absurd (omega (arith, some))
 with_joins f d (j ∷ joins) some = refl

@@ -6,27 +6,27 @@ use Rattle.diagrams.specs.Messages.Turns.{all_ends}
 use Rattle.diagrams.specs.Collecting.{CollectedView, collected}
 use Rattle.diagrams.specs.Crossing.{fault_from}
 use Rattle.diagrams.specs.Diagrams.{ParticipantView, ItemView, DiagramView}
-use Rattle.diagrams.specs.Drawing.{◌>>=◌, DrawnView, drawn_view, renamed, has_no_chart, drawn}
+use Rattle.diagrams.specs.Drawing.{◌>>=◌, DiagramChartView, diagram_chart_view, renamed, has_no_chart, built}
 use Rattle.diagrams.specs.Full.{full_from}
 use Rattle.diagrams.specs.Naming.{names_from, labels_from, named_from}
-use Rattle.diagrams.specs.declared.drawn.DrawError.{DrawError}
-use Rattle.diagrams.specs.declared.drawn.DrawError.TheVariants as draw
+use Rattle.diagrams.specs.declared.built.DrawError.{DrawError}
+use Rattle.diagrams.specs.declared.built.DrawError.TheVariants as draw
 use Rattle.diagrams.specs.declared.message.Message.{Message}
 use Rattle.diagram_join.specs.Coregions.{cut_from}
 use Rattle.diagram_join.specs.Joined.{JoinedView, joined}
 use Rattle.diagram_join.specs.Joins.{JoinView}
-use Rattle.diagram_join.specs.declared.drawing.JoinedDrawn.{JoinedDrawn}
+use Rattle.diagram_join.specs.declared.drawing.JoinedChart.{JoinedChart}
 use Rattle.diagram_join.specs.declared.error.JoinError.{JoinError}
 use Rattle.diagram_join.specs.declared.error.JoinError.TheVariants.{Memory, Instances, NotPossible, LineFull}
 use Rattle.diagram_join.specs.declared.moves.Overtaking.{Overtaking}
 
 -- what was drawn, and the messages that are left out since they overtake another one
-pub record JoinedDrawnView : Type 0 where
-  pub drawn : DrawnView
+pub record JoinedChartView : Type 0 where
+  pub built : DiagramChartView
   pub overtaking : List Overtaking
 
-abbrev pub joined_drawn_view : JoinedDrawn → JoinedDrawnView
-joined_drawn_view d = record { drawn = drawn_view d.drawn; overtaking = d.overtaking.items }
+abbrev pub joined_chart_view : JoinedChart → JoinedChartView
+joined_chart_view d = record { built = diagram_chart_view d.built; overtaking = d.overtaking.items }
 
 -- the same refusal, of a diagram whose lines may be joined
 abbrev pub join_error : DrawError → JoinError
@@ -36,8 +36,8 @@ join_error (draw.LineFull line) = LineFull line
 join_error (draw.NotPossible line) = NotPossible line
 
 -- where no lines are joined, nothing overtakes
-abbrev pub alone : Result DrawnView DrawError → Result JoinedDrawnView JoinError
-alone (Ok v) = Ok (record { drawn = v; overtaking = [] })
+abbrev pub alone : Result DiagramChartView DrawError → Result JoinedChartView JoinError
+alone (Ok v) = Ok (record { built = v; overtaking = [] })
 alone (Err e) = Err (join_error e)
 
 -- x, unless a line of the text is refused
@@ -55,9 +55,9 @@ checked fault messages j = do
 
 -- The chart of the messages that stay, between the instances, each row cut into as many as there are messages; the names
 -- that are told are those of the lines and of the messages.
-unfoldable pub joined_drawn_of : List ParticipantView → List ItemView → List (List ℕ) → JoinedView → JoinedDrawnView
-joined_drawn_of participants items lines j = record {
-  drawn = record {
+unfoldable pub joined_chart_of : List ParticipantView → List ItemView → List (List ℕ) → JoinedView → JoinedChartView
+joined_chart_of participants items lines j = record {
+  built = record {
     names = j.names;
     lines = lines_from (all_ends (named_from none items (cut_from j.messages 0 j.messages))) 1 (length j.names);
     left_out = j.left_out;
@@ -67,20 +67,20 @@ joined_drawn_of participants items lines j = record {
 }
 
 -- where the lines have these names, and the items come to this
-unfoldable pub joined_by : DiagramView → List JoinView → List (List ℕ) → CollectedView → Result JoinedDrawnView JoinError
+unfoldable pub joined_by : DiagramView → List JoinView → List (List ℕ) → CollectedView → Result JoinedChartView JoinError
 joined_by d joins lines c = do
   j ← joined d.participants lines joins c.messages c.left_out
   all ← checked c.fault c.messages j
-  Ok (joined_drawn_of d.participants d.items lines all)
+  Ok (joined_chart_of d.participants d.items lines all)
 
-abbrev pub joined_named : DiagramView → List JoinView → List (List ℕ) → Result JoinedDrawnView JoinError
+abbrev pub joined_named : DiagramView → List JoinView → List (List ℕ) → Result JoinedChartView JoinError
 joined_named d joins lines = joined_by d joins lines (collected lines d.items d.left_out)
 
 -- the chart of a diagram with these lines joined, or its refusal
-unfoldable pub lines_joined : DiagramView → List JoinView → Result JoinedDrawnView JoinError
+unfoldable pub lines_joined : DiagramView → List JoinView → Result JoinedChartView JoinError
 lines_joined d joins = if has_no_chart (length d.participants) then Err Instances else joined_named d joins (names_from [] d.participants)
 
 -- where there are no joins, the diagram's own
-unfoldable pub drawn_joined : DiagramView → List JoinView → Result JoinedDrawnView JoinError
-drawn_joined d [] = alone (drawn d)
-drawn_joined d (j ∷ joins) = lines_joined d (j ∷ joins)
+unfoldable pub built_joined : DiagramView → List JoinView → Result JoinedChartView JoinError
+built_joined d [] = alone (built d)
+built_joined d (j ∷ joins) = lines_joined d (j ∷ joins)

@@ -46,13 +46,13 @@ unfoldable pub staying_from : List Message → List Message → List Message
 staying_from earlier [] = []
 staying_from earlier (m ∷ messages) = staying earlier m ++ staying_from (earlier ++ m ∷ []) messages
 
-abbrev pub told : Message → Option ℕ → List Overtaking
-told m None = []
-told m (Some line) = record { place = m.place; overtaken = line } ∷ []
+abbrev pub overtakings : Message → Option ℕ → List Overtaking
+overtakings m None = []
+overtakings m (Some line) = record { place = m.place; overtaken = line } ∷ []
 
 -- the message, with the line of the first one that it overtakes
 abbrev pub overtaking : List Message → Message → List Overtaking
-overtaking earlier m = if crosses earlier m then told m (overtaken_in earlier m) else []
+overtaking earlier m = if crosses earlier m then overtakings m (overtaken_in earlier m) else []
 
 -- those that overtake
 unfoldable pub overtaking_from : List Message → List Message → List Overtaking

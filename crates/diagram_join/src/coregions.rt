@@ -158,8 +158,8 @@ impl Coregions {
         Ok(coregions)
     }
 
-    /// The place of the row in which the message at a place is received, of the rows into which its row is cut: there are
-    /// as many as messages.
+    /// The place of the row in which the message at a place is received, of the rows into which its row is cut: there
+    /// are as many as messages.
     pub fn place_in(&self, count: usize, place: usize, message: &Message) -> usize
         ensures { (messages : List Message) → AreCoregions self.now.coregions.entries 0 messages → count ≡ length messages
             → result ≡ place_in messages place message.now }

@@ -2,14 +2,14 @@
 ghost use Rattle.std.specs.Prelude.{◌≡◌, ◌≤◌, length, map, IfOk};
 ghost use Rattle.chart.specs.Charts.{chart_lines, IsPossible};
 ghost use Rattle.diagrams.specs.Diagrams.{diagram_view, participant_view, item_view};
-ghost use Rattle.diagrams.specs.Drawing.{drawn};
+ghost use Rattle.diagrams.specs.Drawing.{built};
 ghost use Rattle.diagrams.specs.Naming.{named_from};
 ghost use Rattle.diagram_join.specs.Coregions.{cut_from};
-ghost use Rattle.diagram_join.specs.Drawing.{joined_drawn_view, alone, checked, joined_drawn_of, lines_joined, drawn_joined};
+ghost use Rattle.diagram_join.specs.Drawing.{joined_chart_view, alone, checked, joined_chart_of, lines_joined, built_joined};
 ghost use Rattle.diagram_join.specs.Joined.{Gives, joined_view};
 ghost use Rattle.diagram_join.specs.Joins.{join_view};
 ghost use Rattle.diagram_labels.specs.Labels.{none};
-ghost use Rattle.diagrams.specs.Messages.Following.{AreDrawn};
+ghost use Rattle.diagrams.specs.Messages.Following.{AreBuildable};
 
 use crate::error::{JoinError, join_error};
 use crate::join::Join;
@@ -20,28 +20,28 @@ use chart::Names;
 use diagram_labels::LabelNames;
 use diagrams::messages::chart_of;
 use diagrams::{
-    Diagram, Drawn, Item, Message, Participant, collect, draw, first_fault, first_full,
-    has_no_chart, name_messages, names_of, told_names,
+    Diagram, DiagramChart, Item, Message, Participant, collect, draw, first_fault, first_full,
+    has_no_chart, name_messages, names_of, renamed_labels,
 };
 use std::alloc::{AllocError, Global};
 
 /// A chart that was drawn for another tool, of which lines may be joined.
 #[derive(Debug, Drop)]
-pub struct JoinedDrawn {
-    pub drawn: Drawn,
+pub struct JoinedChart {
+    pub built: DiagramChart,
     /// Messages that are left out, since they overtake another one.
     pub overtaking: Vec<Overtaking>,
 }
 
 /// Without joins.
-fn draw_alone(alloc: Global, diagram: Diagram) -> Result<JoinedDrawn, JoinError>
-    ensures drawn { Gives joined_drawn_view result (alone (drawn (diagram_view diagram))) }
-    ensures possible { IfOk result (λ d. IsPossible (length d.drawn.chart) (chart_lines d.drawn.chart)) }
-    ensures named { IfOk result (λ d. length d.drawn.names ≡ length d.drawn.chart) }
+fn draw_alone(alloc: Global, diagram: Diagram) -> Result<JoinedChart, JoinError>
+    ensures built { Gives joined_chart_view result (alone (built (diagram_view diagram))) }
+    ensures possible { IfOk result (λ d. IsPossible (length d.built.chart) (chart_lines d.built.chart)) }
+    ensures named { IfOk result (λ d. length d.built.names ≡ length d.built.chart) }
 {
     match draw(alloc, diagram) {
-        Ok(drawn) => Ok(JoinedDrawn {
-            drawn,
+        Ok(built) => Ok(JoinedChart {
+            built,
             overtaking: Vec::new(alloc),
         }),
         Err(error) => Err(join_error(error)),
@@ -71,20 +71,20 @@ fn check(
 }
 
 /// The chart of the messages that stay, and what is told of names.
-#[tactic(auto, unfolding(crate::specs::Drawing::joined_drawn_of))]
-fn joined_drawn_of(
+#[tactic(auto, unfolding(crate::specs::Drawing::joined_chart_of))]
+fn joined_chart_of(
     alloc: Global,
     participants: &[Participant],
     items: &[Item],
     lines: &Names,
     joined: Joined,
-) -> Result<JoinedDrawn, AllocError>
+) -> Result<JoinedChart, AllocError>
     requires several { 2 ≤ length joined.names }
-    requires drawn { AreDrawn (length joined.names) (named_from none (map item_view items.now)
+    requires built { AreBuildable (length joined.names) (named_from none (map item_view items.now)
         (cut_from joined.messages.items 0 joined.messages.items)) }
-    ensures drawn { IfOk result (λ d. joined_drawn_view d ≡ joined_drawn_of (map participant_view participants.now)
+    ensures built { IfOk result (λ d. joined_chart_view d ≡ joined_chart_of (map participant_view participants.now)
         (map item_view items.now) lines.now (joined_view joined)) }
-    ensures possible { IfOk result (λ d. IsPossible (length d.drawn.chart) (chart_lines d.drawn.chart)) }
+    ensures possible { IfOk result (λ d. IsPossible (length d.built.chart) (chart_lines d.built.chart)) }
 {
     let Joined {
         names,
@@ -96,9 +96,9 @@ fn joined_drawn_of(
     let mut labels = LabelNames::new(alloc);
     let named = name_messages(alloc, items, &rows, &mut labels)?;
     let chart = chart_of(alloc, &named, names.len())?;
-    let renamed = told_names(alloc, participants, lines, &labels)?;
-    Ok(JoinedDrawn {
-        drawn: Drawn {
+    let renamed = renamed_labels(alloc, participants, lines, &labels)?;
+    Ok(JoinedChart {
+        built: DiagramChart {
             names,
             chart,
             left_out,
@@ -110,10 +110,10 @@ fn joined_drawn_of(
 
 /// With joins.
 #[tactic(auto, unfolding(crate::specs::Drawing::lines_joined, crate::specs::Drawing::joined_by))]
-fn draw_with(alloc: Global, diagram: Diagram, joins: &[Join<'_>]) -> Result<JoinedDrawn, JoinError>
-    ensures drawn { Gives joined_drawn_view result (lines_joined (diagram_view diagram) (map join_view joins.now)) }
-    ensures possible { IfOk result (λ d. IsPossible (length d.drawn.chart) (chart_lines d.drawn.chart)) }
-    ensures named { IfOk result (λ d. length d.drawn.names ≡ length d.drawn.chart) }
+fn draw_with(alloc: Global, diagram: Diagram, joins: &[Join<'_>]) -> Result<JoinedChart, JoinError>
+    ensures built { Gives joined_chart_view result (lines_joined (diagram_view diagram) (map join_view joins.now)) }
+    ensures possible { IfOk result (λ d. IsPossible (length d.built.chart) (chart_lines d.built.chart)) }
+    ensures named { IfOk result (λ d. length d.built.names ≡ length d.built.chart) }
 {
     let Diagram {
         participants,
@@ -127,25 +127,25 @@ fn draw_with(alloc: Global, diagram: Diagram, joins: &[Join<'_>]) -> Result<Join
     let (messages, left_out, fault) = collect(alloc, &lines, &items, left_out)?.into_parts();
     let joined = join_lines(alloc, &participants, &lines, joins, &messages, left_out)?;
     check(alloc, fault, &messages, &joined)?;
-    let drawn = joined_drawn_of(alloc, &participants, &items, &lines, joined)?;
-    Ok(drawn)
+    let built = joined_chart_of(alloc, &participants, &items, &lines, joined)?;
+    Ok(built)
 }
 
-/// The chart of a diagram whose lines are joined, or why it has none: without joins as [`draw`] has it, and else the first
-/// of F8, F34, F22, F37, F7 and again F8, of the instances, that applies. F6 may come at any point. It takes time in
-/// proportion to n log n for n items.
+/// The chart of a diagram whose lines are joined, or why it has none: without joins as [`draw`] has it, and else the
+/// first of F8, F34, F22, F37, F7 and again F8, of the instances, that applies. F6 may come at any point. It takes time
+/// in proportion to n log n for n items.
 ///
-/// The lines of a join are one instance, in the order of the rows. Messages within it are left out, and so are those that
-/// would overtake an earlier one of their lane, which is told of each. A coregion stays where nothing comes between its
-/// receives. No chart is drawn of a diagram that has none without joins because of messages that cross.
+/// The lines of a join are one instance, in the order of the rows. Messages within it are left out, and so are those
+/// that would overtake an earlier one of their lane, which is told of each. A coregion stays where nothing comes
+/// between its receives. No chart is drawn of a diagram that has none without joins because of messages that cross.
 pub fn draw_joined(
     alloc: Global,
     diagram: Diagram,
     joins: &[Join<'_>],
-) -> Result<JoinedDrawn, JoinError>
-    ensures drawn { Gives joined_drawn_view result (drawn_joined (diagram_view diagram) (map join_view joins.now)) }
-    ensures possible { IfOk result (λ d. IsPossible (length d.drawn.chart) (chart_lines d.drawn.chart)) }
-    ensures named { IfOk result (λ d. length d.drawn.names ≡ length d.drawn.chart) }
+) -> Result<JoinedChart, JoinError>
+    ensures built { Gives joined_chart_view result (built_joined (diagram_view diagram) (map join_view joins.now)) }
+    ensures possible { IfOk result (λ d. IsPossible (length d.built.chart) (chart_lines d.built.chart)) }
+    ensures named { IfOk result (λ d. length d.built.names ≡ length d.built.chart) }
 {
     match joins {
         [] => draw_alone(alloc, diagram),

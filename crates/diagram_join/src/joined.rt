@@ -48,7 +48,7 @@ fn joined_of(
         names,
         messages,
         left_out,
-        overtaking: passed.told,
+        overtaking: passed.overtakings,
     })
 }
 

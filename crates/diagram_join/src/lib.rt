@@ -17,7 +17,7 @@ mod moves;
 mod rows;
 pub mod turns;
 
-pub use drawing::{JoinedDrawn, draw_joined};
+pub use drawing::{JoinedChart, draw_joined};
 pub use error::JoinError;
 pub use join::Join;
 pub use joined::{Joined, join_lines};

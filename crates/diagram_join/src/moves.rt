@@ -122,12 +122,12 @@ fn pass(
     before: &[Message],
     message: &Message,
     stays: &mut Vec<Message>,
-    told: &mut Vec<Overtaking>,
+    overtakings: &mut Vec<Overtaking>,
 ) -> Result<(), AllocError>
     ensures stays { AreFurthest furthest.old before.now
         → IfOk result (λ _. stays.new.items ≡ stays.old.items ++ staying before.now message.now) }
-    ensures told { AreFurthest furthest.old before.now
-        → IfOk result (λ _. told.new.items ≡ told.old.items ++ overtaking before.now message.now) }
+    ensures overtakings { AreFurthest furthest.old before.now
+        → IfOk result (λ _. overtakings.new.items ≡ overtakings.old.items ++ overtaking before.now message.now) }
     ensures furthest { AreFurthest furthest.old before.now → AreFurthest furthest.new (before.now ++ message.now ∷ []) }
 {
     if !crosses(furthest, message) {
@@ -135,7 +135,7 @@ fn pass(
         return Ok(());
     }
     if let Some(overtaken) = overtaken_in(before, message) {
-        told.push(Overtaking {
+        overtakings.push(Overtaking {
             place: message.place,
             overtaken,
         })?;
@@ -147,25 +147,25 @@ fn pass(
 #[derive(Drop)]
 pub(crate) struct Passed {
     pub stays: Vec<Message>,
-    pub told: Vec<Overtaking>,
+    pub overtakings: Vec<Overtaking>,
 }
 
 /// The messages without those that overtake another one, and those.
 pub(crate) fn without_overtaking(alloc: Global, messages: &[Message]) -> Result<Passed, AllocError>
     ensures stays { IfOk result (λ p. p.stays.items ≡ staying_from [] messages.now) }
-    ensures told { IfOk result (λ p. p.told.items ≡ overtaking_from [] messages.now) }
+    ensures overtakings { IfOk result (λ p. p.overtakings.items ≡ overtaking_from [] messages.now) }
 {
     let mut furthest = Lanes::zeros(alloc)?;
     let mut stays = Vec::new(alloc);
-    let mut told = Vec::new(alloc);
+    let mut overtakings = Vec::new(alloc);
     for (place, message) in messages.iter().enumerate() {
         pass(
             &mut furthest,
             &messages[..place],
             message,
             &mut stays,
-            &mut told,
+            &mut overtakings,
         )?;
     }
-    Ok(Passed { stays, told })
+    Ok(Passed { stays, overtakings })
 }

@@ -8,10 +8,10 @@ use Rattle.chart.specs.Keywords.{is_reserved}
 use Rattle.chart.specs.declared.name.NameError.{NameError}
 use Rattle.chart.specs.declared.name.NameError.TheVariants.{Empty, TooLong, BadByte, Reserved}
 use Rattle.chart.specs.declared.name.TheConstants.{MAX_NAME}
-use Rattle.chart.proofs.NameBytes.{refused, empty_told, name_is_sound, sound_bytes}
+use Rattle.chart.proofs.NameBytes.{refused, empty_error, name_is_sound, sound_bytes}
 use Rattle.diagram_labels.specs.Spelling.{joined, IsWord, fronted, unreserved, shortened, spelled}
 use Rattle.diagram_labels.proofs.Bytes.{both}
-use Rattle.diagram_labels.proofs.Spellings.{word_told}
+use Rattle.diagram_labels.proofs.Spellings.{word_error}
 
 -- bytes with no fault are a word
 sound_is_word : (word : List ℕ) → bad_place word ≡ None → (length word == 0) ≡ false → IsWord word
@@ -20,12 +20,12 @@ sound_is_word (b ∷ bytes) h z = sound_bytes b bytes h
 
 -- a name is a word
 pub name_is_word : (word : List ℕ) → IsName word → IsWord word
-name_is_word [] h = refused [] Empty (empty_told [] refl) h
+name_is_word [] h = refused [] Empty (empty_error [] refl) h
 name_is_word (b ∷ bytes) h = sound_bytes b bytes (name_is_sound (b ∷ bytes) h).1
 
-reserved_told : (word : List ℕ) (b : Bool) → is_reserved word ≡ b → IsWord word → nat_lt MAX_NAME (length word) ≡ false → IsName word → b ≡ false
-reserved_told word true e w l h = refused word Reserved (word_told word w ∙ rw (l, e) refl) h
-reserved_told word false e w l h = refl
+reserved_error : (word : List ℕ) (b : Bool) → is_reserved word ≡ b → IsWord word → nat_lt MAX_NAME (length word) ≡ false → IsName word → b ≡ false
+reserved_error word true e w l h = refused word Reserved (word_error word w ∙ rw (l, e) refl) h
+reserved_error word false e w l h = refl
 
 -- of a name's bytes nothing is cut out
 uncut : (word : List ℕ) (b : ℕ) → list_all is_name_byte (b ∷ word) ≡ true → slice_split (λ x. not (is_name_byte x)) (b ∷ word) ≡ (b ∷ word) ∷ []
@@ -49,11 +49,11 @@ word_kept word h r l = rw (joined_kept word h, h.0, r, l) refl
 -- a label that is a name is spelled as it is
 pub name_kept : (label : List ℕ) → IsName label → spelled label ≡ label
 name_kept label h =
-    let told = name_is_sound label h in
-    named label (length label == 0) refl told h
+    let renames = name_is_sound label h in
+    named label (length label == 0) refl renames h
   where
     named : (label : List ℕ) (b : Bool) → (length label == 0) ≡ b → (nat_lt MAX_NAME (length label) ≡ false) × (bad_place label ≡ None) → IsName label → spelled label ≡ label
-    named label true e told h = refused label Empty (empty_told label e) h
-    named label false e told h =
-        let word = sound_is_word label told.1 e in
-        word_kept label word (reserved_told label (is_reserved label) refl word told.0 h) told.0
+    named label true e renames h = refused label Empty (empty_error label e) h
+    named label false e renames h =
+        let word = sound_is_word label renames.1 e in
+        word_kept label word (reserved_error label (is_reserved label) refl word renames.0 h) renames.0

@@ -26,38 +26,38 @@ word_is_sound (b ∷ word) h =
     rw (h.0, none_bad word e.1, within) refl
 
 -- what is told of a word
-pub word_told : (word : List ℕ) → IsWord word → name_of word ≡ cond (nat_lt MAX_NAME (length word)) (Err TooLong) (cond (is_reserved word) (Err Reserved) (Ok word))
+pub word_error : (word : List ℕ) → IsWord word → name_of word ≡ cond (nat_lt MAX_NAME (length word)) (Err TooLong) (cond (is_reserved word) (Err Reserved) (Ok word))
 unfolding name_of
-word_told [] h = absurd (grind (arith, h.0))
-word_told (b ∷ word) h = let some : (length (b ∷ word) == 0) ≡ false = ne_eqb _ 0 (λ e. absurd (omega (arith, e))) in rw (word_is_sound (b ∷ word) h, some) refl
+word_error [] h = absurd (grind (arith, h.0))
+word_error (b ∷ word) h = let some : (length (b ∷ word) == 0) ≡ false = ne_eqb _ 0 (λ e. absurd (omega (arith, e))) in rw (word_is_sound (b ∷ word) h, some) refl
 
 -- the refusal of a reserved word
-abbrev pub tells_reserved : Result (List ℕ) NameError → Bool
-tells_reserved (Ok word) = false
-tells_reserved (Err Empty) = false
-tells_reserved (Err TooLong) = false
-tells_reserved (Err (BadByte place)) = false
-tells_reserved (Err Reserved) = true
+abbrev pub is_reserved_error : Result (List ℕ) NameError → Bool
+is_reserved_error (Ok word) = false
+is_reserved_error (Err Empty) = false
+is_reserved_error (Err TooLong) = false
+is_reserved_error (Err (BadByte place)) = false
+is_reserved_error (Err Reserved) = true
 
-told_by : (word : List ℕ) (long reserved : Bool) → (long ≡ true → reserved ≡ false) → tells_reserved (cond long (Err TooLong) (cond reserved (Err Reserved) (Ok word))) ≡ reserved
-told_by word true reserved h = sym (h refl)
-told_by word false true h = refl
-told_by word false false h = refl
+error_by : (word : List ℕ) (long reserved : Bool) → (long ≡ true → reserved ≡ false) → is_reserved_error (cond long (Err TooLong) (cond reserved (Err Reserved) (Ok word))) ≡ reserved
+error_by word true reserved h = sym (h refl)
+error_by word false true h = refl
+error_by word false false h = refl
 
 no_long : (word : List ℕ) (b : Bool) → is_reserved word ≡ b → nat_lt MAX_NAME (length word) ≡ true → b ≡ false
 no_long word true e l = absurd (grind (arith, reserved_short word e, ltb-true _ _ l))
 no_long word false e l = refl
 
 -- a word's refusal tells whether it is reserved
-pub reserved_told : (word : List ℕ) → IsWord word → tells_reserved (name_of word) ≡ is_reserved word
-reserved_told word h =
-    ap tells_reserved (word_told word h) ∙ told_by word (nat_lt MAX_NAME (length word)) (is_reserved word) (no_long word (is_reserved word) refl)
+pub reserved_error : (word : List ℕ) → IsWord word → is_reserved_error (name_of word) ≡ is_reserved word
+reserved_error word h =
+    ap is_reserved_error (word_error word h) ∙ error_by word (nat_lt MAX_NAME (length word)) (is_reserved word) (no_long word (is_reserved word) refl)
 
 -- a word that isn't too long, and isn't reserved, is a name
 pub word_is_name : (word : List ℕ) → IsWord word → length word ≤ MAX_NAME → is_reserved word ≡ false → IsName word
 word_is_name word h l e =
     let short : nat_lt MAX_NAME (length word) ≡ false = grind (arith, nat_tests) in
-    word_told word h ∙ rw (short, e) refl
+    word_error word h ∙ rw (short, e) refl
 
 -- what a label's words make
 pub joined_names_alone : (label : List ℕ) → list_all is_name_byte (joined label) ≡ true

@@ -38,9 +38,9 @@ abbrev pub line_for_blank : ℕ → ℕ
 line_for_blank b = if b == 32 then 95 else b
 
 -- the name isn't the label with one _ for each blank, so it has to be told
-abbrev pub is_told : List ℕ → List ℕ → Bool
-is_told label name = not (bytes_eq (map line_for_blank label) name)
+abbrev pub is_renamed : List ℕ → List ℕ → Bool
+is_renamed label name = not (bytes_eq (map line_for_blank label) name)
 
 -- the labels whose names have to be told, each with its name, in the order in which they came
-abbrev pub told : Labelling → List (List ℕ × List ℕ)
-told l = filter (λ p. is_told p.0 p.1) (zip l.labels l.names)
+abbrev pub renames : Labelling → List (List ℕ × List ℕ)
+renames l = filter (λ p. is_renamed p.0 p.1) (zip l.labels l.names)

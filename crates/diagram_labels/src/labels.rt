@@ -3,7 +3,7 @@
 ghost use Rattle.std.specs.Prelude.{◌≡◌, ◌<◌, false, map, length, position, bytes_eq, IfOk, OnOk, OnErr, IfSome};
 ghost use Rattle.diagram_labels.specs.Giving.{called};
 ghost use Rattle.diagram_labels.specs.Spelling.{spelled};
-ghost use Rattle.diagram_labels.specs.Labels.{none, has_label, with_new, with_label, name_of, line_for_blank, is_told};
+ghost use Rattle.diagram_labels.specs.Labels.{none, has_label, with_new, with_label, name_of, line_for_blank, is_renamed};
 
 use crate::giving::GivenNames;
 use crate::spelling::spelled;
@@ -50,8 +50,8 @@ fn is_plain(label: &[u8], name: &[u8]) -> bool
 }
 
 /// Whether a label's name has to be told: it isn't the label with one `_` for each blank.
-pub fn is_told(label: &[u8], name: &Name) -> bool
-    ensures { result ≡ is_told label.now name.now }
+pub fn is_renamed(label: &[u8], name: &Name) -> bool
+    ensures { result ≡ is_renamed label.now name.now }
 {
     !is_plain(label, name.as_bytes())
 }

@@ -2,7 +2,7 @@
 ghost use Rattle.std.specs.Prelude.{◌≡◌, map, slice_get, OnOk};
 ghost use Rattle.diagram_labels.specs.Renaming.{renamed_view, with_renamed, renamed_from};
 
-use crate::labels::is_told;
+use crate::labels::is_renamed;
 use chart::Name;
 use std::alloc::{AllocError, Global};
 
@@ -17,15 +17,15 @@ pub struct Renamed {
 /// Tells a label and its name, unless the name is the label with one `_` for each blank.
 pub fn tell_label(
     alloc: Global,
-    told: &mut Vec<Renamed>,
+    renames: &mut Vec<Renamed>,
     label: &[u8],
     name: Name,
 ) -> Result<(), AllocError>
-    ensures { OnOk result (map renamed_view told.new.items ≡ with_renamed (map renamed_view told.old.items) label.now name) }
+    ensures { OnOk result (map renamed_view renames.new.items ≡ with_renamed (map renamed_view renames.old.items) label.now name) }
 {
-    if is_told(label, &name) {
+    if is_renamed(label, &name) {
         let label = Vec::from_slice(alloc, label)?;
-        told.push(Renamed { label, name })?;
+        renames.push(Renamed { label, name })?;
     }
     Ok(())
 }
@@ -38,20 +38,20 @@ fn name_in(names: &[Name], place: usize) -> Option<Name>
 }
 
 /// Tells labels and their names, one after the other.
-pub fn tell_labels(
+pub fn add_renamed_labels(
     alloc: Global,
-    told: &mut Vec<Renamed>,
+    renames: &mut Vec<Renamed>,
     labels: &[Vec<u8>],
     names: &[Name],
 ) -> Result<(), AllocError>
-    ensures { OnOk result (map renamed_view told.new.items ≡ renamed_from (map renamed_view told.old.items)
+    ensures { OnOk result (map renamed_view renames.new.items ≡ renamed_from (map renamed_view renames.old.items)
         (map (λ label. label.items) labels.now) names.now) }
 {
     for (place, label) in labels.iter().enumerate() {
         let Some(name) = name_in(names, place) else {
             return Ok(());
         };
-        tell_label(alloc, told, label.as_slice(), name)?;
+        tell_label(alloc, renames, label.as_slice(), name)?;
     }
     Ok(())
 }

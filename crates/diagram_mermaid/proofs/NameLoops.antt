@@ -4,7 +4,7 @@ use Rattle.std.specs.List.{starts_with}
 use Rattle.diagram_statements.specs.Statements.{StatementView}
 use Rattle.texts.specs.Words.{place_of}
 use Rattle.diagram_statements.specs.declared.statement.Place.{Place}
-use Rattle.diagram_mermaid.specs.Notes.{with_first, parted, next_by, next_name, name_at, names_told}
+use Rattle.diagram_mermaid.specs.Notes.{with_first, parted, next_by, next_name, name_at, name_statements}
 
 abbrev parted_by : List ℕ → Option (List ℕ × List ℕ) → List (List ℕ)
 parted_by bytes None = bytes ∷ []
@@ -24,16 +24,16 @@ parted_is : (bytes : List ℕ) → parted bytes ≡ parted_by bytes (next_name b
 unfolding next_name
 parted_is bytes = parted_at bytes
 
-pub one_name : (place : Place) (now more all : List StatementView) (rest name left : List ℕ) → now ++ names_told place rest ≡ all → next_name rest ≡ Some (name, left)
-    → more ≡ now ++ name_at place name ∷ [] → more ++ names_told place left ≡ all
-unfolding names_told
+pub one_name : (place : Place) (now more all : List StatementView) (rest name left : List ℕ) → now ++ name_statements place rest ≡ all → next_name rest ≡ Some (name, left)
+    → more ≡ now ++ name_at place name ∷ [] → more ++ name_statements place left ≡ all
+unfolding name_statements
 one_name place now more all rest name left are found is =
     ap (λ l. l ++ map (name_at place) (parted left)) is
     ∙ append_assoc now (name_at place name ∷ []) (map (name_at place) (parted left))
     ∙ ap (λ l. now ++ map (name_at place) l) (sym (parted_is rest ∙ ap (parted_by rest) found)) ∙ are
 
-pub last_name : (place : Place) (now more all : List StatementView) (rest : List ℕ) → now ++ names_told place rest ≡ all → next_name rest ≡ None
+pub last_name : (place : Place) (now more all : List StatementView) (rest : List ℕ) → now ++ name_statements place rest ≡ all → next_name rest ≡ None
     → more ≡ now ++ name_at place rest ∷ [] → more ≡ all
-unfolding names_told
+unfolding name_statements
 last_name place now more all rest are found is =
     is ∙ ap (λ l. now ++ map (name_at place) l) (sym (parted_is rest ∙ ap (parted_by rest) found)) ∙ are

@@ -6,7 +6,7 @@ use Rattle.diagram_statements.specs.Statements.{LineView, line_view, StatementVi
 use Rattle.diagram_statements.specs.declared.statement.Fault.{Fault}
 use Rattle.diagram_statements.specs.declared.statement.Fault.TheVariants.{NotRead, Unfinished}
 use Rattle.diagram_mermaid.specs.Pieces.{stepped}
-use Rattle.diagram_mermaid.specs.Sayings.{says}
+use Rattle.diagram_mermaid.specs.Meanings.{says}
 use Rattle.diagram_mermaid.specs.declared.diagram.Pieces.{Pieces}
 use Rattle.diagram_mermaid.specs.declared.piece.Standing.{Standing}
 use Rattle.diagram_mermaid.specs.declared.piece.Standing.TheVariants.{Above, Title, Body, Inside}
@@ -24,7 +24,7 @@ pieces_in standing (l ∷ ls) = (
 
 abbrev pub statements_by : LineView → Option (List StatementView) → ReadView → ReadView
 statements_by l None others = ([], Some (NotRead (line_place l)))
-statements_by l (Some said) others = behind said others
+statements_by l (Some element) others = behind element others
 
 -- what these statements say: the first one that can't be read is the fault
 abbrev pub statements_of : List LineView → ReadView

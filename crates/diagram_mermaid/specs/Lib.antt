@@ -4,6 +4,6 @@ pub mod Names
 pub mod Notes
 pub mod Participants
 pub mod Pieces
-pub mod Sayings
+pub mod Meanings
 pub mod Signs
 pub mod Texts

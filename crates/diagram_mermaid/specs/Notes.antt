@@ -70,8 +70,8 @@ next_name names = next_by names (place_of (codes ",") names)
 
 -- a participant is named by the word that these bytes are
 abbrev pub name_at : Place → List ℕ → StatementView
-name_at place name = record { place = place; said = Named (record { word = stripped name; label = None }) }
+name_at place name = record { place = place; element = Named (record { word = stripped name; label = None }) }
 
 -- a participant is named by each of these words
-unfoldable pub names_told : Place → List ℕ → List StatementView
-names_told place names = map (name_at place) (parted names)
+unfoldable pub name_statements : Place → List ℕ → List StatementView
+name_statements place names = map (name_at place) (parted names)

@@ -1,7 +1,7 @@
 -- Statements that name a participant (Mermaid's documentation of sequence diagrams, "Participants", "Actors",
 -- "Actor Creation and Destruction").
 use Rattle.std.specs.Prelude.{ℕ, suc, ◌+◌, ◌==◌, nat_lt, Bool, List, [], ◌∷◌, codes, length, take, drop, Option, None, Some, option_map, if◌then◌else◌}
-use Rattle.diagram_statements.specs.Statements.{EndView, SaidView, Named, Renamed}
+use Rattle.diagram_statements.specs.Statements.{EndView, ElementView, Named, Renamed}
 use Rattle.texts.specs.Words.{behind_blanks, behind_keyword, behind_keyword_of, end_stripped, ends_word, place_of, or_else}
 use Rattle.texts.specs.Bytes.Classes.{is_blank}
 use Rattle.diagram_mermaid.specs.Names.{is_listed}
@@ -106,12 +106,12 @@ split_by all (Some kind) (Some label) = if nat_lt label.0 kind.0 then (label.0, 
 unfoldable pub split_in : List ℕ → SplitView
 split_in words = split_by (length words) (kind_in words) (first_label 0 words)
 
-abbrev pub said_by : List ℕ → Option (List ℕ) → SaidView
-said_by word None = Named (record { word = word; label = None })
-said_by word (Some label) = Renamed (record { word = word; label = Some (text_of label) })
+abbrev pub participant_by : List ℕ → Option (List ℕ) → ElementView
+participant_by word None = Named (record { word = word; label = None })
+participant_by word (Some label) = Renamed (record { word = word; label = Some (text_of label) })
 
 -- the participant that these words name
-unfoldable pub participant_of : List ℕ → Option SaidView
+unfoldable pub participant_of : List ℕ → Option ElementView
 participant_of words =
     if is_listed (end_stripped (take (split_in words).0 words))
-    then Some (said_by (end_stripped (take (split_in words).0 words)) (split_in words).1) else None
+    then Some (participant_by (end_stripped (take (split_in words).0 words)) (split_in words).1) else None

@@ -6,8 +6,8 @@ ghost use Rattle.diagram_mermaid.specs.Diagrams.{pieces_in, pieces_view, stateme
 ghost use Rattle.diagram_mermaid.specs.declared.piece.Standing.TheVariants.{Above};
 ghost use Rattle.diagram_statements.specs.Lines.{lines_of, first_line};
 
+use crate::meaning::add_statement;
 use crate::piece::{Standing, add_line};
-use crate::said::add_said;
 use diagram_statements::{Fault, Line, ReadText, behind_line, first_line};
 use std::alloc::{AllocError, Global};
 
@@ -40,7 +40,7 @@ fn statements_of<'a>(alloc: Global, pieces: &[Line<'a>]) -> Result<ReadText<'a>,
 {
     let mut statements = Vec::new(alloc);
     for piece in pieces {
-        if !add_said(piece.place(), piece.words, &mut statements)? {
+        if !add_statement(piece.place(), piece.words, &mut statements)? {
             return Ok(ReadText {
                 statements,
                 fault: Some(Fault::NotRead(piece.place())),

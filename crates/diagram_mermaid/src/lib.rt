@@ -6,11 +6,11 @@
 
 mod arrow;
 mod diagram;
+mod meaning;
 mod names;
 mod note;
 mod participant;
 mod piece;
-mod said;
 mod sign;
 mod text;
 

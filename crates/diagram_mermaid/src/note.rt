@@ -2,11 +2,11 @@
 ghost use Rattle.std.specs.Prelude.{◌≡◌, ◌++◌, ◌∷◌, [], map, OnOk, IfSome, length, ◌<◌};
 ghost use Rattle.texts.specs.Words.{Finds};
 ghost use Rattle.diagram_statements.specs.Statements.{statement_view};
-ghost use Rattle.diagram_mermaid.specs.Notes.{side_of, behind_side, note_view, note_by, note_of, name_at, next_name, names_told};
+ghost use Rattle.diagram_mermaid.specs.Notes.{side_of, behind_side, note_view, note_by, note_of, name_at, next_name, name_statements};
 
 use crate::names::are_listed;
 use crate::text::{before_colon, behind_colon, text_of};
-use diagram_statements::{End, Place, Said, Statement};
+use diagram_statements::{Element, End, Place, Statement};
 use std::alloc::AllocError;
 use texts::{behind_blanks, behind_keyword, behind_keyword_of, place_of, stripped};
 
@@ -82,7 +82,7 @@ fn add_name<'a>(
 {
     statements.push(Statement {
         place,
-        said: Said::Named(End {
+        element: Element::Named(End {
             word: stripped(name),
             label: None,
         }),
@@ -109,7 +109,7 @@ pub(crate) fn add_names<'a>(
     statements: &mut Vec<Statement<'a>>,
 ) -> Result<(), AllocError>
     ensures { OnOk result (map statement_view statements.new.items
-        ≡ map statement_view statements.old.items ++ names_told place names.now) }
+        ≡ map statement_view statements.old.items ++ name_statements place names.now) }
 {
     let mut rest = names;
     'names: while let Some((name, others)) = next_name(rest) {

@@ -1,13 +1,13 @@
 //! Statements that name a participant.
 ghost use Rattle.std.specs.Prelude.{◌≡◌, ◌≤◌, ◌<◌, ◌+◌, length, drop, take, option_map, IfSome, Some};
 ghost use Rattle.texts.specs.Words.{Finds};
-ghost use Rattle.diagram_statements.specs.Statements.{end_view, said_view};
+ghost use Rattle.diagram_statements.specs.Statements.{end_view, element_view};
 ghost use Rattle.diagram_mermaid.specs.Participants.{behind_create, behind_participant, label_at, label_here, first_label, tail_at, kind_tail, kind_in};
 ghost use Rattle.diagram_mermaid.specs.Participants.{split_in, participant_of, LabelView, label_view, split_view};
 
 use crate::names::is_listed;
 use crate::text::text_of;
-use diagram_statements::{End, Said};
+use diagram_statements::{Element, End};
 use texts::bytes::is_blank;
 use texts::{behind_blanks, behind_keyword, behind_keyword_of, end_stripped, ends_word, place_of};
 
@@ -182,8 +182,8 @@ fn split_in(words: &[u8]) -> Split<'_>
 
 /// The participant that these words name, if its word is one.
 #[tactic(auto, unfolding(crate::specs::Participants::participant_of))]
-pub(crate) fn participant_of(words: &[u8]) -> Option<Said<'_>>
-    ensures { Finds said_view result (participant_of words.now) }
+pub(crate) fn participant_of(words: &[u8]) -> Option<Element<'_>>
+    ensures { Finds element_view result (participant_of words.now) }
 {
     let split = split_in(words);
     let word = end_stripped(&words[..split.before]);
@@ -191,8 +191,8 @@ pub(crate) fn participant_of(words: &[u8]) -> Option<Said<'_>>
         return None;
     }
     match split.label {
-        None => Some(Said::Named(End { word, label: None })),
-        Some(label) => Some(Said::Renamed(End {
+        None => Some(Element::Named(End { word, label: None })),
+        Some(label) => Some(Element::Renamed(End {
             word,
             label: Some(text_of(label)),
         })),

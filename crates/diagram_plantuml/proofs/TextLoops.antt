@@ -67,8 +67,8 @@ pub record LinesLeft (text source : List ℕ) (begins : Region) (so_far : List S
   pub source_within : length left ≤ length source
   pub same : behind so_far (read_from region standing left (lines_from steps number rest)) ≡ read_from begins nothing_open source (lines_of text)
 
-behind_again : (so_far said : List StatementView) (others : ReadView) → behind so_far (behind said others) ≡ behind (so_far ++ said) others
-behind_again so_far said others = ap (λ (l : List StatementView). let r : ReadView = (l, others.1) in r) (sym (append_assoc so_far said others.0))
+behind_again : (so_far element : List StatementView) (others : ReadView) → behind so_far (behind element others) ≡ behind (so_far ++ element) others
+behind_again so_far element others = ap (λ (l : List StatementView). let r : ReadView = (l, others.1) in r) (sym (append_assoc so_far element others.0))
 
 pub first_lines : (text source : List ℕ) (begins : Region) (so_far : List StatementView) → so_far ≡ [] → LinesLeft text source begins so_far begins nothing_open 1 source text
 unfolding lines_of
@@ -116,10 +116,10 @@ next_line text source begins so_far now region after standing next number left r
     let others_within : length others ≡ length left - suc (line_length left) = ap length others_is ∙ length-drop (suc (line_length left)) left in
     let step : region_stepped region standing left (first_line number rest) ≡ Ok (added.0, next) = ap (region_stepped region standing left) (sym line_is) ∙ added.1 in
     let behind_region = region_behind region (first_line number rest).words in
-    let said = read_from behind_region next (below left) (lines_from s.0 (suc number) (drop (suc (line_length rest)) rest)) in
-    let one : read_from region standing left (lines_from are.steps number rest) ≡ behind added.0 said =
+    let element = read_from behind_region next (below left) (lines_from s.0 (suc number) (drop (suc (line_length rest)) rest)) in
+    let one : read_from region standing left (lines_from are.steps number rest) ≡ behind added.0 element =
     s.2 ∙ ap (step_by (λ (n : Standing). read_from behind_region n (below left) (lines_from s.0 (suc number) (drop (suc (line_length rest)) rest)))) step in
-    let same : read_from after next others (lines_from s.0 (number + 1) lines) ≡ said =
+    let same : read_from after next others (lines_from s.0 (number + 1) lines) ≡ element =
     ap (λ r. read_from r next others (lines_from s.0 (number + 1) lines)) (after_is ∙ ap (λ (l : LineView). region_behind region l.words) line_is)
     ∙ ap (λ t. read_from behind_region next t (lines_from s.0 (number + 1) lines)) others_is
     ∙ ap (λ k. read_from behind_region next (below left) (lines_from s.0 k lines)) (add-one number) ∙ ap (λ l. read_from behind_region next (below left) (lines_from s.0 (suc number) l)) lines_is in
@@ -129,5 +129,5 @@ next_line text source begins so_far now region after standing next number left r
       room = omega arith;
       within = omega arith;
       source_within = omega arith;
-      same = ap (behind now) same ∙ ap (λ l. behind l said) added.2 ∙ sym (behind_again so_far added.0 said) ∙ ap (behind so_far) (sym one) ∙ are.same;
+      same = ap (behind now) same ∙ ap (λ l. behind l element) added.2 ∙ sym (behind_again so_far added.0 element) ∙ ap (behind so_far) (sym one) ∙ are.same;
     }

@@ -33,9 +33,9 @@ read_by Inside source ls = ([], Some Unfinished)
 read_by Below source ls = read_from Above nothing_open source ls
 
 -- what the joined lines of a text say
-abbrev pub said_by : List ℕ → List LineView → ReadView
-said_by text ls = read_by (region_in Above ls) text ls
+abbrev pub read_joined : List ℕ → List LineView → ReadView
+read_joined text ls = read_by (region_in Above ls) text ls
 
 -- what a text says
 unfoldable pub diagram_of : List ℕ → ReadView
-diagram_of text = said_by text (lines_of (joined_text text))
+diagram_of text = read_joined text (lines_of (joined_text text))

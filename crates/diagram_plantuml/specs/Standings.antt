@@ -7,8 +7,8 @@ use Rattle.diagram_statements.specs.declared.statement.Fault.TheVariants.{NotRea
 use Rattle.diagram_statements.specs.declared.statement.Place.{Place}
 use Rattle.diagram_statements.specs.declared.statement.ReadError.{ReadError}
 use Rattle.diagram_statements.specs.declared.statement.ReadError.TheVariants as errors
-use Rattle.diagram_plantuml_statements.specs.Sayings.{ReadingView, reading_of}
-use Rattle.diagram_plantuml_statements.specs.Tellings.{one_told, told}
+use Rattle.diagram_plantuml_statements.specs.Meanings.{ReadingView, reading_of}
+use Rattle.diagram_plantuml_statements.specs.Statements.{one_statement, statements_of}
 use Rattle.diagram_plantuml_statements.specs.declared.look.Block.{Block}
 use Rattle.diagram_plantuml.specs.Comments.{ends_comment, uncommented}
 use Rattle.diagram_plantuml.specs.Directives.{behind_skip, skip_of}
@@ -33,7 +33,7 @@ nothing_open = at false None None
 
 abbrev pub statement_by : Place → Option ReadingView → Step
 statement_by place None = Err (NotRead place)
-statement_by place (Some reading) = Ok (told place reading.0, at false None reading.1)
+statement_by place (Some reading) = Ok (statements_of place reading.0, at false None reading.1)
 
 abbrev pub block_by : Place → LineView → Option Block → Step
 block_by place l None = statement_by place (reading_of l.words)
@@ -51,7 +51,7 @@ abbrev pub is_directive : LineView → Bool
 is_directive l = starts_with nat_eq l.words (codes "!")
 
 abbrev pub left_out : Place → LineView → List StatementView
-left_out place l = if is_directive l then one_told place Preprocessor ∷ [] else []
+left_out place l = if is_directive l then one_statement place Preprocessor ∷ [] else []
 
 -- a line of the pre-processor is left out, and so are those that it has left out
 unfoldable pub chosen : Standing → Place → LineView → Step
@@ -76,7 +76,7 @@ unfoldable pub region_stepped : Region → Standing → List ℕ → LineView �
 region_stepped Above standing source l = Ok ([], standing)
 region_stepped Inside standing source l = if is_end l.words then Ok ([], standing) else stepped standing source l
 region_stepped Below standing source l =
-    if is_start l.words then Ok (one_told (place_in source l.number l.column) OtherDiagram ∷ [], standing) else Ok ([], standing)
+    if is_start l.words then Ok (one_statement (place_in source l.number l.column) OtherDiagram ∷ [], standing) else Ok ([], standing)
 
 -- a comment, a block, or what is left out goes on
 unfoldable pub is_open : Standing → Bool

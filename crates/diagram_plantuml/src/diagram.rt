@@ -78,8 +78,8 @@ fn only_fault<'a>(alloc: Global, fault: Fault) -> ReadText<'a>
     }
 }
 
-/// What a text says, without its byte order mark: its statements from the top, up to its first fault. A diagram that begins
-/// and doesn't end is a fault before all others. The words are those of the joined text.
+/// What a text says, without its byte order mark: its statements from the top, up to its first fault. A diagram that
+/// begins and doesn't end is a fault before all others. The words are those of the joined text.
 #[tactic(auto, unfolding(crate::specs::Diagrams::diagram_of))]
 pub fn read<'a>(alloc: Global, text: &[u8], joined: &'a [u8]) -> Result<ReadText<'a>, AllocError>
     requires { joined.now ≡ joined_text text.now }

@@ -90,7 +90,8 @@ pub fn joined_text(alloc: Global, text: &[u8]) -> Result<Vec<u8>, AllocError>
     Ok(joined)
 }
 
-/// Where the byte in this column of a joined line stands in the source, of which this is left from the line's beginning.
+/// Where the byte in this column of a joined line stands in the source, of which this is left from the line's
+/// beginning.
 pub(crate) fn place_in(source: &[u8], number: u64, column: u64) -> Place
     requires { number + length source.now < 2 ^ 64 }
     ensures { result ≡ place_in source.now number column }

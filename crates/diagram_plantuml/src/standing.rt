@@ -9,7 +9,7 @@ use crate::ends::behind_block;
 use crate::joints::place_in;
 use crate::region::{Region, is_end, is_start};
 use diagram_plantuml_statements::{Block, add_meaning, add_one, reading_of};
-use diagram_statements::{Fault, Line, Place, ReadError, Said, Statement};
+use diagram_statements::{Element, Fault, Line, Place, ReadError, Statement};
 use texts::begins_with;
 
 /// Where a reader of a diagram's lines stands.
@@ -68,7 +68,7 @@ fn add_chosen<'a>(
         return add_blocked(standing, place, line, statements);
     }
     if is_directive {
-        add_one(place, Said::Preprocessor, statements)?;
+        add_one(place, Element::Preprocessor, statements)?;
     }
     Ok(Standing {
         has_comment: false,
@@ -158,7 +158,7 @@ pub(crate) fn add_line_in<'a>(
         Region::Inside if !is_end(line.words) => add_line(standing, source, line, statements),
         Region::Below if is_start(line.words) => {
             let place = place_in(source, line.number, line.column);
-            add_one(place, Said::OtherDiagram, statements)?;
+            add_one(place, Element::OtherDiagram, statements)?;
             Ok(standing)
         }
         _ => Ok(standing),

@@ -1,5 +1,5 @@
 pub mod Looks
 pub mod Notes
 pub mod Participants
-pub mod Sayings
-pub mod Tellings
+pub mod Meanings
+pub mod Statements

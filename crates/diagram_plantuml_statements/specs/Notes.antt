@@ -40,25 +40,25 @@ unfoldable pub behind_names : List ℕ → Option (List ℕ)
 behind_names bytes = behind_names_from (suc (length bytes)) bytes
 
 -- a participant is named by this word
-abbrev pub name_told : Place → List ℕ → StatementView
-name_told place word = record { place = place; said = Named (record { word = word; label = None }) }
+abbrev pub name_statement : Place → List ℕ → StatementView
+name_statement place word = record { place = place; element = Named (record { word = word; label = None }) }
 
-abbrev pub told_next : (List ℕ → List StatementView) → Option (List ℕ) → List StatementView
-told_next others None = []
-told_next others (Some next) = others next
+abbrev pub statements_next : (List ℕ → List StatementView) → Option (List ℕ) → List StatementView
+statements_next others None = []
+statements_next others (Some next) = others next
 
-abbrev pub told_by : (List ℕ → List StatementView) → Place → Option (List ℕ × List ℕ) → List StatementView
-told_by others place None = []
-told_by others place (Some name) = name_told place name.0 ∷ told_next others (behind_comma name.1)
+abbrev pub statements_by : (List ℕ → List StatementView) → Place → Option (List ℕ × List ℕ) → List StatementView
+statements_by others place None = []
+statements_by others place (Some name) = name_statement place name.0 ∷ statements_next others (behind_comma name.1)
 
 -- participants are named by at most so many words
-abbrev pub told_from : ℕ → Place → List ℕ → List StatementView
-told_from zero place bytes = []
-told_from (suc n) place bytes = told_by (told_from n place) place (name_at bytes)
+abbrev pub statements_from : ℕ → Place → List ℕ → List StatementView
+statements_from zero place bytes = []
+statements_from (suc n) place bytes = statements_by (statements_from n place) place (name_at bytes)
 
 -- participants are named by these words, with commas between them
-unfoldable pub names_told : Place → List ℕ → List StatementView
-names_told place bytes = told_from (suc (length bytes)) place bytes
+unfoldable pub name_statements : Place → List ℕ → List StatementView
+name_statements place bytes = statements_from (suc (length bytes)) place bytes
 
 abbrev pub stereotype_by : List ℕ → Option ℕ → List ℕ
 stereotype_by bytes None = bytes

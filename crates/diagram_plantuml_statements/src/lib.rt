@@ -7,12 +7,12 @@
 
 mod life;
 mod look;
+mod meaning;
 mod note;
 mod participant;
-mod said;
-mod telling;
+mod statements;
 
 pub use look::{Block, ends_with_brace};
+pub use meaning::{Meaning, Reading, reading_of};
 pub use participant::last_place;
-pub use said::{Meaning, Reading, reading_of};
-pub use telling::{add_meaning, add_one};
+pub use statements::{add_meaning, add_one};

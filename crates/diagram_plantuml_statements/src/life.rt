@@ -1,17 +1,17 @@
 //! Activations that a statement begins or ends.
 ghost use Rattle.std.specs.Prelude.{◌≡◌};
 ghost use Rattle.texts.specs.Words.{Finds};
-ghost use Rattle.diagram_statements.specs.Statements.{said_view};
-ghost use Rattle.diagram_plantuml_statements.specs.Sayings.{meaning_view, are_colours, verb_at, life_of, signs_at, short_life_of, switch_of};
+ghost use Rattle.diagram_statements.specs.Statements.{element_view};
+ghost use Rattle.diagram_plantuml_statements.specs.Meanings.{meaning_view, are_colours, verb_at, life_of, signs_at, short_life_of, switch_of};
 
-use crate::said::Meaning;
+use crate::meaning::Meaning;
 use diagram_plantuml_arrows::{Class, behind_colour, behind_gap, name_at, run_at};
-use diagram_statements::Said;
+use diagram_statements::Element;
 use texts::bytes::is_spelled;
 use texts::{behind_blanks, behind_word};
 
 /// Whether nothing but colours comes next: two at most.
-#[tactic(auto, unfolding(crate::specs::Sayings::are_colours))]
+#[tactic(auto, unfolding(crate::specs::Meanings::are_colours))]
 fn are_colours(bytes: &[u8]) -> bool
     ensures { result ≡ are_colours bytes.now }
 {
@@ -21,7 +21,7 @@ fn are_colours(bytes: &[u8]) -> bool
 }
 
 /// What stands behind this verb, and whether it begins or ends an activation.
-#[tactic(auto, unfolding(crate::specs::Sayings::verb_at))]
+#[tactic(auto, unfolding(crate::specs::Meanings::verb_at))]
 fn verb_at(words: &[u8]) -> Option<(Option<bool>, &[u8])>
     ensures { Finds (λ verb. (verb.0, verb.1.now)) result (verb_at words.now) }
 {
@@ -38,7 +38,7 @@ fn verb_at(words: &[u8]) -> Option<(Option<bool>, &[u8])>
 }
 
 /// The activation that a statement says.
-#[tactic(auto, unfolding(crate::specs::Sayings::life_of))]
+#[tactic(auto, unfolding(crate::specs::Meanings::life_of))]
 pub(crate) fn life_of(words: &[u8]) -> Option<Meaning<'_>>
     ensures { Finds meaning_view result (life_of words.now) }
 {
@@ -52,7 +52,7 @@ pub(crate) fn life_of(words: &[u8]) -> Option<Meaning<'_>>
 }
 
 /// What stands behind two signs of activation, and whether they begin one.
-#[tactic(auto, unfolding(crate::specs::Sayings::signs_at))]
+#[tactic(auto, unfolding(crate::specs::Meanings::signs_at))]
 fn signs_at(bytes: &[u8]) -> Option<(bool, &[u8])>
     ensures { Finds (λ signs. (signs.0, signs.1.now)) result (signs_at bytes.now) }
 {
@@ -66,7 +66,7 @@ fn signs_at(bytes: &[u8]) -> Option<(bool, &[u8])>
 }
 
 /// The activation that a statement says by signs behind a word.
-#[tactic(auto, unfolding(crate::specs::Sayings::short_life_of))]
+#[tactic(auto, unfolding(crate::specs::Meanings::short_life_of))]
 pub(crate) fn short_life_of(words: &[u8]) -> Option<Meaning<'_>>
     ensures { Finds meaning_view result (short_life_of words.now) }
 {
@@ -80,16 +80,16 @@ pub(crate) fn short_life_of(words: &[u8]) -> Option<Meaning<'_>>
 }
 
 /// Whether arrows activate from here on.
-#[tactic(auto, unfolding(crate::specs::Sayings::switch_of))]
-pub(crate) fn switch_of(words: &[u8]) -> Option<Said<'_>>
-    ensures { Finds said_view result (switch_of words.now) }
+#[tactic(auto, unfolding(crate::specs::Meanings::switch_of))]
+pub(crate) fn switch_of(words: &[u8]) -> Option<Element<'_>>
+    ensures { Finds element_view result (switch_of words.now) }
 {
     let word = behind_gap(behind_word(b"autoactivate", words)?)?;
     if is_spelled(b"on", word) {
-        return Some(Said::ArrowsActivate(true));
+        return Some(Element::ArrowsActivate(true));
     }
     if is_spelled(b"off", word) {
-        Some(Said::ArrowsActivate(false))
+        Some(Element::ArrowsActivate(false))
     } else {
         None
     }

@@ -2,14 +2,14 @@
 ghost use Rattle.std.specs.Prelude.{◌≡◌, ◌<◌, ◌++◌, ◌∷◌, [], map, length, IfSome, OnOk, option_map};
 ghost use Rattle.texts.specs.Words.{Finds};
 ghost use Rattle.diagram_statements.specs.Statements.{statement_view};
-ghost use Rattle.diagram_plantuml_statements.specs.Notes.{note_view, behind_comma, behind_names, name_told, names_told, behind_stereotype, note_word};
+ghost use Rattle.diagram_plantuml_statements.specs.Notes.{note_view, behind_comma, behind_names, name_statement, name_statements, behind_stereotype, note_word};
 ghost use Rattle.diagram_plantuml_statements.specs.Notes.{behind_slash, behind_note, placed_at, side_word, behind_of, placed_of, placed, unplaced, bare};
 ghost use Rattle.diagram_plantuml_statements.specs.Notes.{across, note_of, reference_of};
 
 use diagram_plantuml_arrows::{
     Class, Tail, behind_byte, behind_colour, behind_gap, colon_tail, coloured_tail, name_at, row_at,
 };
-use diagram_statements::{End, Place, Said, Statement};
+use diagram_statements::{Element, End, Place, Statement};
 use std::alloc::AllocError;
 use texts::{begins_with, behind_blanks, behind_word, place_of};
 
@@ -59,11 +59,11 @@ fn add_name<'a>(
     statements: &mut Vec<Statement<'a>>,
 ) -> Result<(), AllocError>
     ensures { OnOk result (map statement_view statements.new.items
-        ≡ map statement_view statements.old.items ++ name_told place word.now ∷ []) }
+        ≡ map statement_view statements.old.items ++ name_statement place word.now ∷ []) }
 {
     statements.push(Statement {
         place,
-        said: Said::Named(End { word, label: None }),
+        element: Element::Named(End { word, label: None }),
     })?;
     Ok(())
 }
@@ -75,7 +75,7 @@ pub(crate) fn add_names<'a>(
     statements: &mut Vec<Statement<'a>>,
 ) -> Result<(), AllocError>
     ensures { OnOk result (map statement_view statements.new.items
-        ≡ map statement_view statements.old.items ++ names_told place bytes.now) }
+        ≡ map statement_view statements.old.items ++ name_statements place bytes.now) }
 {
     let mut rest = bytes;
     'names: loop {

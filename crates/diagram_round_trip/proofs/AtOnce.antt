@@ -15,11 +15,11 @@ use Rattle.chart.specs.Events.{tally, is_send_to, is_receive_from, send_event, r
 use Rattle.chart.proofs.Belongs.{IsEvent-from_passes, same_send, same_receive, not_both}
 use Rattle.closure.specs.Faults.{place_of}
 use Rattle.closure.proofs.ReadLemmas.{instance_within}
-use Rattle.chart_layout.specs.Layouts.{drawn, row_on, number_on, is_at, has_event, row_of, IsNext}
+use Rattle.chart_layout.specs.Layouts.{laid_out, row_on, number_on, is_at, has_event, row_of, IsNext}
 use Rattle.chart_layout.specs.Picking.{Comes, actors, IsLayout}
 use Rattle.chart_layout.specs.declared.row.Row.{Row}
 use Rattle.chart_layout.specs.declared.row.Row.TheVariants as rows
-use Rattle.chart_layout.proofs.DrawnLemmas.{number_on-own, number_on-other}
+use Rattle.chart_layout.proofs.LaidOutLemmas.{number_on-own, number_on-other}
 use Rattle.diagrams.specs.Messages.Each.{Each}
 use Rattle.diagram_round_trip.specs.Laws.{LevelAtOnce}
 use Rattle.diagram_round_trip.specs.LevelCharts.{Passed, ends_at, at_once}
@@ -62,23 +62,23 @@ record HasPair (c : Chart) (above : List Row) (p x : ℕ) : Type 0 where
   pub receive : EventNo
   pub belong : BelongsTo c (place_of send) (place_of receive)
   pub either : (place_of send ≡ at p x) ⊎ (place_of receive ≡ at p x)
-  pub send_drawn : Has (drawn above send.instance) send.index
-  pub receive_drawn : Has (drawn above receive.instance) receive.index
+  pub send_laid_out : Has (laid_out above send.instance) send.index
+  pub receive_laid_out : Has (laid_out above receive.instance) receive.index
 
 place_is : (e : EventNo) (p x : ℕ) → (e.instance ≡ p) × (e.index ≡ x) → place_of e ≡ at p x
 place_is e p x w = ap (λ q. at q e.index) w.0 ∙ ap (λ y. at p y) w.1
 
-pair_at : (c : Chart) (above : List Row) (p x : ℕ) → Each (IsLevelRow c) above → Has (drawn above p) x → HasPair c above p x
+pair_at : (c : Chart) (above : List Row) (p x : ℕ) → Each (IsLevelRow c) above → Has (laid_out above p) x → HasPair c above p x
 pair_at c [] p x all h = absurd h
 pair_at c (rows.Event e ∷ above) p x all h = absurd all.0
-pair_at c (rows.Message s r ∷ above) p x all h = elim (has_either (number_on p s ++ number_on p r) (drawn above p) x h) [
+pair_at c (rows.Message s r ∷ above) p x all h = elim (has_either (number_on p s ++ number_on p r) (laid_out above p) x h) [
   | inl here ↦ record {
     send = s;
     receive = r;
     belong = all.0;
     either = elim (has_either (number_on p s) (number_on p r) x here) [ inl w ↦ inl (place_is s p x (is_there p x s w)) | inr w ↦ inr (place_is r p x (is_there p x r w)) ];
-    send_drawn = has_left (number_on s.instance s ++ number_on s.instance r) (drawn above s.instance) s.index (has_left (number_on s.instance s) (number_on s.instance r) s.index (subst (λ l. Has l s.index) (sym (number_on-own s.instance s refl)) (inl refl)));
-    receive_drawn = has_left (number_on r.instance s ++ number_on r.instance r) (drawn above r.instance) r.index (has_right (number_on r.instance s) (number_on r.instance r) r.index (subst (λ l. Has l r.index) (sym (number_on-own r.instance r refl)) (inl refl)));
+    send_laid_out = has_left (number_on s.instance s ++ number_on s.instance r) (laid_out above s.instance) s.index (has_left (number_on s.instance s) (number_on s.instance r) s.index (subst (λ l. Has l s.index) (sym (number_on-own s.instance s refl)) (inl refl)));
+    receive_laid_out = has_left (number_on r.instance s ++ number_on r.instance r) (laid_out above r.instance) r.index (has_right (number_on r.instance s) (number_on r.instance r) r.index (subst (λ l. Has l r.index) (sym (number_on-own r.instance r refl)) (inl refl)));
   }
   | inr below ↦
       let w = pair_at c above p x all.1 below in
@@ -87,8 +87,8 @@ pair_at c (rows.Message s r ∷ above) p x all h = elim (has_either (number_on p
         receive = w.receive;
         belong = w.belong;
         either = w.either;
-        send_drawn = has_right (number_on w.send.instance s ++ number_on w.send.instance r) (drawn above w.send.instance) w.send.index w.send_drawn;
-        receive_drawn = has_right (number_on w.receive.instance s ++ number_on w.receive.instance r) (drawn above w.receive.instance) w.receive.index w.receive_drawn;
+        send_laid_out = has_right (number_on w.send.instance s ++ number_on w.send.instance r) (laid_out above w.send.instance) w.send.index w.send_laid_out;
+        receive_laid_out = has_right (number_on w.receive.instance s ++ number_on w.receive.instance r) (laid_out above w.receive.instance) w.receive.index w.receive_laid_out;
       }
 ]
 
@@ -109,15 +109,15 @@ row_here e (rows.Message s r) its = go (is_at e s) refl its
     go true is either = has_left (number_on e.instance s) (number_on e.instance r) e.index (numbered_here e s is)
     go false is either = has_right (number_on e.instance s) (number_on e.instance r) e.index (numbered_here e r either)
 
-drawn_in : (above : List Row) (e : Place) (i : ℕ) → row_of above e ≡ Some i → Has (drawn above e.instance) e.index
-drawn_in [] e i is = absurd (none-some i is)
-drawn_in (row ∷ above) e i is = go (has_event e row) refl (row_of above e) (λ n at_n. drawn_in above e n at_n) is
+laid_out_in : (above : List Row) (e : Place) (i : ℕ) → row_of above e ≡ Some i → Has (laid_out above e.instance) e.index
+laid_out_in [] e i is = absurd (none-some i is)
+laid_out_in (row ∷ above) e i is = go (has_event e row) refl (row_of above e) (λ n at_n. laid_out_in above e n at_n) is
   where
-    go : (here : Bool) → has_event e row ≡ here → (found : Option ℕ) → ((n : ℕ) → found ≡ Some n → Has (drawn above e.instance) e.index) → cond here (Some 0) (option_map suc found) ≡ Some i
-        → Has (row_on e.instance row ++ drawn above e.instance) e.index
-    go true has found later is = has_left (row_on e.instance row) (drawn above e.instance) e.index (row_here e row has)
+    go : (here : Bool) → has_event e row ≡ here → (found : Option ℕ) → ((n : ℕ) → found ≡ Some n → Has (laid_out above e.instance) e.index) → cond here (Some 0) (option_map suc found) ≡ Some i
+        → Has (row_on e.instance row ++ laid_out above e.instance) e.index
+    go true has found later is = has_left (row_on e.instance row) (laid_out above e.instance) e.index (row_here e row has)
     go false has None later none = absurd (none-some i none)
-    go false has (Some n) later next = has_right (row_on e.instance row) (drawn above e.instance) e.index (later n refl)
+    go false has (Some n) later next = has_right (row_on e.instance row) (laid_out above e.instance) e.index (later n refl)
 
 -- The ends of a message that is received at once.
 
@@ -169,9 +169,9 @@ tally_here test line front back x is its =
     let taken : take (suc (length front)) line ≡ front ++ x ∷ [] = ap (take (suc (length front))) (is ∙ sym whole) ∙ ap (λ n. take n ((front ++ x ∷ []) ++ back)) (sym long) ∙ take-append_seam (front ++ x ∷ []) back in
     ap (count_by test) taken ∙ counts_joined test front (x ∷ []) ∙ rw its (omega arith)
 
-drawn_joined : (one other : List Row) (p : ℕ) → drawn (one ++ other) p ≡ drawn one p ++ drawn other p
-drawn_joined [] other p = refl
-drawn_joined (row ∷ one) other p = ap (λ l. row_on p row ++ l) (drawn_joined one other p) ∙ sym (append_assoc (row_on p row) (drawn one p) (drawn other p))
+laid_out_joined : (one other : List Row) (p : ℕ) → laid_out (one ++ other) p ≡ laid_out one p ++ laid_out other p
+laid_out_joined [] other p = refl
+laid_out_joined (row ∷ one) other p = ap (λ l. row_on p row ++ l) (laid_out_joined one other p) ∙ sym (append_assoc (row_on p row) (laid_out one p) (laid_out other p))
 
 -- so many events are still drawn with a message whose ends both are
 fits : (done : List Passed) (m : Passed) (k : ℕ → ℕ) → m.from ≢ m.to → ((p : ℕ) → length (at_once done p) ≤ k p) → length (at_once done m.from) < k m.from → length (at_once done m.to) < k m.to
@@ -211,35 +211,35 @@ module _ (lines : List LineView) (drawing : List Row) (messages : List Passed) (
   -- in rows of messages alone
   module _ (above : List Row) (level : Each (IsLevelRow c) above) where
     -- where one end of a message is drawn, so is the other
-    other_taken : (s r : Place) → BelongsTo c s r → Has (drawn above s.instance) s.index → Has (drawn above r.instance) r.index
+    other_taken : (s r : Place) → BelongsTo c s r → Has (laid_out above s.instance) s.index → Has (laid_out above r.instance) r.index
     other_taken s r b h =
         let w = pair_at c above s.instance s.index level h in
         elim w.either [
           | inl same ↦
               let mine = subst (λ x. BelongsTo c x (place_of w.receive)) same w.belong in
-              subst (λ (x : Place). Has (drawn above x.instance) x.index) (same_receive c s (place_of w.receive) r mine b) w.receive_drawn
+              subst (λ (x : Place). Has (laid_out above x.instance) x.index) (same_receive c s (place_of w.receive) r mine b) w.receive_laid_out
           | inr same ↦ absurd (not_both c r.instance w.send.instance s b.sent (subst (λ x. IsReceiveFrom c w.send.instance x) same w.belong.received))
         ]
 
-    other_sent : (s r : Place) → BelongsTo c s r → Has (drawn above r.instance) r.index → Has (drawn above s.instance) s.index
+    other_sent : (s r : Place) → BelongsTo c s r → Has (laid_out above r.instance) r.index → Has (laid_out above s.instance) s.index
     other_sent s r b h =
         let w = pair_at c above r.instance r.index level h in
         elim w.either [
           | inl same ↦ absurd (not_both c w.receive.instance s.instance r (subst (λ x. IsSendTo c w.receive.instance x) same w.belong.sent) b.received)
           | inr same ↦
               let mine = subst (λ x. BelongsTo c (place_of w.send) x) same w.belong in
-              subst (λ (x : Place). Has (drawn above x.instance) x.index) (same_send c (place_of w.send) s r mine b) w.send_drawn
+              subst (λ (x : Place). Has (laid_out above x.instance) x.index) (same_send c (place_of w.send) s r mine b) w.send_laid_out
         ]
 
   -- an event that has no turn stands alone only where no message is level: its send would stand above, and so would it
-  greedy_at : (above : List Row) → Each (IsLevelRow c) above → ((p : ℕ) → Counts 1 (drawn above p)) → (e : EventNo) → e.index ≡ 1 + length (drawn above e.instance) → Comes c (length lines) above [] (rows.Event e)
+  greedy_at : (above : List Row) → Each (IsLevelRow c) above → ((p : ℕ) → Counts 1 (laid_out above p)) → (e : EventNo) → e.index ≡ 1 + length (laid_out above e.instance) → Comes c (length lines) above [] (rows.Event e)
       → (s r : Place) → BelongsTo c s r → IsNext above s → IsNext above r → ⊥
   greedy_at above level counts e next (inl turn) s r b next_s next_r = turn.0
   greedy_at above level counts e next (inr picked) s r b next_s next_r = elim picked.1 [
     | inl highest ↦
         let arrival = highest.1 in
-        let there = other_taken above level arrival.send (place_of e) arrival.belongs (drawn_in above arrival.send highest.0 arrival.row) in
-        let was = counts_has 1 (drawn above e.instance) e.index (counts e.instance) there in
+        let there = other_taken above level arrival.send (place_of e) arrival.belongs (laid_out_in above arrival.send highest.0 arrival.row) in
+        let was = counts_has 1 (laid_out above e.instance) e.index (counts e.instance) there in
         let high = was.1 in
         omega arith
     | inr early ↦
@@ -250,10 +250,10 @@ module _ (lines : List LineView) (drawing : List Row) (messages : List Passed) (
   ]
 
   -- below rows of messages alone no event stands alone
-  module _ (above : List Row) (level : Each (IsLevelRow c) above) (counts : (p : ℕ) → Counts 1 (drawn above p)) (e : EventNo) (next : e.index ≡ 1 + length (drawn above e.instance)) (within : e.index ≤ length (c e.instance))
+  module _ (above : List Row) (level : Each (IsLevelRow c) above) (counts : (p : ℕ) → Counts 1 (laid_out above p)) (e : EventNo) (next : e.index ≡ 1 + length (laid_out above e.instance)) (within : e.index ≤ length (c e.instance))
       (greedy : (s r : Place) → BelongsTo c s r → IsNext above s → IsNext above r → ⊥) where
     abbrev k : ℕ → ℕ
-    k p = length (drawn above p)
+    k p = length (laid_out above p)
 
     search : (done left : List Passed) → messages ≡ done ++ left → Each (λ (x : Passed). x.from ≢ x.to) done → Each (λ (x : Passed). x.from ≢ x.to) left → ((p : ℕ) → length (at_once done p) ≤ k p) → ⊥
     search done [] is apart two all =
@@ -266,8 +266,8 @@ module _ (lines : List LineView) (drawing : List Row) (messages : List Passed) (
         let r : Place = at m.to (suc (length (at_once done m.to))) in
         elim (cases_lt (length (at_once done m.from)) (k m.from)) [
           | inl sent ↦
-              let there = counts_all 1 (drawn above m.from) (suc (length (at_once done m.from))) (counts m.from) (omega arith) (omega arith) in
-              let taken = counts_has 1 (drawn above m.to) (suc (length (at_once done m.to))) (counts m.to) (other_taken above level s r b there) in
+              let there = counts_all 1 (laid_out above m.from) (suc (length (at_once done m.from))) (counts m.from) (omega arith) (omega arith) in
+              let taken = counts_has 1 (laid_out above m.to) (suc (length (at_once done m.to))) (counts m.to) (other_taken above level s r b there) in
               let high = taken.1 in
               search (done ++ m ∷ []) left (is ∙ sym (append_assoc done (m ∷ []) left)) (each_append (λ (x : Passed). x.from ≢ x.to) done (m ∷ []) apart (two.0, tt)) two.1 (fits done m k two.0 all sent (omega arith))
           | inr not_sent ↦
@@ -275,8 +275,8 @@ module _ (lines : List LineView) (drawing : List Row) (messages : List Passed) (
               let next_s : IsNext above s = omega arith in
               elim (cases_lt (length (at_once done m.to)) (k m.to)) [
                 | inl taken ↦
-                    let there = counts_all 1 (drawn above m.to) (suc (length (at_once done m.to))) (counts m.to) (omega arith) (omega arith) in
-                    let was = counts_has 1 (drawn above m.from) (suc (length (at_once done m.from))) (counts m.from) (other_sent above level s r b there) in
+                    let there = counts_all 1 (laid_out above m.to) (suc (length (at_once done m.to))) (counts m.to) (omega arith) (omega arith) in
+                    let was = counts_has 1 (laid_out above m.from) (suc (length (at_once done m.from))) (counts m.from) (other_sent above level s r b there) in
                     let high = was.1 in
                     omega arith
                 | inr not_taken ↦
@@ -295,17 +295,17 @@ module _ (lines : List LineView) (drawing : List Row) (messages : List Passed) (
       (b, all_level (above ++ rows.Message s r ∷ []) below (is ∙ sym (append_assoc above (rows.Message s r ∷ []) below)) (each_append (IsLevelRow c) above (rows.Message s r ∷ []) level (b, tt)) two)
   all_level above (rows.Event e ∷ below) is level two =
       let here : slice_get drawing (length above) ≡ Some (rows.Event e) = ap (λ l. slice_get l (length above)) is ∙ get_seam above (rows.Event e) below in
-      let parted : (p : ℕ) → drawn drawing p ≡ drawn above p ++ drawn (rows.Event e ∷ below) p = λ p. ap (λ l. drawn l p) is ∙ drawn_joined above (rows.Event e ∷ below) p in
-      let counts : (p : ℕ) → Counts 1 (drawn above p ++ drawn (rows.Event e ∷ below) p) = λ p. subst (Counts 1) (sym (layout.drawing.order p) ∙ parted p) (counts_range 1 (length (c p))) in
-      let first : Counts (1 + length (drawn above e.instance)) (e.index ∷ drawn below e.instance) =
-      subst (λ l. Counts (1 + length (drawn above e.instance)) (l ++ drawn below e.instance)) (number_on-own e.instance e refl) (counts_on 1 (drawn above e.instance) (drawn (rows.Event e ∷ below) e.instance) (counts e.instance)) in
+      let parted : (p : ℕ) → laid_out drawing p ≡ laid_out above p ++ laid_out (rows.Event e ∷ below) p = λ p. ap (λ l. laid_out l p) is ∙ laid_out_joined above (rows.Event e ∷ below) p in
+      let counts : (p : ℕ) → Counts 1 (laid_out above p ++ laid_out (rows.Event e ∷ below) p) = λ p. subst (Counts 1) (sym (layout.drawing.order p) ∙ parted p) (counts_range 1 (length (c p))) in
+      let first : Counts (1 + length (laid_out above e.instance)) (e.index ∷ laid_out below e.instance) =
+      subst (λ l. Counts (1 + length (laid_out above e.instance)) (l ++ laid_out below e.instance)) (number_on-own e.instance e refl) (counts_on 1 (laid_out above e.instance) (laid_out (rows.Event e ∷ below) e.instance) (counts e.instance)) in
       let its = first.0 in
-      let long : length (c e.instance) ≡ length (drawn above e.instance) + suc (length (drawn below e.instance)) =
-      sym (ap length (layout.drawing.order e.instance) ∙ length-range_with_len 1 (length (c e.instance))) ∙ ap length (parted e.instance) ∙ length-append (drawn above e.instance) (drawn (rows.Event e ∷ below) e.instance)
-      ∙ ap (λ l. length (drawn above e.instance) + length (l ++ drawn below e.instance)) (number_on-own e.instance e refl) in
+      let long : length (c e.instance) ≡ length (laid_out above e.instance) + suc (length (laid_out below e.instance)) =
+      sym (ap length (layout.drawing.order e.instance) ∙ length-range_with_len 1 (length (c e.instance))) ∙ ap length (parted e.instance) ∙ length-append (laid_out above e.instance) (laid_out (rows.Event e ∷ below) e.instance)
+      ∙ ap (λ l. length (laid_out above e.instance) + length (l ++ laid_out below e.instance)) (number_on-own e.instance e refl) in
       let front : take (length above) drawing ≡ above = ap (take (length above)) is ∙ take-append_seam above (rows.Event e ∷ below) in
-      absurd (search above level (λ p. counts_front 1 (drawn above p) (drawn (rows.Event e ∷ below) p) (counts p)) e its (omega arith)
-      (greedy_at above level (λ p. counts_front 1 (drawn above p) (drawn (rows.Event e ∷ below) p) (counts p)) e its
+      absurd (search above level (λ p. counts_front 1 (laid_out above p) (laid_out (rows.Event e ∷ below) p) (counts p)) e its (omega arith)
+      (greedy_at above level (λ p. counts_front 1 (laid_out above p) (laid_out (rows.Event e ∷ below) p) (counts p)) e its
       (subst (λ (turns : List ℕ). Comes c (length lines) above turns (rows.Event e)) (drop_all (length (actors above)) no_turns (omega arith))
       (subst (λ (l : List Row). Comes c (length lines) l (drop (length (actors l)) no_turns) (rows.Event e)) front (layout.comes (length above) (rows.Event e) here))))
       [] messages refl tt two (λ p. omega arith))

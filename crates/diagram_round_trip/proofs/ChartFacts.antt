@@ -22,10 +22,10 @@ use Rattle.chart.proofs.Sends.{sends_of, none_of_other_name}
 use Rattle.chart.proofs.Tally.{ith_at, tally-lt, tally_reached}
 use Rattle.closure.specs.Faults.{place_of}
 use Rattle.chart_layout.specs.Ends.{IsEnd}
-use Rattle.chart_layout.specs.Layouts.{drawn, row_on}
+use Rattle.chart_layout.specs.Layouts.{laid_out, row_on}
 use Rattle.chart_layout.specs.declared.row.Row.{Row}
 use Rattle.chart_layout.specs.declared.row.Row.TheVariants as rows
-use Rattle.chart_layout.proofs.DrawnLemmas.{number_on-own}
+use Rattle.chart_layout.proofs.LaidOutLemmas.{number_on-own}
 use Rattle.diagram_round_trip.specs.LevelCharts.{IsLevelChart}
 use Rattle.diagram_round_trip.proofs.Lists.{Counts, counts_range, counts_has, Has, has_left, has_right, all_at}
 
@@ -197,19 +197,19 @@ module _ (names : List (List ℕ)) (lines : List LineView) (drawing : List Row) 
         sent = at_e ∙ ap (λ x. Some (Send x name)) k.other;
       }
 
-  pub counts : (p : ℕ) → Counts 1 (drawn drawing p)
-  counts p = subst (Counts 1) (sym (is.drawn.order p)) (counts_range 1 (length (c p)))
+  pub counts : (p : ℕ) → Counts 1 (laid_out drawing p)
+  counts p = subst (Counts 1) (sym (is.laid_out.order p)) (counts_range 1 (length (c p)))
 
-  pub has_drawn : (some : List Row) (i : ℕ) (row : Row) (p x : ℕ) → slice_get some i ≡ Some row → Has (row_on p row) x → Has (drawn some p) x
-  has_drawn [] i row p x e h = absurd (none-some row e)
-  has_drawn (first ∷ some) zero row p x e h = has_left (row_on p first) (drawn some p) x (subst (λ r. Has (row_on p r) x) (sym (same_Some first row e)) h)
-  has_drawn (first ∷ some) (suc i) row p x e h = has_right (row_on p first) (drawn some p) x (has_drawn some i row p x e h)
+  pub has_laid_out : (some : List Row) (i : ℕ) (row : Row) (p x : ℕ) → slice_get some i ≡ Some row → Has (row_on p row) x → Has (laid_out some p) x
+  has_laid_out [] i row p x e h = absurd (none-some row e)
+  has_laid_out (first ∷ some) zero row p x e h = has_left (row_on p first) (laid_out some p) x (subst (λ r. Has (row_on p r) x) (sym (same_Some first row e)) h)
+  has_laid_out (first ∷ some) (suc i) row p x e h = has_right (row_on p first) (laid_out some p) x (has_laid_out some i row p x e h)
 
   pub lost : (i : ℕ) (e : EventNo) → slice_get drawing i ≡ Some (rows.Event e) → IsLost e
   lost i e here =
-      let its = has_drawn drawing i (rows.Event e) e.instance e.index here (subst (λ l. Has l e.index) (sym (number_on-own e.instance e refl)) (inl refl)) in
-      let w = counts_has 1 (drawn drawing e.instance) e.index (counts e.instance) its in
-      let long : length (drawn drawing e.instance) ≡ length (c e.instance) = ap length (is.drawn.order e.instance) ∙ length-range_with_len 1 (length (c e.instance)) in
+      let its = has_laid_out drawing i (rows.Event e) e.instance e.index here (subst (λ l. Has l e.index) (sym (number_on-own e.instance e refl)) (inl refl)) in
+      let w = counts_has 1 (laid_out drawing e.instance) e.index (counts e.instance) its in
+      let long : length (laid_out drawing e.instance) ≡ length (c e.instance) = ap length (is.laid_out.order e.instance) ∙ length-range_with_len 1 (length (c e.instance)) in
       let low = w.0 in
       let high = w.1 in
       let m = ith_at (c e.instance) e.index low (omega arith) in

@@ -18,12 +18,12 @@ use Rattle.texts.specs.declared.bytes.place.Place.{Place}
 use Rattle.diagram_round_trip.proofs.Lists.{get_front, get_seam, no_place, its_place}
 use Rattle.diagram_round_trip.proofs.MscLemmas.{Placed, arc_by, arc_of, arcs_of, Entity, entity_of}
 use Rattle.diagram_round_trip.proofs.PlainBytes.{ArePlain, says_itself, plain_both}
-use Rattle.diagram_round_trip.proofs.Said.{Said, Sent, Told, told_words}
+use Rattle.diagram_round_trip.proofs.ExportedRows.{ExportedRow, Sent, RaceNote, race_words}
 
 -- what is said has participants of so many, a message two
-abbrev pub IsSaid : ℕ → Said → Type 0
-IsSaid n (Sent is_lost from to name) = (from < n) × (to < n) × (from ≡ to → ⊥) × IsName name × ArePlain name
-IsSaid n (Told at words) = (at < n) × ArePlain words
+abbrev pub IsExported : ℕ → ExportedRow → Type 0
+IsExported n (Sent is_lost from to name) = (from < n) × (to < n) × (from ≡ to → ⊥) × IsName name × ArePlain name
+IsExported n (RaceNote at words) = (at < n) × ArePlain words
 
 -- names that differ
 differ : (names : List (List ℕ)) (i j : ℕ) (one other : List ℕ) → AreNames names → slice_get names i ≡ Some one → slice_get names j ≡ Some other → (i ≡ j → ⊥) → bytes_eq one other ≡ false
@@ -82,36 +82,36 @@ arrow_by row is_lost from to name place = record {
   is_lost = is_lost;
 }
 
-abbrev pub item_by : ℕ → Said → Place → ItemView
+abbrev pub item_by : ℕ → ExportedRow → Place → ItemView
 item_by row (Sent is_lost from to name) place = AnArrow (arrow_by row is_lost from to name place)
-item_by row (Told at words) place = ANote (record { place = place_of place; row = row; participant = at; text = told_words words })
+item_by row (RaceNote at words) place = ANote (record { place = place_of place; row = row; participant = at; text = race_words words })
 
 abbrev pub items_from : ℕ → List Placed → List ItemView
 items_from row [] = []
 items_from row (t ∷ placed) = item_by row t.0 t.1 ∷ items_from (row + 1) placed
 
-arc_drawn : (names : List (List ℕ)) (last : ℕ) (s : Said) (place : Place) (st : RowsView) → AreNames names → IsSaid (length names) s
+arc_built : (names : List (List ℕ)) (last : ℕ) (s : ExportedRow) (place : Place) (st : RowsView) → AreNames names → IsExported (length names) s
     → with_arc names last (arc_by names s place) st ≡ Ok (record { row = st.row + 1; items = st.items ++ item_by st.row s place ∷ []; left_out = st.left_out })
 unfolding with_arc
-arc_drawn names last (Sent true from to name) place st are is =
+arc_built names last (Sent true from to name) place st are is =
     let level : st.row + min 0 (last - st.row) ≡ st.row = omega arith in
     rw (known names from are is.0, known names to are is.1, ne_eqb from to is.2, says_itself name is.4, level) refl
-arc_drawn names last (Sent false from to name) place st are is =
+arc_built names last (Sent false from to name) place st are is =
     let level : st.row + min 0 (last - st.row) ≡ st.row = omega arith in
     rw (known names from are is.0, known names to are is.1, ne_eqb from to is.2, says_itself name is.4, level) refl
-arc_drawn names last (Told at words) place st are is =
+arc_built names last (RaceNote at words) place st are is =
     let same : (at == at) ≡ true = grind (arith, nat_tests) in
-    rw (known names at are is.0, same, says_itself (told_words words) (plain_both (told_words []) words refl is.1)) refl
+    rw (known names at are is.0, same, says_itself (race_words words) (plain_both (race_words []) words refl is.1)) refl
 
-arcs_drawn : (names : List (List ℕ)) (last : ℕ) (placed : List Placed) (st : RowsView) → AreNames names → Each (λ (t : Placed). IsSaid (length names) t.0) placed
+arcs_built : (names : List (List ℕ)) (last : ℕ) (placed : List Placed) (st : RowsView) → AreNames names → Each (λ (t : Placed). IsExported (length names) t.0) placed
     → with_arcs names last (map (arc_of names) placed) st ≡ Ok (record { row = st.row + length placed; items = st.items ++ items_from st.row placed; left_out = st.left_out })
-arcs_drawn names last [] st are all =
+arcs_built names last [] st are all =
     let level : st.row + 0 ≡ st.row = omega arith in
     rw (append-nil st.items, level) refl
-arcs_drawn names last (t ∷ placed) st are all =
+arcs_built names last (t ∷ placed) st are all =
     let far : st.row + 1 + length placed ≡ st.row + suc (length placed) = omega arith in
-    rw (arc_drawn names last t.0 t.1 st are all.0)
-    (arcs_drawn names last placed (record { row = st.row + 1; items = st.items ++ item_by st.row t.0 t.1 ∷ []; left_out = st.left_out }) are all.1
+    rw (arc_built names last t.0 t.1 st are all.0)
+    (arcs_built names last placed (record { row = st.row + 1; items = st.items ++ item_by st.row t.0 t.1 ∷ []; left_out = st.left_out }) are all.1
     ∙ ap (λ l. Ok (record { row = st.row + 1 + length placed; items = l; left_out = st.left_out })) (append_assoc st.items (item_by st.row t.0 t.1 ∷ []) (items_from (st.row + 1) placed))
     ∙ ap (λ n. Ok (record { row = n; items = st.items ++ item_by st.row t.0 t.1 ∷ items_from (st.row + 1) placed; left_out = st.left_out })) far)
 
@@ -119,19 +119,19 @@ abbrev pub rows_behind : List Placed → ℕ
 rows_behind [] = 1
 rows_behind (t ∷ placed) = 0 + length (t ∷ placed)
 
-rows_drawn : (names : List (List ℕ)) (place : Place) (placed : List Placed) → AreNames names → Each (λ (t : Placed). IsSaid (length names) t.0) placed
+rows_built : (names : List (List ℕ)) (place : Place) (placed : List Placed) → AreNames names → Each (λ (t : Placed). IsExported (length names) t.0) placed
     → rows_of names [] (arcs_of names place placed) ≡ Ok (record { row = rows_behind placed; items = items_from 0 placed; left_out = [] })
 unfolding rows_of with_arc
-rows_drawn names place [] are all = refl
-rows_drawn names place (t ∷ placed) are all =
-    arcs_drawn names (last_row (map (arc_of names) (t ∷ placed))) (t ∷ placed) (record { row = 0; items = []; left_out = [] }) are all
+rows_built names place [] are all = refl
+rows_built names place (t ∷ placed) are all =
+    arcs_built names (last_row (map (arc_of names) (t ∷ placed))) (t ∷ placed) (record { row = 0; items = []; left_out = [] }) are all
 
 -- the diagram of an export
-pub diagram_drawn : (names : List (List ℕ)) (place : Place) (entities : List Entity) (placed : List Placed) → AreNames names → 2 ≤ length names → names_in entities ≡ names
-    → Each (λ (t : Placed). IsSaid (length names) t.0) placed
+pub diagram_built : (names : List (List ℕ)) (place : Place) (entities : List Entity) (placed : List Placed) → AreNames names → 2 ≤ length names → names_in entities ≡ names
+    → Each (λ (t : Placed). IsExported (length names) t.0) placed
     → diagram_by (Ok (record { entities = map entity_of entities; arcs = arcs_of names place placed }))
     ≡ Ok (record { participants = participants_of entities; items = items_from 0 placed; left_out = [] })
 unfolding known_of
-diagram_drawn names place entities placed are several named all =
+diagram_built names place entities placed are several named all =
     let many : nat_lt (length names) 2 ≡ false = grind (arith, nat_tests) in
-    rw (known_all names [] [] entities are (sym named), named, many, rows_drawn names place placed are all) refl
+    rw (known_all names [] [] entities are (sym named), named, many, rows_built names place placed are all) refl

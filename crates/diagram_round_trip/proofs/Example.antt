@@ -21,7 +21,7 @@ use Rattle.chart.specs.Reports.{ReportView, AreReports, IsReportIn}
 use Rattle.closure.specs.Faults.{place_of}
 use Rattle.diagram_export.specs.Preparing.{notes_of, starts_from}
 use Rattle.chart_layout.specs.Ends.{IsEnd, AreEnds, end_of}
-use Rattle.chart_layout.specs.Layouts.{drawn, IsDrawing}
+use Rattle.chart_layout.specs.Layouts.{laid_out, IsDrawing}
 use Rattle.chart_layout.specs.declared.row.Row.{Row}
 use Rattle.chart_layout.specs.declared.row.Row.TheVariants as rows
 use Rattle.diagram_round_trip.specs.Laws.{SomeLevelExport}
@@ -177,7 +177,7 @@ distinct = record { limit = omega arith; distinct = go }
     go (suc zero) (suc (suc j)) w e f = absurd (none-some w f)
     go (suc (suc i)) j w e f = absurd (none-some w e)
 
-order : (p : ℕ) → drawn drawing p ≡ range_with_len 1 (length (c p))
+order : (p : ℕ) → laid_out drawing p ≡ range_with_len 1 (length (c p))
 order zero = refl
 order (suc zero) = refl
 order (suc (suc zero)) = refl
@@ -222,7 +222,7 @@ level_chart = record {
     all_of (λ m. region_of m ≡ 0) first_line.events (refl, (refl, tt)),
     (all_of (λ m. region_of m ≡ 0) second_line.events (refl, tt), tt),
   );
-  drawn = drawing_is;
+  laid_out = drawing_is;
   level = λ i e f. subst (λ x. IsEnd c (place_of x) None) (sym (alone i e f).1) lost_end;
 }
 

@@ -26,7 +26,7 @@ use Rattle.diagram_round_trip.proofs.ChartFacts.{message, lost, counts}
 use Rattle.diagram_round_trip.proofs.LineLemmas.{events_on}
 use Rattle.diagram_round_trip.proofs.Lists.{get_seam, all_at}
 use Rattle.diagram_round_trip.proofs.RowSayings.{event_at, view, RowSays, message_says, lost_says}
-use Rattle.diagram_round_trip.proofs.Said.{Said, quote, all_text, rows_text as said_rows, others_text, whole_text}
+use Rattle.diagram_round_trip.proofs.ExportedRows.{ExportedRow, quote, all_text, rows_text as exported_rows, others_text, whole_text}
 use Rattle.diagram_round_trip.proofs.WholeText.{RowsSay, rows_say}
 
 -- Reports are at instances.
@@ -134,39 +134,39 @@ module _ (first : List ℕ) (others : List (List ℕ)) (lines : List LineView) (
 
   row_says : (i : ℕ) (row : Row) → slice_get drawing i ≡ Some row → RowSays names lines drawing reports ends notes starts row
   row_says i (rows.Message s r) here =
-      message_says names lines drawing reports ends notes starts are_ends is s r (message names lines drawing is s r (is.drawn.level i s r here)) (λ report e. at_instance r report e)
+      message_says names lines drawing reports ends notes starts are_ends is s r (message names lines drawing is s r (is.laid_out.level i s r here)) (λ report e. at_instance r report e)
   row_says i (rows.Event e) here =
       lost_says names lines drawing reports ends notes starts are_ends is e (lost names lines drawing is i e here) (is.level i e here) (λ report f. at_instance e report f)
 
   pub all_say : RowsSay names lines drawing reports ends notes starts is drawing
   all_say =
-      rows_say names lines drawing reports ends notes starts is drawing (λ p. 1) (counts names lines drawing is) is.level (λ i s r here. is.drawn.level i s r here) row_says
+      rows_say names lines drawing reports ends notes starts is drawing (λ p. 1) (counts names lines drawing is) is.level (λ i s r here. is.laid_out.level i s r here) row_says
 
   -- the events of each line
-  pub events_all : (p : ℕ) → events_on p all_say.said ≡ chart_lines lines p
-  events_all p = all_say.events p ∙ ap (map (event_at (chart_lines lines) p)) (is.drawn.order p) ∙ reads_from (chart_lines lines p) [] (chart_lines lines p) 1 refl refl
+  pub events_all : (p : ℕ) → events_on p all_say.exported ≡ chart_lines lines p
+  events_all p = all_say.events p ∙ ap (map (event_at (chart_lines lines) p)) (is.laid_out.order p) ∙ reads_from (chart_lines lines p) [] (chart_lines lines p) 1 refl refl
 
-  rows_spelled : (some : List Row) (said : List Said) (rest : List ℕ) → ((more : List ℕ) → flat_map (row_text w) some ++ more ≡ all_text names said more) → (length some ≡ 0 → said ≡ []) → (0 < length some → (s : Said) × (more : List Said) × (said ≡ s ∷ more))
-      → cond (length some == 0) space (flat_map (row_text w) some) ++ rest ≡ said_rows names said rest
+  rows_spelled : (some : List Row) (exported : List ExportedRow) (rest : List ℕ) → ((more : List ℕ) → flat_map (row_text w) some ++ more ≡ all_text names exported more) → (length some ≡ 0 → exported ≡ []) → (0 < length some → (s : ExportedRow) × (more : List ExportedRow) × (exported ≡ s ∷ more))
+      → cond (length some == 0) space (flat_map (row_text w) some) ++ rest ≡ exported_rows names exported rest
   unfolding space
-  rows_spelled [] said rest text none one = ap (λ s. said_rows names s rest) (sym (none refl))
-  rows_spelled (row ∷ some) said rest text none one =
+  rows_spelled [] exported rest text none one = ap (λ s. exported_rows names s rest) (sym (none refl))
+  rows_spelled (row ∷ some) exported rest text none one =
       let more = one (omega arith) in
       ap (λ b. cond b space (flat_map (row_text w) (row ∷ some)) ++ rest) (ne_eqb (length (row ∷ some)) 0 (λ e. omega arith))
-      ∙ text rest ∙ ap (λ s. all_text names s rest) more.2 ∙ ap (λ s. said_rows names s rest) (sym more.2)
+      ∙ text rest ∙ ap (λ s. all_text names s rest) more.2 ∙ ap (λ s. exported_rows names s rest) (sym more.2)
 
   -- the text
-  pub whole_is : export_text w ≡ whole_text first others all_say.said
+  pub whole_is : export_text w ≡ whole_text first others all_say.exported
   unfolding export_text start end participants_end
   whole_is =
       let many = is.many in
-      ap (λ x. codes "msc {\n" ++ (flat_map (participant w) lines ++ (codes ";\n" ++ x))) (rows_spelled drawing all_say.said (codes "}\n") all_say.text all_say.none all_say.one)
+      ap (λ x. codes "msc {\n" ++ (flat_map (participant w) lines ++ (codes ";\n" ++ x))) (rows_spelled drawing all_say.exported (codes "}\n") all_say.text all_say.none all_say.one)
       ∙ ap (λ x. codes "msc {\n" ++ x)
-      (all_declared names lines drawing reports ends notes starts lines first others (said_rows names all_say.said (codes "}\n")) (omega arith) (λ j l e. is.chart.numbered j l e) (λ j n e. named_here names j n e))
+      (all_declared names lines drawing reports ends notes starts lines first others (exported_rows names all_say.exported (codes "}\n")) (omega arith) (λ j l e. is.chart.numbered j l e) (λ j n e. named_here names j n e))
 
   -- the lines of what is said
-  pub line_said : (ends_of_all : List End) → ((p : ℕ) → line_of p ends_of_all ≡ record { instance = p; events = events_on p all_say.said }) → lines_from ends_of_all 1 (length names) ≡ lines
-  line_said ends_of_all are =
+  pub line_exported : (ends_of_all : List End) → ((p : ℕ) → line_of p ends_of_all ≡ record { instance = p; events = events_on p all_say.exported }) → lines_from ends_of_all 1 (length names) ≡ lines
+  line_exported ends_of_all are =
       lines_all ends_of_all 1 (length names) lines (sym is.many)
       (λ i l e. ap (λ p. line_of p ends_of_all) (omega arith) ∙ are (suc i) ∙ ap (λ x. record { instance = suc i; events = x }) (events_all (suc i) ∙ ap (λ (x : LineView). x.events) (get_or_from_slice_get lines i l (record { instance = suc i; events = [] }) e))
       ∙ ap (λ p. record { instance = p; events = l.events }) (sym (is.chart.numbered i l e)))

@@ -7,7 +7,7 @@ use Rattle.chart.specs.declared.instance.EventNo.{EventNo}
 use Rattle.chart.specs.Charts.{LineView, chart_lines}
 use Rattle.chart.specs.Reports.{ReportView, AreReports, has_races}
 use Rattle.closure.specs.Faults.{place_of}
-use Rattle.diagrams.specs.Drawing.{DrawnView, ◌>>=◌}
+use Rattle.diagrams.specs.Drawing.{DiagramChartView, ◌>>=◌}
 use Rattle.diagram_import.specs.Importing.{behind_mark, first_place, first_overtaking, strictly_at, strictly, imported_from, imported}
 use Rattle.diagram_import.specs.Readers.{tool_in, diagram_in, refused_as, of_mscgen}
 use Rattle.diagram_import.specs.Refusals.{NoChart}
@@ -15,23 +15,23 @@ use Rattle.diagram_import.specs.Skipping.{blanked_from, line_behind}
 use Rattle.diagram_export.specs.Exports.{ExportView, note_of, report_at, in_row}
 use Rattle.diagram_export.specs.ExportText.{export_text}
 use Rattle.diagram_export.specs.Preparing.{IsExportOf, notes_of, notes_from, starts_from}
-use Rattle.diagram_join.specs.Drawing.{JoinedDrawnView, alone, drawn_joined}
+use Rattle.diagram_join.specs.Drawing.{JoinedChartView, alone, built_joined}
 use Rattle.chart_layout.specs.Ends.{AreEnds}
 use Rattle.chart_layout.specs.Layouts.{row_of}
 use Rattle.chart_layout.specs.declared.row.Row.{Row}
 use Rattle.diagrams.specs.Messages.Each.{Each}
 use Rattle.diagram_tool.specs.Detection.Gaps.{gap_length, gaps_length}
-use Rattle.diagram_tool.specs.Detection.Telling.{begins_word, tool_of, told_tool}
+use Rattle.diagram_tool.specs.Detection.Detection.{begins_word, tool_of, detected_tool}
 use Rattle.diagram_tool.specs.declared.Tool.{Tool}
 use Rattle.diagram_tool.specs.declared.Tool.TheVariants.{Mscgen}
-use Rattle.diagram_round_trip.specs.Laws.{all_lines, IsToldOr, IsChartOf, MscgenRoundTrip}
+use Rattle.diagram_round_trip.specs.Laws.{all_lines, IsDetectedOr, IsChartOf, MscgenRoundTrip}
 use Rattle.diagram_round_trip.specs.LevelCharts.{IsLevelChart}
 use Rattle.diagram_round_trip.proofs.Exported.{whole_is}
-use Rattle.diagram_round_trip.proofs.RoundTrip.{says, reads, diagram, out, diagram_read, chart_drawn, names_out, lines_out, renamed_out, notes_out, left_out, none_noted}
+use Rattle.diagram_round_trip.proofs.RoundTrip.{says, reads, diagram, out, diagram_read, built_chart, names_out, lines_out, renamed_out, notes_out, left_out, none_noted}
 use Rattle.diagram_round_trip.proofs.Lists.{all_of}
 use Rattle.diagram_round_trip.proofs.RowSayings.{view, IsSent}
-use Rattle.diagram_round_trip.proofs.Untold.{IsNote}
-use Rattle.diagram_round_trip.proofs.Said.{whole_text}
+use Rattle.diagram_round_trip.proofs.Renames.{IsNote}
+use Rattle.diagram_round_trip.proofs.ExportedRows.{whole_text}
 
 -- A text whose lines are all read.
 
@@ -86,11 +86,11 @@ module _ (first : List ℕ) (others : List (List ℕ)) (lines : List LineView) (
   abbrev text : List ℕ
   text = export_text w
 
-  abbrev chart : DrawnView
+  abbrev chart : DiagramChartView
   chart = out first others lines drawing reports ends notes starts is are_ends are_reports
 
   abbrev spelled : List ℕ
-  spelled = whole_text first others (says first others lines drawing reports ends notes starts is are_ends are_reports).said
+  spelled = whole_text first others (says first others lines drawing reports ends notes starts is are_ends are_reports).exported
 
   text_is : text ≡ spelled
   text_is = whole_is first others lines drawing reports ends notes starts is are_ends are_reports
@@ -99,14 +99,14 @@ module _ (first : List ℕ) (others : List (List ℕ)) (lines : List LineView) (
   unfolding behind_mark
   unmarked = subst (λ t. behind_mark t ≡ t) (sym text_is) refl
 
-  tells : told_tool text ≡ Ok Mscgen
-  unfolding told_tool gaps_length gap_length tool_of begins_word
-  tells = subst (λ t. told_tool t ≡ Ok Mscgen) (sym text_is) refl
+  detects : detected_tool text ≡ Ok Mscgen
+  unfolding detected_tool gaps_length gap_length tool_of begins_word
+  detects = subst (λ t. detected_tool t ≡ Ok Mscgen) (sym text_is) refl
 
-  tool_is : (tool : Option Tool) → IsToldOr Mscgen tool → tool_in tool text ≡ Ok Mscgen
+  tool_is : (tool : Option Tool) → IsDetectedOr Mscgen tool → tool_in tool text ≡ Ok Mscgen
   unfolding tool_in
   tool_is tool (inl named) = ap (λ t. tool_in t text) named
-  tool_is tool (inr none) = ap (λ t. tool_in t text) none ∙ ap (refused_as _) tells
+  tool_is tool (inr none) = ap (λ t. tool_in t text) none ∙ ap (refused_as _) detects
 
   diagram_is : diagram_in Mscgen text ≡ Ok (diagram first others lines drawing reports ends notes starts is are_ends are_reports)
   unfolding diagram_in
@@ -123,7 +123,7 @@ module _ (first : List ℕ) (others : List (List ℕ)) (lines : List LineView) (
       ∙ none_noted (reads first others lines drawing reports ends notes starts is are_ends are_reports).placed []
       (subst (Each IsSent) (sym (reads first others lines drawing reports ends notes starts is are_ends are_reports).same) ((says first others lines drawing reports ends notes starts is are_ends are_reports).quiet (no_note none)))
 
-  abbrev joined : JoinedDrawnView
+  abbrev joined : JoinedChartView
   joined = record { drawn = chart; overtaking = [] }
 
   strict : (is_strict : Bool) → (is_strict ≡ true → has_races reports ≡ false) → strictly is_strict text joined ≡ Ok joined
@@ -131,20 +131,20 @@ module _ (first : List ℕ) (others : List (List ℕ)) (lines : List LineView) (
   strict true none = ap (λ l. strictly_at text joined (first_overtaking (first_place None l) [])) (nothing_left (none refl))
   strict false none = refl
 
-  pub comes_back : (tool : Option Tool) → IsToldOr Mscgen tool → (is_strict : Bool) → (is_strict ≡ true → has_races reports ≡ false) → IsChartOf names lines (imported tool text (all_lines is_strict))
-  unfolding imported imported_from drawn_joined
-  comes_back tool told is_strict none = record {
+  pub comes_back : (tool : Option Tool) → IsDetectedOr Mscgen tool → (is_strict : Bool) → (is_strict ≡ true → has_races reports ≡ false) → IsChartOf names lines (imported tool text (all_lines is_strict))
+  unfolding imported imported_from built_joined
+  comes_back tool race_notes is_strict none = record {
     drawn = chart;
     is =
         ap (λ t. imported_from tool [] is_strict (behind_mark t)) (unskipped 1 text)
         ∙ ap (imported_from tool [] is_strict) unmarked
-        ∙ ap (λ own. own >>= (λ t. diagram_in t text >>= (λ d. refused_as NoChart (drawn_joined d []) >>= (λ c. strictly is_strict text c)))) (tool_is tool told)
-        ∙ ap (λ read. read >>= (λ d. refused_as NoChart (drawn_joined d []) >>= (λ c. strictly is_strict text c))) diagram_is
-        ∙ ap (λ d. refused_as NoChart (alone d) >>= (λ c. strictly is_strict text c)) (chart_drawn first others lines drawing reports ends notes starts is are_ends are_reports)
+        ∙ ap (λ own. own >>= (λ t. diagram_in t text >>= (λ d. refused_as NoChart (built_joined d []) >>= (λ c. strictly is_strict text c)))) (tool_is tool race_notes)
+        ∙ ap (λ read. read >>= (λ d. refused_as NoChart (built_joined d []) >>= (λ c. strictly is_strict text c))) diagram_is
+        ∙ ap (λ d. refused_as NoChart (alone d) >>= (λ c. strictly is_strict text c)) (built_chart first others lines drawing reports ends notes starts is are_ends are_reports)
         ∙ strict is_strict none;
     same_names = names_out first others lines drawing reports ends notes starts is are_ends are_reports;
     same_lines = lines_out first others lines drawing reports ends notes starts is are_ends are_reports;
-    untold = renamed_out first others lines drawing reports ends notes starts is are_ends are_reports;
+    no_tool = renamed_out first others lines drawing reports ends notes starts is are_ends are_reports;
     notes = all_of IsNote chart.left_out (notes_out first others lines drawing reports ends notes starts is are_ends are_reports);
   }
 
@@ -163,10 +163,10 @@ view_is its_names lines rows reports ends v e =
 
 -- the law
 pub mscgen_round_trip : MscgenRoundTrip
-mscgen_round_trip [] lines rows reports ends v e tool told is_strict none =
+mscgen_round_trip [] lines rows reports ends v e tool race_notes is_strict none =
     let several = e.level.chart.several in
     let many = e.level.many in
     absurd (omega arith)
-mscgen_round_trip (first ∷ others) lines rows reports ends v e tool told is_strict none =
+mscgen_round_trip (first ∷ others) lines rows reports ends v e tool race_notes is_strict none =
     subst (λ x. IsChartOf (first ∷ others) lines (imported tool (export_text x) (all_lines is_strict))) (sym (view_is (first ∷ others) lines rows reports ends v e.export))
-    (comes_back first others lines rows reports ends e.level e.ends_are e.reports_are tool told is_strict none)
+    (comes_back first others lines rows reports ends e.level e.ends_are e.reports_are tool race_notes is_strict none)

@@ -1,10 +1,10 @@
 pub mod Lists
 pub mod PlainBytes
-pub mod Said
+pub mod ExportedRows
 pub mod TokenLemmas
 pub mod MscLemmas
 pub mod DiagramLemmas
-pub mod DrawnLemmas
+pub mod DiagramChartLemmas
 pub mod LineLemmas
 pub mod ChartFacts
 pub mod RowSayings
@@ -13,5 +13,5 @@ pub mod Exported
 pub mod RoundTrip
 pub mod Imported
 pub mod Example
-pub mod Untold
+pub mod Renames
 pub mod AtOnce

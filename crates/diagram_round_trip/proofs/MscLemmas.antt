@@ -10,14 +10,14 @@ use Rattle.diagram_mscgen.specs.Grammar.Words.{box_of, attribute_name, is_one_of
 use Rattle.texts.specs.Bytes.Words.{is_spelled}
 use Rattle.diagram_mscgen.specs.declared.grammar.arc.ArcKind.TheVariants as arcs
 use Rattle.texts.specs.declared.bytes.place.Place.{Place}
-use Rattle.diagram_round_trip.proofs.Said.{Said, Sent, Told, told_words, relation, label_kinds, said_kinds, all_kinds, rows_kinds, others_kinds, whole_kinds}
+use Rattle.diagram_round_trip.proofs.ExportedRows.{ExportedRow, Sent, RaceNote, race_words, relation, label_kinds, exported_kinds, all_kinds, rows_kinds, others_kinds, whole_kinds}
 use Rattle.diagram_round_trip.proofs.TokenLemmas.{AreKinds}
 
 -- what a row says, where it stands
 abbrev pub Placed : Type 0
-Placed = Said × Place
+Placed = ExportedRow × Place
 
-abbrev pub arc_by : List (List ℕ) → Said → Place → ArcView
+abbrev pub arc_by : List (List ℕ) → ExportedRow → Place → ArcView
 arc_by names (Sent is_lost from to name) place = record {
   kind = cond is_lost arcs.Lost arcs.Message;
   from = name_at names (suc from);
@@ -27,11 +27,11 @@ arc_by names (Sent is_lost from to name) place = record {
   ends_row = true;
   place = place;
 }
-arc_by names (Told at words) place = record {
+arc_by names (RaceNote at words) place = record {
   kind = arcs.Note;
   from = name_at names (suc at);
   to = name_at names (suc at);
-  label = Some (told_words words);
+  label = Some (race_words words);
   skip = 0;
   ends_row = true;
   place = place;
@@ -54,7 +54,7 @@ abbrev pub entity_of : Entity → EntityView
 entity_of e = record { word = e.name; label = None; place = e.place }
 
 -- what is read, and the tokens behind it
-record ReadsArc (names : List (List ℕ)) (s : Said) (more : List KindView) (tokens : Tokens) : Type 0 where
+record ReadsArc (names : List (List ℕ)) (s : ExportedRow) (more : List KindView) (tokens : Tokens) : Type 0 where
   pub place : Place
   pub rest : Tokens
   pub behind : AreKinds more rest
@@ -70,19 +70,19 @@ unfolding arc_in ends_in pair_in relation_in partner_in attributes_in attributes
 sent_read true from to name p q r s t u v w x a b c d e f g h i rest = refl
 sent_read false from to name p q r s t u v w x a b c d e f g h i rest = refl
 
-told_read : (at words : List ℕ) (p q r s t u v w x : Place) (a b c d e f g h i : List ℕ) (rest : Tokens)
+noted_read : (at words : List ℕ) (p q r s t u v w x : Place) (a b c d e f g h i : List ℕ) (rest : Tokens)
     → arc_in (record { kind = Text at; place = p; rest = a } ∷ record { kind = Word (codes "note"); place = q; rest = b } ∷ record { kind = Text at; place = r; rest = c }
     ∷ record { kind = Mark 91; place = s; rest = d } ∷ record { kind = Word (codes "label"); place = t; rest = e } ∷ record { kind = Mark 61; place = u; rest = f }
     ∷ record { kind = Text words; place = v; rest = g } ∷ record { kind = Mark 93; place = w; rest = h } ∷ record { kind = Mark 59; place = x; rest = i } ∷ rest)
     ≡ Ok (record { kind = arcs.Note; from = at; to = at; label = Some words; skip = 0; ends_row = true; place = p }, rest)
 unfolding arc_in ends_in pair_in relation_in partner_in attributes_in attributes_at attribute_in attribute_name_in behind_mark skip_mark name_in next_word skip_spacer end_in attribute_name box_of is_one_of is_spelled
-told_read at words p q r s t u v w x a b c d e f g h i rest = refl
+noted_read at words p q r s t u v w x a b c d e f g h i rest = refl
 
-reads_arc : (names : List (List ℕ)) (s : Said) (more : List KindView) (tokens : Tokens) → AreKinds (said_kinds names s more) tokens → ReadsArc names s more tokens
+reads_arc : (names : List (List ℕ)) (s : ExportedRow) (more : List KindView) (tokens : Tokens) → AreKinds (exported_kinds names s more) tokens → ReadsArc names s more tokens
 reads_arc names (Sent is_lost from to name) more tokens (p, a, t1, e1, (q, b, t2, e2, (r, c, t3, e3, (s, d, t4, e4, (t, e, t5, e5, (u, f, t6, e6, (v, g, t7, e7, (w, h, t8, e8, (x, i, rest, e9, are))))))))) =
     rw (e1, e2, e3, e4, e5, e6, e7, e8, e9) (record { place = p; rest = rest; behind = are; shorter = omega arith; read = sent_read is_lost (name_at names (suc from)) (name_at names (suc to)) name p q r s t u v w x a b c d e f g h i rest })
-reads_arc names (Told at words) more tokens (p, a, t1, e1, (q, b, t2, e2, (r, c, t3, e3, (s, d, t4, e4, (t, e, t5, e5, (u, f, t6, e6, (v, g, t7, e7, (w, h, t8, e8, (x, i, rest, e9, are))))))))) =
-    rw (e1, e2, e3, e4, e5, e6, e7, e8, e9) (record { place = p; rest = rest; behind = are; shorter = omega arith; read = told_read (name_at names (suc at)) (told_words words) p q r s t u v w x a b c d e f g h i rest })
+reads_arc names (RaceNote at words) more tokens (p, a, t1, e1, (q, b, t2, e2, (r, c, t3, e3, (s, d, t4, e4, (t, e, t5, e5, (u, f, t6, e6, (v, g, t7, e7, (w, h, t8, e8, (x, i, rest, e9, are))))))))) =
+    rw (e1, e2, e3, e4, e5, e6, e7, e8, e9) (record { place = p; rest = rest; behind = are; shorter = omega arith; read = noted_read (name_at names (suc at)) (race_words words) p q r s t u v w x a b c d e f g h i rest })
 
 -- the brace is next, or it isn't
 brace_next : (rest : Tokens) → AreKinds (Mark 125 ∷ []) rest → is_last true rest ≡ true
@@ -93,20 +93,20 @@ text_next : (bytes : List ℕ) (more : List KindView) (rest : Tokens) → AreKin
 unfolding skip_mark
 text_next bytes more rest (p, t, us, e, are) = rw e refl
 
-said_next : (names : List (List ℕ)) (s : Said) (more : List KindView) (rest : Tokens) → AreKinds (said_kinds names s more) rest → is_last true rest ≡ false
-said_next names (Sent is_lost from to name) more rest are = text_next (name_at names (suc from)) (Sign (relation is_lost) ∷ Text (name_at names (suc to)) ∷ label_kinds name more) rest are
-said_next names (Told at words) more rest are = text_next (name_at names (suc at)) (Word (codes "note") ∷ Text (name_at names (suc at)) ∷ label_kinds (told_words words) more) rest are
+exported_next : (names : List (List ℕ)) (s : ExportedRow) (more : List KindView) (rest : Tokens) → AreKinds (exported_kinds names s more) rest → is_last true rest ≡ false
+exported_next names (Sent is_lost from to name) more rest are = text_next (name_at names (suc from)) (Sign (relation is_lost) ∷ Text (name_at names (suc to)) ∷ label_kinds name more) rest are
+exported_next names (RaceNote at words) more rest are = text_next (name_at names (suc at)) (Word (codes "note") ∷ Text (name_at names (suc at)) ∷ label_kinds (race_words words) more) rest are
 
-always : (names : List (List ℕ)) (s : Said) (place : Place) → (arc_by names s place).ends_row ≡ true
+always : (names : List (List ℕ)) (s : ExportedRow) (place : Place) → (arc_by names s place).ends_row ≡ true
 always names (Sent is_lost from to name) place = refl
-always names (Told at words) place = refl
+always names (RaceNote at words) place = refl
 
 -- the arcs that were read, and the brace behind them
-record ReadsArcs (names : List (List ℕ)) (said : List Said) (n : ℕ) (so_far : List ArcView) (tokens : Tokens) : Type 0 where
+record ReadsArcs (names : List (List ℕ)) (exported : List ExportedRow) (n : ℕ) (so_far : List ArcView) (tokens : Tokens) : Type 0 where
   pub placed : List Placed
   pub last : Tokens
   pub brace : AreKinds (Mark 125 ∷ []) last
-  pub same : map (λ (t : Placed). t.0) placed ≡ said
+  pub same : map (λ (t : Placed). t.0) placed ≡ exported
   pub read : arcs_from n so_far tokens ≡ Ok (so_far ++ map (arc_of names) placed, last)
 
 arc_last : (n : ℕ) (so_far : List ArcView) (tokens rest : Tokens) (a : ArcView) → arc_in tokens ≡ Ok (a, rest) → a.ends_row ≡ true → is_last true rest ≡ true
@@ -117,9 +117,9 @@ arc_on : (n : ℕ) (so_far : List ArcView) (tokens rest : Tokens) (a : ArcView) 
     → arcs_from (suc n) so_far tokens ≡ arcs_from n (so_far ++ a ∷ []) rest
 arc_on n so_far tokens rest a e ends last = rw (e, ends, last) refl
 
-reads_arcs : (names : List (List ℕ)) (s : Said) (said : List Said) (n : ℕ) (so_far : List ArcView) (tokens : Tokens) → length tokens < n
-    → AreKinds (all_kinds names (s ∷ said) (Mark 125 ∷ [])) tokens → ReadsArcs names (s ∷ said) n so_far tokens
-reads_arcs names s said zero so_far tokens enough are = absurd (omega arith)
+reads_arcs : (names : List (List ℕ)) (s : ExportedRow) (exported : List ExportedRow) (n : ℕ) (so_far : List ArcView) (tokens : Tokens) → length tokens < n
+    → AreKinds (all_kinds names (s ∷ exported) (Mark 125 ∷ [])) tokens → ReadsArcs names (s ∷ exported) n so_far tokens
+reads_arcs names s exported zero so_far tokens enough are = absurd (omega arith)
 reads_arcs names s [] (suc n) so_far tokens enough are =
     let first = reads_arc names s (Mark 125 ∷ []) tokens are in
     let t : Placed = (s, first.place) in
@@ -130,17 +130,17 @@ reads_arcs names s [] (suc n) so_far tokens enough are =
       same = refl;
       read = arc_last n so_far tokens first.rest (arc_of names t) first.read (always names s first.place) (brace_next first.rest first.behind);
     }
-reads_arcs names s (u ∷ said) (suc n) so_far tokens enough are =
-    let first = reads_arc names s (all_kinds names (u ∷ said) (Mark 125 ∷ [])) tokens are in
+reads_arcs names s (u ∷ exported) (suc n) so_far tokens enough are =
+    let first = reads_arc names s (all_kinds names (u ∷ exported) (Mark 125 ∷ [])) tokens are in
     let t : Placed = (s, first.place) in
     let shorter = first.shorter in
-    let others = reads_arcs names u said n (so_far ++ arc_of names t ∷ []) first.rest (omega arith) first.behind in
+    let others = reads_arcs names u exported n (so_far ++ arc_of names t ∷ []) first.rest (omega arith) first.behind in
     record {
       placed = t ∷ others.placed;
       last = others.last;
       brace = others.brace;
       same = ap (λ l. s ∷ l) others.same;
-      read = arc_on n so_far tokens first.rest (arc_of names t) first.read (always names s first.place) (said_next names u (all_kinds names said (Mark 125 ∷ [])) first.rest first.behind)
+      read = arc_on n so_far tokens first.rest (arc_of names t) first.read (always names s first.place) (exported_next names u (all_kinds names exported (Mark 125 ∷ [])) first.rest first.behind)
           ∙ others.read ∙ ap (λ l. Ok (l, others.last)) (append_assoc so_far (arc_of names t ∷ []) (map (arc_of names) others.placed));
     }
 
@@ -193,12 +193,12 @@ abbrev pub arcs_of : List (List ℕ) → Place → List Placed → List ArcView
 arcs_of names place [] = space_at place ∷ []
 arcs_of names place (t ∷ placed) = map (arc_of names) (t ∷ placed)
 
-record ReadsRows (names : List (List ℕ)) (said : List Said) (tokens : Tokens) : Type 0 where
+record ReadsRows (names : List (List ℕ)) (exported : List ExportedRow) (tokens : Tokens) : Type 0 where
   pub placed : List Placed
   pub place : Place
   pub last : Tokens
   pub brace : AreKinds (Mark 125 ∷ []) last
-  pub same : map (λ (t : Placed). t.0) placed ≡ said
+  pub same : map (λ (t : Placed). t.0) placed ≡ exported
   pub read : arcs_in tokens ≡ Ok (arcs_of names place placed, last)
 
 space_read : (tokens : Tokens) → AreKinds (Spacer ∷ Mark 59 ∷ Mark 125 ∷ []) tokens → (place : Place) × (last : Tokens) × AreKinds (Mark 125 ∷ []) last × (arcs_in tokens ≡ Ok (space_at place ∷ [], last))
@@ -206,10 +206,10 @@ unfolding arcs_in arc_in ends_in attributes_in behind_mark skip_mark name_in ski
 space_read tokens (p, a, t1, e1, (q, b, t2, e2, (r, c, rest, e3, are))) =
     rw (e1, e2, e3) (p, record { kind = Mark 125; place = r; rest = c } ∷ rest, (r, c, rest, refl, are), refl)
 
-rows_by : (names : List (List ℕ)) (tokens : Tokens) (s : Said) (said : List Said) (n : ℕ) → arcs_in tokens ≡ arcs_from n [] tokens → ReadsArcs names (s ∷ said) n [] tokens → ReadsRows names (s ∷ said) tokens
-rows_by names tokens s said n e reads = go reads.placed refl
+rows_by : (names : List (List ℕ)) (tokens : Tokens) (s : ExportedRow) (exported : List ExportedRow) (n : ℕ) → arcs_in tokens ≡ arcs_from n [] tokens → ReadsArcs names (s ∷ exported) n [] tokens → ReadsRows names (s ∷ exported) tokens
+rows_by names tokens s exported n e reads = go reads.placed refl
   where
-    go : (placed : List Placed) → reads.placed ≡ placed → ReadsRows names (s ∷ said) tokens
+    go : (placed : List Placed) → reads.placed ≡ placed → ReadsRows names (s ∷ exported) tokens
     go [] is = absurd (cc (ap (map (λ (t : Placed). t.0)) (sym is) ∙ reads.same))
     go (t ∷ placed) is = record {
       placed = t ∷ placed;
@@ -220,21 +220,21 @@ rows_by names tokens s said n e reads = go reads.placed refl
       read = e ∙ reads.read ∙ ap (λ l. Ok (map (arc_of names) l, reads.last)) is;
     }
 
-reads_rows : (names : List (List ℕ)) (said : List Said) (tokens : Tokens) → AreKinds (rows_kinds names said (Mark 125 ∷ [])) tokens → ReadsRows names said tokens
+reads_rows : (names : List (List ℕ)) (exported : List ExportedRow) (tokens : Tokens) → AreKinds (rows_kinds names exported (Mark 125 ∷ [])) tokens → ReadsRows names exported tokens
 unfolding arcs_in
 reads_rows names [] tokens are =
     let r = space_read tokens are in
     record { placed = []; place = r.0; last = r.1; brace = r.2; same = refl; read = r.3 }
-reads_rows names (s ∷ said) tokens are =
-    rows_by names tokens s said (suc (length tokens)) refl (reads_arcs names s said (suc (length tokens)) [] tokens (omega arith) are)
+reads_rows names (s ∷ exported) tokens are =
+    rows_by names tokens s exported (suc (length tokens)) refl (reads_arcs names s exported (suc (length tokens)) [] tokens (omega arith) are)
 
 -- what is read of the whole text
-pub record ReadsWhole (names : List (List ℕ)) (said : List Said) (tokens : Tokens) : Type 0 where
+pub record ReadsWhole (names : List (List ℕ)) (exported : List ExportedRow) (tokens : Tokens) : Type 0 where
   pub entities : List Entity
   pub placed : List Placed
   pub place : Place
   pub named : map (λ (e : Entity). e.name) entities ≡ names
-  pub same : map (λ (t : Placed). t.0) placed ≡ said
+  pub same : map (λ (t : Placed). t.0) placed ≡ exported
   pub read : msc_in tokens ≡ Ok (record { entities = map entity_of entities; arcs = arcs_of names place placed })
 
 end_read : (tokens : Tokens) → AreKinds (Mark 125 ∷ []) tokens → end_of tokens ≡ Ok tt
@@ -249,12 +249,12 @@ head_read first [] more tokens (p, a, t1, e1, (q, b, t2, e2, (r, c, t3, e3, (s, 
 head_read first (name ∷ names) more tokens (p, a, t1, e1, (q, b, t2, e2, (r, c, t3, e3, (s, d, rest, e4, are)))) =
     rw (e1, e2, e3, e4) (_, (r, c, _, refl, (s, d, rest, refl, are)), refl)
 
-pub reads_whole : (first : List ℕ) (others : List (List ℕ)) (said : List Said) (tokens : Tokens) → AreKinds (whole_kinds first others said) tokens → ReadsWhole (first ∷ others) said tokens
+pub reads_whole : (first : List ℕ) (others : List (List ℕ)) (exported : List ExportedRow) (tokens : Tokens) → AreKinds (whole_kinds first others exported) tokens → ReadsWhole (first ∷ others) exported tokens
 unfolding msc_in entities_in
-reads_whole first others said tokens are =
-    let head = head_read first others (rows_kinds (first ∷ others) said (Mark 125 ∷ [])) tokens are in
-    let entities = reads_entities first others (rows_kinds (first ∷ others) said (Mark 125 ∷ [])) (suc (length head.0)) [] head.0 (omega arith) head.1 in
-    let rows = reads_rows (first ∷ others) said entities.rest entities.behind in
+reads_whole first others exported tokens are =
+    let head = head_read first others (rows_kinds (first ∷ others) exported (Mark 125 ∷ [])) tokens are in
+    let entities = reads_entities first others (rows_kinds (first ∷ others) exported (Mark 125 ∷ [])) (suc (length head.0)) [] head.0 (omega arith) head.1 in
+    let rows = reads_rows (first ∷ others) exported entities.rest entities.behind in
     record {
       entities = entities.entities;
       placed = rows.placed;

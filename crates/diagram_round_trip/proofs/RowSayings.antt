@@ -17,7 +17,7 @@ use Rattle.chart.specs.Names.{IsName}
 use Rattle.closure.specs.Faults.{place_of}
 use Rattle.diagram_export.specs.Exports.{ExportView, event_of, end_of, note_of}
 use Rattle.diagram_export.specs.ExportText.{counted, note_text, noted, row_text}
-use Rattle.diagram_export.specs.Sayings.{level, alone as stands_alone, sent as said_sent}
+use Rattle.diagram_export.specs.Sayings.{level, alone as stands_alone, sent as exported_sent}
 use Rattle.diagram_export.specs.Spelling.{indent, arrow_sign, lost_sign, label_start, label_end, quoted, arrow, whole_arrow, note_front, between, note_start, races, saying_text}
 use Rattle.diagram_export.specs.Words.{spelled}
 use Rattle.chart_layout.specs.Ends.{IsEnd, AreEnds, end_of as other_end}
@@ -31,11 +31,11 @@ use Rattle.diagram_export.specs.Earlier.{sent_to, received_from, event_words, ev
 use Rattle.diagram_tool.specs.declared.Tool.TheVariants.{Mscgen}
 use Rattle.diagram_round_trip.specs.LevelCharts.{IsLevelChart}
 use Rattle.diagram_round_trip.proofs.ChartFacts.{IsMessage, IsLost, on_line}
-use Rattle.diagram_round_trip.proofs.DiagramLemmas.{IsSaid}
+use Rattle.diagram_round_trip.proofs.DiagramLemmas.{IsExported}
 use Rattle.diagram_round_trip.proofs.LineLemmas.{is_taken, StaysLost, event_on}
 use Rattle.diagram_round_trip.proofs.Lists.{each_of, all_at}
 use Rattle.diagram_round_trip.proofs.PlainBytes.{ArePlain, is_plain, plain_byte, plain_all, plain_both}
-use Rattle.diagram_round_trip.proofs.Said.{Said, Sent, Told, said_text, all_text, name_is_plain}
+use Rattle.diagram_round_trip.proofs.ExportedRows.{ExportedRow, Sent, RaceNote, exported_text, all_text, name_is_plain}
 
 -- Words of races are plain.
 
@@ -111,13 +111,13 @@ words_of w report = amount (counted report) ++ ranges_named w (ranges_of report.
 plain_words : (w : ExportView) → Names w → (report : ReportView) → ArePlain (words_of w report)
 plain_words w named report = plain_both (amount (counted report)) (ranges_named w (ranges_of report.earlier)) (plain_amount (counted report)) (plain_ranges w named (ranges_of report.earlier))
 
-abbrev pub IsTold : Said → Type 0
-IsTold (Sent is_lost from to name) = ⊥
-IsTold (Told at words) = Unit {0}
+abbrev pub IsRaceNote : ExportedRow → Type 0
+IsRaceNote (Sent is_lost from to name) = ⊥
+IsRaceNote (RaceNote at words) = Unit {0}
 
-abbrev pub IsSent : Said → Type 0
+abbrev pub IsSent : ExportedRow → Type 0
 IsSent (Sent is_lost from to name) = Unit {0}
-IsSent (Told at words) = ⊥
+IsSent (RaceNote at words) = ⊥
 
 -- the event of p's line with this number
 abbrev pub event_at : Chart → ℕ → ℕ → Event
@@ -170,33 +170,33 @@ module _ (names : List (List ℕ)) (lines : List LineView) (drawing : List Row) 
   v = view names lines drawing reports ends notes starts
 
   -- a message's line, and a lost one's
-  arrow_said : (is_lost : Bool) (from to : ℕ) (name rest : List ℕ)
-      → whole_arrow v (cond is_lost (lost_sign Mscgen) (arrow_sign Mscgen)) (suc from) (suc to) name ++ rest ≡ said_text names (Sent is_lost from to name) rest
+  arrow_exported : (is_lost : Bool) (from to : ℕ) (name rest : List ℕ)
+      → whole_arrow v (cond is_lost (lost_sign Mscgen) (arrow_sign Mscgen)) (suc from) (suc to) name ++ rest ≡ exported_text names (Sent is_lost from to name) rest
   unfolding whole_arrow arrow indent quoted spelled lost_sign arrow_sign label_start label_end
-  arrow_said true from to name rest = joined_arrow (codes "  ") (codes "\"") (name_at names (suc from)) (codes "\"") (codes " -x ") (name_at names (suc to)) (codes " [label=\"") name (codes "\"];\n") rest
-  arrow_said false from to name rest = joined_arrow (codes "  ") (codes "\"") (name_at names (suc from)) (codes "\"") (codes " -> ") (name_at names (suc to)) (codes " [label=\"") name (codes "\"];\n") rest
+  arrow_exported true from to name rest = joined_arrow (codes "  ") (codes "\"") (name_at names (suc from)) (codes "\"") (codes " -x ") (name_at names (suc to)) (codes " [label=\"") name (codes "\"];\n") rest
+  arrow_exported false from to name rest = joined_arrow (codes "  ") (codes "\"") (name_at names (suc from)) (codes "\"") (codes " -> ") (name_at names (suc to)) (codes " [label=\"") name (codes "\"];\n") rest
 
-  races_said : (report : ReportView) (at : ℕ) (rest : List ℕ) → report.receive.instance ≡ suc at → races v report (counted report) ++ rest ≡ said_text names (Told at (words_of v report)) rest
+  races_exported : (report : ReportView) (at : ℕ) (rest : List ℕ) → report.receive.instance ≡ suc at → races v report (counted report) ++ rest ≡ exported_text names (RaceNote at (words_of v report)) rest
   unfolding races note_start indent note_front between quoted spelled label_start label_end
-  races_said report p rest is =
+  races_exported report p rest is =
       ap (λ q. (note_start v q ++ (codes "may come before " ++ (amount (counted report) ++ (ranges_named v (ranges_of report.earlier) ++ codes "\"];\n")))) ++ rest) is
       ∙ joined_note (codes "  ") [] (codes "\"") (name_at names (suc p)) (codes "\"") (codes " note ") (codes " [label=\"") (codes "may come before ") (amount (counted report)) (ranges_named v (ranges_of report.earlier)) (codes "\"];\n") rest
 
   -- the note of a row
   pub record NoteSays (o : Option ReportView) : Type 0 where
-    pub told : List Said
-    pub text : (rest : List ℕ) → note_text v o ++ rest ≡ all_text names told rest
-    pub valid : Each (IsSaid (length lines)) told
-    pub only : Each IsTold told
-    pub quiet : o ≡ None → told ≡ []
+    pub race_notes : List ExportedRow
+    pub text : (rest : List ℕ) → note_text v o ++ rest ≡ all_text names race_notes rest
+    pub valid : Each (IsExported (length lines)) race_notes
+    pub only : Each IsRaceNote race_notes
+    pub quiet : o ≡ None → race_notes ≡ []
 
   note_says : Names v → (o : Option ReportView) → ((report : ReportView) → o ≡ Some report → (at : ℕ) × (report.receive.instance ≡ suc at) × (at < length lines)) → NoteSays o
-  note_says named None where_it_is = record { told = []; text = λ rest. refl; valid = tt; only = tt; quiet = λ none. refl }
+  note_says named None where_it_is = record { race_notes = []; text = λ rest. refl; valid = tt; only = tt; quiet = λ none. refl }
   note_says named (Some report) where_it_is =
       let w = where_it_is report refl in
       record {
-        told = Told w.0 (words_of v report) ∷ [];
-        text = λ rest. races_said report w.0 rest w.1;
+        race_notes = RaceNote w.0 (words_of v report) ∷ [];
+        text = λ rest. races_exported report w.0 rest w.1;
         valid = ((w.2, plain_words v named report), tt);
         only = (tt, tt);
         quiet = λ none. absurd (cc none);
@@ -204,16 +204,16 @@ module _ (names : List (List ℕ)) (lines : List LineView) (drawing : List Row) 
 
   -- what a row says: its message, and the races of its receive
   pub record RowSays (row : Row) : Type 0 where
-    pub head : Said
+    pub head : ExportedRow
     pub message : IsSent head
-    pub told : List Said
-    pub text : (rest : List ℕ) → row_text v row ++ rest ≡ all_text names (head ∷ told) rest
-    pub valid : Each (IsSaid (length lines)) (head ∷ told)
-    pub only : Each IsTold told
+    pub race_notes : List ExportedRow
+    pub text : (rest : List ℕ) → row_text v row ++ rest ≡ all_text names (head ∷ race_notes) rest
+    pub valid : Each (IsExported (length lines)) (head ∷ race_notes)
+    pub only : Each IsRaceNote race_notes
     pub events : (p : ℕ) → event_on p head ≡ map (event_at (chart_lines lines) p) (row_on p row)
     pub taken : (q p : ℕ) → is_taken q p head ≡ true → IsRowOf row q p
-    pub stays : (later : List Said) → ((e : EventNo) (q : ℕ) → row ≡ rows.Event e → IsSendTo (chart_lines lines) q (place_of e) → list_any (is_taken e.instance q) later ≡ false) → StaysLost head later
-    pub quiet : note_of v (noted row) ≡ None → told ≡ []
+    pub stays : (later : List ExportedRow) → ((e : EventNo) (q : ℕ) → row ≡ rows.Event e → IsSendTo (chart_lines lines) q (place_of e) → list_any (is_taken e.instance q) later ≡ false) → StaysLost head later
+    pub quiet : note_of v (noted row) ≡ None → race_notes ≡ []
 
   module _ (are_ends : AreEnds (chart_lines lines) ends) where
     no_end : (e : EventNo) → IsEnd (chart_lines lines) (place_of e) None → end_of v e ≡ None
@@ -235,7 +235,7 @@ module _ (names : List (List ℕ)) (lines : List LineView) (drawing : List Row) 
           plain_name (name_of m) (all_at (λ (x : Event). IsName (name_of x)) on.line.events on.number m on.event (all_at (λ (l : LineView). All (λ (x : Event). IsName (name_of x)) l.events) lines on.place on.line on.here is.messages)))
 
       message_spelled : (s r : EventNo) (m : IsMessage names lines drawing is s r) (note : NoteSays (note_of v r)) (rest : List ℕ)
-          → row_text v (rows.Message s r) ++ rest ≡ said_text names (Sent false m.from m.to m.name) (all_text names note.told rest)
+          → row_text v (rows.Message s r) ++ rest ≡ exported_text names (Sent false m.from m.to m.name) (all_text names note.race_notes rest)
       unfolding row_text
       message_spelled s r m note rest =
           let n = note_text v (note_of v r) in
@@ -244,7 +244,7 @@ module _ (names : List (List ℕ)) (lines : List LineView) (drawing : List Row) 
           ∙ ap (λ p. (whole_arrow v (arrow_sign Mscgen) (suc m.from) p m.name ++ n) ++ rest) m.receiver
           ∙ append_assoc (whole_arrow v (arrow_sign Mscgen) (suc m.from) (suc m.to) m.name) n rest
           ∙ ap (λ l. whole_arrow v (arrow_sign Mscgen) (suc m.from) (suc m.to) m.name ++ l) (note.text rest)
-          ∙ arrow_said false m.from m.to m.name (all_text names note.told rest)
+          ∙ arrow_exported false m.from m.to m.name (all_text names note.race_notes rest)
 
       message_events : (s r : EventNo) (m : IsMessage names lines drawing is s r) (p : ℕ) → event_on p (Sent false m.from m.to m.name) ≡ map (event_at (chart_lines lines) p) (number_on p s ++ number_on p r)
       message_events s r m p =
@@ -261,7 +261,7 @@ module _ (names : List (List ℕ)) (lines : List LineView) (drawing : List Row) 
           record {
             head = Sent false m.from m.to m.name;
             message = tt;
-            told = note.told;
+            race_notes = note.race_notes;
             text = λ rest. message_spelled s r m note rest;
             valid = ((m.within, m.among, m.apart, m.is_name, plain_name m.name m.is_name), note.valid);
             only = note.only;
@@ -275,16 +275,16 @@ module _ (names : List (List ℕ)) (lines : List LineView) (drawing : List Row) 
           }
 
       lost_spelled : (e : EventNo) (m : IsLost names lines drawing is e) → IsEnd (chart_lines lines) (place_of e) None → (note : NoteSays (note_of v e)) (rest : List ℕ)
-          → row_text v (rows.Event e) ++ rest ≡ said_text names (Sent true m.from m.to m.name) (all_text names note.told rest)
+          → row_text v (rows.Event e) ++ rest ≡ exported_text names (Sent true m.from m.to m.name) (all_text names note.race_notes rest)
       unfolding row_text
       lost_spelled e m alone note rest =
           let n = note_text v (note_of v e) in
           ap (λ o. (saying_text v (stands_alone v e o) ++ n) ++ rest) m.sent
-          ∙ ap (λ o. (saying_text v (said_sent v e (suc m.to) m.name o) ++ n) ++ rest) (no_end e alone)
+          ∙ ap (λ o. (saying_text v (exported_sent v e (suc m.to) m.name o) ++ n) ++ rest) (no_end e alone)
           ∙ ap (λ p. (whole_arrow v (lost_sign Mscgen) p (suc m.to) m.name ++ n) ++ rest) m.sender
           ∙ append_assoc (whole_arrow v (lost_sign Mscgen) (suc m.from) (suc m.to) m.name) n rest
           ∙ ap (λ l. whole_arrow v (lost_sign Mscgen) (suc m.from) (suc m.to) m.name ++ l) (note.text rest)
-          ∙ arrow_said true m.from m.to m.name (all_text names note.told rest)
+          ∙ arrow_exported true m.from m.to m.name (all_text names note.race_notes rest)
 
       lost_events : (e : EventNo) (m : IsLost names lines drawing is e) (p : ℕ) → event_on p (Sent true m.from m.to m.name) ≡ map (event_at (chart_lines lines) p) (number_on p e)
       lost_events e m p =
@@ -303,7 +303,7 @@ module _ (names : List (List ℕ)) (lines : List LineView) (drawing : List Row) 
           record {
             head = Sent true m.from m.to m.name;
             message = tt;
-            told = note.told;
+            race_notes = note.race_notes;
             text = λ rest. lost_spelled e m alone note rest;
             valid = ((m.within, m.among, m.apart, m.is_name, plain_name m.name m.is_name), note.valid);
             only = note.only;

@@ -21,11 +21,11 @@ AreKinds [] tokens = tokens ≡ []
 AreKinds (k ∷ kinds) tokens = (place : Place) × (text : List ℕ) × (rest : Tokens) × (tokens ≡ record { kind = k; place = place; rest = text } ∷ rest) × AreKinds kinds rest
 
 -- the text's tokens are these, wherever it stands
-pub record Tells (text : List ℕ) (kinds : List KindView) : Type 0 where
-  pub told : (n : ℕ) (place : Place) → length text ≤ n → AreKinds kinds (tokens_from n place text)
+pub record HasTokens (text : List ℕ) (kinds : List KindView) : Type 0 where
+  pub race_notes : (n : ℕ) (place : Place) → length text ≤ n → AreKinds kinds (tokens_from n place text)
 
-pub nothing : Tells [] []
-nothing = record { told = all }
+pub nothing : HasTokens [] []
+nothing = record { race_notes = all }
   where
     all : (n : ℕ) (place : Place) → 0 ≤ n → tokens_from n place [] ≡ []
     all zero place le = refl
@@ -33,24 +33,24 @@ nothing = record { told = all }
 
 -- a piece that is a token, and what stands behind it
 pub token : (b : ℕ) (bytes rest : List ℕ) (kind : KindView) (more : List KindView) → (piece_at (b ∷ bytes ++ rest)).length ≡ suc (length bytes)
-    → kind_of (piece_at (b ∷ bytes ++ rest)).shape (b ∷ bytes) ≡ Some kind → Tells rest more → Tells (b ∷ bytes ++ rest) (kind ∷ more)
+    → kind_of (piece_at (b ∷ bytes ++ rest)).shape (b ∷ bytes) ≡ Some kind → HasTokens rest more → HasTokens (b ∷ bytes ++ rest) (kind ∷ more)
 unfolding first_token
-token b bytes rest kind more is named behind_it = record { told = all }
+token b bytes rest kind more is named behind_it = record { race_notes = all }
   where
     all : (n : ℕ) (place : Place) → length (b ∷ bytes ++ rest) ≤ n → AreKinds (kind ∷ more) (tokens_from n place (b ∷ bytes ++ rest))
     all zero place le = absurd (omega arith)
     all (suc n) place le =
         rw (is, take-append_seam bytes rest, drop-append_seam bytes rest, named)
-        (place, b ∷ bytes ++ rest, _, refl, behind_it.told n (behind place (b ∷ bytes)) (omega (arith, length-append bytes rest)))
+        (place, b ∷ bytes ++ rest, _, refl, behind_it.race_notes n (behind place (b ∷ bytes)) (omega (arith, length-append bytes rest)))
 
 -- a blank
-pub blank : (b : ℕ) (rest : List ℕ) (more : List KindView) → (piece_at (b ∷ rest)).length ≡ 1 → kind_of (piece_at (b ∷ rest)).shape (b ∷ []) ≡ None → Tells rest more → Tells (b ∷ rest) more
+pub blank : (b : ℕ) (rest : List ℕ) (more : List KindView) → (piece_at (b ∷ rest)).length ≡ 1 → kind_of (piece_at (b ∷ rest)).shape (b ∷ []) ≡ None → HasTokens rest more → HasTokens (b ∷ rest) more
 unfolding first_token
-blank b rest more is gap behind_it = record { told = all }
+blank b rest more is gap behind_it = record { race_notes = all }
   where
     all : (n : ℕ) (place : Place) → length (b ∷ rest) ≤ n → AreKinds more (tokens_from n place (b ∷ rest))
     all zero place le = absurd (omega arith)
-    all (suc n) place le = rw (is, gap) (behind_it.told n (behind place (b ∷ [])) (omega arith))
+    all (suc n) place le = rw (is, gap) (behind_it.race_notes n (behind place (b ∷ [])) (omega arith))
 
 -- a word ends where something else begins
 passes : (word : List ℕ) (b : ℕ) (rest : List ℕ) → list_all is_word_byte word ≡ true → is_word_byte b ≡ false → prefix_len (λ x. not (not (is_word_byte x))) (word ++ b ∷ rest) ≡ length word
@@ -67,7 +67,7 @@ word_ends word b rest h other =
     rw (here, within) refl
 
 -- what stands between two quotation marks
-pub quoted : (bytes rest : List ℕ) (more : List KindView) → ArePlain bytes → Tells rest more → Tells (34 ∷ bytes ++ 34 ∷ rest) (Text bytes ∷ more)
+pub quoted : (bytes rest : List ℕ) (more : List KindView) → ArePlain bytes → HasTokens rest more → HasTokens (34 ∷ bytes ++ 34 ∷ rest) (Text bytes ∷ more)
 unfolding piece_at inner
 quoted bytes rest more plain behind_it =
     let joined : (bytes ++ 34 ∷ []) ++ rest ≡ bytes ++ 34 ∷ rest = append_assoc bytes (34 ∷ []) rest in
@@ -76,10 +76,10 @@ quoted bytes rest more plain behind_it =
     let left : suc (length (bytes ++ 34 ∷ [])) - 2 ≡ length bytes = omega (arith, long) in
     let inside : take (suc (length (bytes ++ 34 ∷ [])) - 2) (bytes ++ 34 ∷ []) ≡ bytes = ap (λ n. take n (bytes ++ 34 ∷ [])) left ∙ take-append_seam bytes (34 ∷ []) in
     let named : kind_of (piece_at (34 ∷ (bytes ++ 34 ∷ []) ++ rest)).shape (34 ∷ bytes ++ 34 ∷ []) ≡ Some (Text bytes) = rw (joined, closes 34 bytes rest plain refl) (ap (λ l. Some (Text l)) inside) in
-    subst (λ l. Tells (34 ∷ l) (Text bytes ∷ more)) joined (token 34 (bytes ++ 34 ∷ []) rest (Text bytes) more is named behind_it)
+    subst (λ l. HasTokens (34 ∷ l) (Text bytes ∷ more)) joined (token 34 (bytes ++ 34 ∷ []) rest (Text bytes) more is named behind_it)
 
 -- the words and signs of an export
-pub msc_word : (rest : List ℕ) (more : List KindView) → Tells rest more → Tells (codes "msc {\n" ++ rest) (Word (codes "msc") ∷ Mark 123 ∷ more)
+pub msc_word : (rest : List ℕ) (more : List KindView) → HasTokens rest more → HasTokens (codes "msc {\n" ++ rest) (Word (codes "msc") ∷ Mark 123 ∷ more)
 unfolding piece_at sign_at
 msc_word rest more behind_it =
     token 109 (115 ∷ 99 ∷ []) (32 ∷ 123 ∷ 10 ∷ rest) (Word (codes "msc")) (Mark 123 ∷ more)
@@ -88,44 +88,44 @@ msc_word rest more behind_it =
     (token 123 [] (10 ∷ rest) (Mark 123) more refl refl
     (blank 10 rest more refl refl behind_it)))
 
-pub indented : (rest : List ℕ) (more : List KindView) → Tells rest more → Tells (codes "  " ++ rest) more
+pub indented : (rest : List ℕ) (more : List KindView) → HasTokens rest more → HasTokens (codes "  " ++ rest) more
 unfolding piece_at sign_at
 indented rest more behind_it = blank 32 (32 ∷ rest) more refl refl (blank 32 rest more refl refl behind_it)
 
-pub to_next : (rest : List ℕ) (more : List KindView) → Tells rest more → Tells (codes ",\n  " ++ rest) (Mark 44 ∷ more)
+pub to_next : (rest : List ℕ) (more : List KindView) → HasTokens rest more → HasTokens (codes ",\n  " ++ rest) (Mark 44 ∷ more)
 unfolding piece_at sign_at
 to_next rest more behind_it =
     token 44 [] (10 ∷ 32 ∷ 32 ∷ rest) (Mark 44) more refl refl
     (blank 10 (32 ∷ 32 ∷ rest) more refl refl (indented rest more behind_it))
 
-pub to_end : (rest : List ℕ) (more : List KindView) → Tells rest more → Tells (codes ";\n" ++ rest) (Mark 59 ∷ more)
+pub to_end : (rest : List ℕ) (more : List KindView) → HasTokens rest more → HasTokens (codes ";\n" ++ rest) (Mark 59 ∷ more)
 unfolding piece_at sign_at
 to_end rest more behind_it = token 59 [] (10 ∷ rest) (Mark 59) more refl refl (blank 10 rest more refl refl behind_it)
 
-pub brace : Tells (codes "}\n") (Mark 125 ∷ [])
+pub brace : HasTokens (codes "}\n") (Mark 125 ∷ [])
 unfolding piece_at sign_at
 brace = token 125 [] (10 ∷ []) (Mark 125) [] refl refl (blank 10 [] [] refl refl nothing)
 
-pub arrow : (rest : List ℕ) (more : List KindView) → Tells rest more → Tells (codes " -> " ++ rest) (Sign To ∷ more)
+pub arrow : (rest : List ℕ) (more : List KindView) → HasTokens rest more → HasTokens (codes " -> " ++ rest) (Sign To ∷ more)
 unfolding piece_at sign_at
 arrow rest more behind_it =
     blank 32 (45 ∷ 62 ∷ 32 ∷ rest) (Sign To ∷ more) refl refl
     (token 45 (62 ∷ []) (32 ∷ rest) (Sign To) more refl refl (blank 32 rest more refl refl behind_it))
 
-pub cross : (rest : List ℕ) (more : List KindView) → Tells rest more → Tells (codes " -x " ++ rest) (Sign LostTo ∷ more)
+pub cross : (rest : List ℕ) (more : List KindView) → HasTokens rest more → HasTokens (codes " -x " ++ rest) (Sign LostTo ∷ more)
 unfolding piece_at sign_at
 cross rest more behind_it =
     blank 32 (45 ∷ 120 ∷ 32 ∷ rest) (Sign LostTo ∷ more) refl refl
     (token 45 (120 ∷ []) (32 ∷ rest) (Sign LostTo) more refl refl (blank 32 rest more refl refl behind_it))
 
-pub note : (rest : List ℕ) (more : List KindView) → Tells rest more → Tells (codes " note " ++ rest) (Word (codes "note") ∷ more)
+pub note : (rest : List ℕ) (more : List KindView) → HasTokens rest more → HasTokens (codes " note " ++ rest) (Word (codes "note") ∷ more)
 unfolding piece_at sign_at
 note rest more behind_it =
     blank 32 (110 ∷ 111 ∷ 116 ∷ 101 ∷ 32 ∷ rest) (Word (codes "note") ∷ more) refl refl
     (token 110 (111 ∷ 116 ∷ 101 ∷ []) (32 ∷ rest) (Word (codes "note")) more
     (ap (λ n. n + 1) (word_ends (111 ∷ 116 ∷ 101 ∷ []) 32 rest refl refl)) refl (blank 32 rest more refl refl behind_it))
 
-pub row_without : (rest : List ℕ) (more : List KindView) → Tells rest more → Tells (codes "  |||;\n" ++ rest) (Spacer ∷ Mark 59 ∷ more)
+pub row_without : (rest : List ℕ) (more : List KindView) → HasTokens rest more → HasTokens (codes "  |||;\n" ++ rest) (Spacer ∷ Mark 59 ∷ more)
 unfolding piece_at sign_at
 row_without rest more behind_it =
     indented (codes "|||;\n" ++ rest) (Spacer ∷ Mark 59 ∷ more)
@@ -144,8 +144,8 @@ abbrev word : List ℕ → List KindView → List KindView
 word bytes more = Word (codes "label") ∷ given bytes more
 
 -- a label, and the end of its row
-pub label : (bytes rest : List ℕ) (more : List KindView) → ArePlain bytes → Tells rest more
-    → Tells (codes " [label=\"" ++ (bytes ++ (codes "\"];\n" ++ rest))) (Mark 91 ∷ Word (codes "label") ∷ Mark 61 ∷ Text bytes ∷ Mark 93 ∷ Mark 59 ∷ more)
+pub label : (bytes rest : List ℕ) (more : List KindView) → ArePlain bytes → HasTokens rest more
+    → HasTokens (codes " [label=\"" ++ (bytes ++ (codes "\"];\n" ++ rest))) (Mark 91 ∷ Word (codes "label") ∷ Mark 61 ∷ Text bytes ∷ Mark 93 ∷ Mark 59 ∷ more)
 unfolding piece_at sign_at
 label bytes rest more plain behind_it =
     blank 32 (91 ∷ 108 ∷ 97 ∷ 98 ∷ 101 ∷ 108 ∷ 61 ∷ (value bytes rest)) (Mark 91 ∷ word bytes more) refl refl

@@ -3,14 +3,14 @@ use Rattle.std.specs.Prelude.{◌≡◌, ◌≢◌, ◌⊎◌, ℕ, Bool, true, 
 use Rattle.chart.specs.Charts.{LineView, chart_lines}
 use Rattle.chart.specs.Reports.{ReportView, AreReports, has_races}
 use Rattle.chart.specs.declared.instance.EventNo.{EventNo}
-use Rattle.diagrams.specs.Drawing.{DrawnView}
+use Rattle.diagrams.specs.Drawing.{DiagramChartView}
 use Rattle.diagrams.specs.declared.left_out.Kind.TheVariants.{Note}
 use Rattle.diagram_import.specs.Importing.{OptionsView, imported}
 use Rattle.diagram_import.specs.Refusals.{Refusal}
 use Rattle.diagram_export.specs.Exports.{ExportView}
 use Rattle.diagram_export.specs.ExportText.{export_text}
 use Rattle.diagram_export.specs.Preparing.{IsExportOf}
-use Rattle.diagram_join.specs.Drawing.{JoinedDrawnView}
+use Rattle.diagram_join.specs.Drawing.{JoinedChartView}
 use Rattle.chart_layout.specs.Ends.{AreEnds}
 use Rattle.chart_layout.specs.Picking.{IsLayout}
 use Rattle.chart_layout.specs.declared.row.Row.{Row}
@@ -24,17 +24,17 @@ abbrev pub all_lines : Bool → OptionsView
 all_lines is_strict = record { skipped = []; joins = []; is_strict = is_strict }
 
 -- the tool is named, or the text has to tell it
-abbrev pub IsToldOr : Tool → Option Tool → Type 0
-IsToldOr tool named = (named ≡ Some tool) ⊎ (named ≡ None)
+abbrev pub IsDetectedOr : Tool → Option Tool → Type 0
+IsDetectedOr tool named = (named ≡ Some tool) ⊎ (named ≡ None)
 
 -- what was read is the chart with these names and lines, no name is told, and nothing but notes is left out
-pub record IsChartOf (names : List (List ℕ)) (lines : List LineView) (read : Result JoinedDrawnView Refusal) : Type 0 where
-  pub drawn : DrawnView
-  pub is : read ≡ Ok (record { drawn = drawn; overtaking = [] })
-  pub same_names : drawn.names ≡ names
-  pub same_lines : drawn.lines ≡ lines
-  pub untold : drawn.renamed ≡ []
-  pub notes : All (λ l. l.kind ≡ Note) drawn.left_out
+pub record IsChartOf (names : List (List ℕ)) (lines : List LineView) (read : Result JoinedChartView Refusal) : Type 0 where
+  pub built : DiagramChartView
+  pub is : read ≡ Ok (record { built = built; overtaking = [] })
+  pub same_names : built.names ≡ names
+  pub same_lines : built.lines ≡ lines
+  pub no_tool : built.renamed ≡ []
+  pub notes : All (λ l. l.kind ≡ Note) built.left_out
 
 -- the export of a level chart to mscgen, with the races of its reports and the other ends of its messages
 pub record IsLevelExport (names : List (List ℕ)) (lines : List LineView) (rows : List Row) (reports : List ReportView)
@@ -49,7 +49,7 @@ pub record IsLevelExport (names : List (List ℕ)) (lines : List LineView) (rows
 abbrev pub MscgenRoundTrip : Type 0
 MscgenRoundTrip = (names : List (List ℕ)) (lines : List LineView) (rows : List Row) (reports : List ReportView)
     (ends : List (List (Option EventNo))) (v : ExportView) → IsLevelExport names lines rows reports ends v
-    → (tool : Option Tool) → IsToldOr Mscgen tool → (is_strict : Bool) → (is_strict ≡ true → has_races reports ≡ false)
+    → (tool : Option Tool) → IsDetectedOr Mscgen tool → (is_strict : Bool) → (is_strict ≡ true → has_races reports ≡ false)
     → IsChartOf names lines (imported tool (export_text v) (all_lines is_strict))
 
 -- there is such an export: of a chart with a message that is received, and one that nobody receives

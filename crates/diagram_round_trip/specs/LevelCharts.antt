@@ -34,7 +34,7 @@ pub record IsLevelChart (names : List (List ℕ)) (lines : List LineView) (rows 
   pub named : All IsName names
   pub messages : HaveNames lines
   pub regions : HasNoRegions lines
-  pub drawn : IsDrawing lines rows
+  pub laid_out : IsDrawing lines rows
   pub level : AreLevel (chart_lines lines) rows
 
 -- a message from one instance to another

@@ -11,8 +11,8 @@ use Rattle.diagram_statements.specs.declared.statement.NoteAt.TheVariants as not
 use Rattle.diagram_statements.specs.declared.statement.Place.{Place}
 use Rattle.diagram_statements.specs.declared.statement.ReadError.{ReadError}
 use Rattle.diagram_statements.specs.declared.statement.ReadError.TheVariants as errors
-use Rattle.diagram_statements.specs.declared.statement.Said.{Said}
-use Rattle.diagram_statements.specs.declared.statement.Said.TheVariants as saids
+use Rattle.diagram_statements.specs.declared.statement.Element.{Element}
+use Rattle.diagram_statements.specs.declared.statement.Element.TheVariants as elements
 use Rattle.diagram_statements.specs.declared.statement.Statement.{Statement}
 
 -- words of a text, and the place of their first byte
@@ -65,53 +65,53 @@ note_at_view (notes.Participant word) = AtParticipant word.now
 note_at_view notes.Several = AtSeveral
 
 -- what a statement says
-pub data SaidView : Type 0 where
-  Named : (participant : EndView) → SaidView
-  Renamed : (participant : EndView) → SaidView
-  ArrowSaid : (arrow : ArrowView) → SaidView
-  NoteSaid : (at : NoteAtView) → (text : List ℕ) → SaidView
-  Activate : SaidView
-  Deactivate : SaidView
-  Return : (label : List ℕ) → (is_beside : Bool) → SaidView
-  ArrowsActivate : (they_do : Bool) → SaidView
-  Begin : (group : Group) → SaidView
-  Branch : SaidView
-  EndSaid : SaidView
-  BeginBox : SaidView
-  Box : SaidView
-  Divider : SaidView
-  Delay : SaidView
-  Reference : SaidView
-  Preprocessor : SaidView
-  OtherDiagram : SaidView
+pub data ElementView : Type 0 where
+  Named : (participant : EndView) → ElementView
+  Renamed : (participant : EndView) → ElementView
+  ArrowElement : (arrow : ArrowView) → ElementView
+  NoteElement : (at : NoteAtView) → (text : List ℕ) → ElementView
+  Activate : ElementView
+  Deactivate : ElementView
+  Return : (label : List ℕ) → (is_beside : Bool) → ElementView
+  ArrowsActivate : (they_do : Bool) → ElementView
+  Begin : (group : Group) → ElementView
+  Branch : ElementView
+  EndElement : ElementView
+  BeginBox : ElementView
+  Box : ElementView
+  Divider : ElementView
+  Delay : ElementView
+  Reference : ElementView
+  Preprocessor : ElementView
+  OtherDiagram : ElementView
 
-abbrev pub said_view : Said → SaidView
-said_view (saids.Named participant) = Named (end_view participant)
-said_view (saids.Renamed participant) = Renamed (end_view participant)
-said_view (saids.Arrow arrow) = ArrowSaid (arrow_view arrow)
-said_view (saids.Note at text) = NoteSaid (note_at_view at) text.now
-said_view saids.Activate = Activate
-said_view saids.Deactivate = Deactivate
-said_view (saids.Return label is_beside) = Return label.now is_beside
-said_view (saids.ArrowsActivate they_do) = ArrowsActivate they_do
-said_view (saids.Begin group) = Begin group
-said_view saids.Branch = Branch
-said_view saids.End = EndSaid
-said_view saids.BeginBox = BeginBox
-said_view saids.Box = Box
-said_view saids.Divider = Divider
-said_view saids.Delay = Delay
-said_view saids.Reference = Reference
-said_view saids.Preprocessor = Preprocessor
-said_view saids.OtherDiagram = OtherDiagram
+abbrev pub element_view : Element → ElementView
+element_view (elements.Named participant) = Named (end_view participant)
+element_view (elements.Renamed participant) = Renamed (end_view participant)
+element_view (elements.Arrow arrow) = ArrowElement (arrow_view arrow)
+element_view (elements.Note at text) = NoteElement (note_at_view at) text.now
+element_view elements.Activate = Activate
+element_view elements.Deactivate = Deactivate
+element_view (elements.Return label is_beside) = Return label.now is_beside
+element_view (elements.ArrowsActivate they_do) = ArrowsActivate they_do
+element_view (elements.Begin group) = Begin group
+element_view elements.Branch = Branch
+element_view elements.End = EndElement
+element_view elements.BeginBox = BeginBox
+element_view elements.Box = Box
+element_view elements.Divider = Divider
+element_view elements.Delay = Delay
+element_view elements.Reference = Reference
+element_view elements.Preprocessor = Preprocessor
+element_view elements.OtherDiagram = OtherDiagram
 
 -- a statement, and where it begins
 pub record StatementView : Type 0 where
   pub place : Place
-  pub said : SaidView
+  pub element : ElementView
 
 abbrev pub statement_view : Statement → StatementView
-statement_view s = record { place = s.place; said = said_view s.said }
+statement_view s = record { place = s.place; element = element_view s.element }
 
 -- an error is the fault, unless memory ran out
 abbrev pub Fails : {Y : Type 0} → ReadError → Result Y Fault → Type 0

@@ -12,5 +12,5 @@ pub mod to_diagram;
 pub use line::{Line, behind_line, first_line, line_length};
 pub use reading::ReadText;
 pub use statement::{
-    Arrow, ArrowForm, End, Fault, Group, NoteAt, Place, ReadError, Said, Statement,
+    Arrow, ArrowForm, Element, End, Fault, Group, NoteAt, Place, ReadError, Statement,
 };

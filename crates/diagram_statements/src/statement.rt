@@ -75,7 +75,7 @@ pub enum Group {
 
 /// What a statement says.
 #[derive(Clone, Copy, Debug)]
-pub enum Said<'a> {
+pub enum Element<'a> {
     /// A participant, perhaps with its label: the first statement that names it decides.
     Named(End<'a>),
     /// A participant with its label: the last such statement decides.
@@ -112,7 +112,7 @@ pub enum Said<'a> {
 #[derive(Clone, Copy, Debug)]
 pub struct Statement<'a> {
     pub place: Place,
-    pub said: Said<'a>,
+    pub element: Element<'a>,
 }
 
 /// Why a text isn't a diagram.

@@ -1,2 +1,2 @@
 pub mod Gaps
-pub mod Telling
+pub mod Detection

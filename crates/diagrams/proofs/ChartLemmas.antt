@@ -9,12 +9,12 @@ use Rattle.diagrams.specs.Full.{full_from}
 use Rattle.diagrams.specs.Losing.{kept, with_lost}
 use Rattle.diagrams.specs.Naming.{named_from}
 use Rattle.diagrams.specs.Placing.{first_misplaced}
-use Rattle.diagrams.specs.Messages.Following.{AreDrawn}
-use Rattle.diagrams.specs.declared.drawn.DrawError.{DrawError}
+use Rattle.diagrams.specs.Messages.Following.{AreBuildable}
+use Rattle.diagrams.specs.declared.built.DrawError.{DrawError}
 use Rattle.diagrams.specs.declared.left_out.LeftOut.{LeftOut}
 use Rattle.diagrams.specs.declared.message.Message.{Message}
 use Rattle.diagrams.proofs.PlacedLemmas.{AreCollected, items_collected, items_fault}
-use Rattle.diagrams.proofs.StayingLemmas.{none_overtakes, stay_drawn}
+use Rattle.diagrams.proofs.StayingLemmas.{none_overtakes, stay_built}
 
 -- of these messages those stay that aren't left out, since nothing refuses them
 record StaySo (fault : Option ℕ) (messages stay : List Message) : Type 0 where
@@ -43,16 +43,16 @@ unfolding collected
 items_sound names items left_out no_fault =
     items_collected names 0 0 items (nothing (first_misplaced (length names) 0 items) left_out) (items_fault names 0 items (nothing (first_misplaced (length names) 0 items) left_out) no_fault) (record { each = tt; order = tt })
 
-collected_drawn : (names : List (List ℕ)) (items : List ItemView) (left_out : List LeftOut) (stay : List Message × List LeftOut)
-    → staying (collected names items left_out).fault (collected names items left_out).messages (collected names items left_out).left_out ≡ Ok stay → AreDrawn (length names) (named_from none items stay.0)
-collected_drawn names items left_out stay is =
+collected_built : (names : List (List ℕ)) (items : List ItemView) (left_out : List LeftOut) (stay : List Message × List LeftOut)
+    → staying (collected names items left_out).fault (collected names items left_out).messages (collected names items left_out).left_out ≡ Ok stay → AreBuildable (length names) (named_from none items stay.0)
+collected_built names items left_out stay is =
     let c = collected names items left_out in
     let so = stay_so c.fault c.messages c.left_out stay is in
     let no_fault : c.fault ≡ None = (none_overtakes c.fault [] c.messages so.sound).fault_is in
     let are = items_sound names items left_out no_fault in
     let sound : fault_from None [] c.messages ≡ None = subst (λ f. fault_from f [] c.messages ≡ None) no_fault so.sound in
-    subst (λ messages. AreDrawn (length names) (named_from none items messages)) (sym so.stay_is) (stay_drawn (length names) are.0 none items c.messages are.1 sound so.few)
+    subst (λ messages. AreBuildable (length names) (named_from none items messages)) (sym so.stay_is) (stay_built (length names) are.0 none items c.messages are.1 sound so.few)
 
-pub messages_drawn : (names : List (List ℕ)) (items : List ItemView) (left_out : List LeftOut) (c : CollectedView) (stay : List Message × List LeftOut) → c ≡ collected names items left_out
-    → staying c.fault c.messages c.left_out ≡ Ok stay → AreDrawn (length names) (named_from none items stay.0)
-messages_drawn names items left_out c stay e is = collected_drawn names items left_out stay (subst (λ (k : CollectedView). staying k.fault k.messages k.left_out ≡ Ok stay) e is)
+pub messages_built : (names : List (List ℕ)) (items : List ItemView) (left_out : List LeftOut) (c : CollectedView) (stay : List Message × List LeftOut) → c ≡ collected names items left_out
+    → staying c.fault c.messages c.left_out ≡ Ok stay → AreBuildable (length names) (named_from none items stay.0)
+messages_built names items left_out c stay e is = collected_built names items left_out stay (subst (λ (k : CollectedView). staying k.fault k.messages k.left_out ≡ Ok stay) e is)

@@ -1,6 +1,6 @@
+pub mod ChartBuildLemmas
 pub mod ChartLemmas
 pub mod CrossingLemmas
-pub mod DrawnLemmas
 pub mod FullLemmas
 pub mod ItemLemmas
 pub mod LaneTables

@@ -9,7 +9,7 @@ use Rattle.chart.specs.Names.{name_of}
 use Rattle.chart.specs.declared.name.NameError.{NameError}
 use Rattle.diagrams.specs.Collecting.{CollectedView, first_line, message_of, with_arrow, sent_by, with_send, waits, received_by, received_at, with_received, with_receive_at, with_receive, with_event, with_note, with_item, with_items}
 use Rattle.diagrams.specs.Diagrams.{ArrowView, NoteView, ItemView, AnArrow, ANote}
-use Rattle.diagrams.specs.NoteEvents.{said_in, known, partner_in, event_with, note_event}
+use Rattle.diagrams.specs.NoteEvents.{words_in, known, partner_in, event_with, note_event}
 use Rattle.diagrams.specs.Placing.{row_of, place_of, is_arrow, is_placed, may_stand, first_misplaced}
 use Rattle.diagrams.specs.declared.message.Message.{Message}
 use Rattle.diagrams.specs.declared.message.Waiting.{Waiting}
@@ -109,8 +109,8 @@ event_among names sends own (Ok name) (Some p) e among is = go (p == own) refl i
 
 note_among : (names : List (List ℕ)) (own : ℕ) (text : List ℕ) (e : NoteEvent) → note_event names own text ≡ Some e → (1 ≤ e.partner) × (e.partner ≤ length names) × (own ≢ e.partner)
 unfolding note_event partner_in
-note_among names own text e is = option_and_then_some _ (said_in text) e is
-    (λ said at_said found. event_among names said.sends own (name_of said.message) (known names (name_of said.partner)) e (λ p. known_among names (name_of said.partner) p) found)
+note_among names own text e is = option_and_then_some _ (words_in text) e is
+    (λ words at_words found. event_among names words.sends own (name_of words.message) (known names (name_of words.partner)) e (λ p. known_among names (name_of words.partner) p) found)
 
 -- an item
 arrow_collected : (names : List (List ℕ)) (row item : ℕ) (a : ArrowView) (c : CollectedView) → row ≤ a.begins → is_arrow (length names) a ≡ true → AreCollected (length names) row c.messages

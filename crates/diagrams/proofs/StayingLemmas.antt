@@ -18,7 +18,7 @@ use Rattle.diagrams.specs.declared.message.Message.{Message}
 use Rattle.diagrams.specs.declared.messages.message.Named.{Named}
 use Rattle.diagrams.specs.Messages.Each.{Each, Pairs}
 use Rattle.diagrams.proofs.MessagesLemmas.EachLemmas.{each_front, each_back, each_weaker}
-use Rattle.diagrams.specs.Messages.Following.{Follows, IsMessage, AreDrawn}
+use Rattle.diagrams.specs.Messages.Following.{Follows, IsMessage, AreBuildable}
 use Rattle.diagrams.proofs.PlacedLemmas.{IsCollected, AreCollected, still_none}
 
 -- No message overtakes an earlier one.
@@ -198,10 +198,10 @@ follows m n one other stay = record { order = stay.order; taken = λ from to min
 
 -- The chart of messages that were collected.
 
-pub stay_drawn : (n row : ℕ) (labels : Labelling) (items : List ItemView) (messages : List Message) → AreCollected n row messages → fault_from None [] messages ≡ None → full_from [] (kept messages) ≡ None
-    → AreDrawn n (named_from labels items (kept messages))
+pub stay_built : (n row : ℕ) (labels : Labelling) (items : List ItemView) (messages : List Message) → AreCollected n row messages → fault_from None [] messages ≡ None → full_from [] (kept messages) ≡ None
+    → AreBuildable n (named_from labels items (kept messages))
 unfolding load
-stay_drawn n row labels items messages are none few = record {
+stay_built n row labels items messages are none few = record {
   each = named_each (IsCollected n row) (IsMessage n) (λ m name is. record { two = is.two; down = is.down }) labels items (kept messages) (kept_each (IsCollected n row) messages are.each);
   follow = named_pairs Stay Follows follows labels items (kept messages)
       (pairs_stay (kept messages) (kept_pairs (λ m k. m.begins ≤ k.begins) messages are.order) (kept_pairs (λ m k. overtakes k m ≡ false) messages (none_overtakes None [] messages none).within) (kept_lost messages));

@@ -12,9 +12,9 @@ use Rattle.diagrams.specs.Losing.{kept, with_lost}
 use Rattle.diagrams.specs.Naming.{names_from, labels_from, named_from}
 use Rattle.diagrams.specs.Messages.Lines.{lines_from}
 use Rattle.diagrams.specs.Messages.Turns.{all_ends}
-use Rattle.diagrams.specs.declared.drawn.DrawError.{DrawError}
-use Rattle.diagrams.specs.declared.drawn.DrawError.TheVariants.{Memory, Instances, LineFull, NotPossible}
-use Rattle.diagrams.specs.declared.drawn.Drawn.{Drawn}
+use Rattle.diagrams.specs.declared.built.DrawError.{DrawError}
+use Rattle.diagrams.specs.declared.built.DrawError.TheVariants.{Memory, Instances, LineFull, NotPossible}
+use Rattle.diagrams.specs.declared.built.DiagramChart.{DiagramChart}
 use Rattle.diagrams.specs.declared.left_out.LeftOut.{LeftOut}
 use Rattle.diagrams.specs.declared.message.Message.{Message}
 
@@ -58,18 +58,18 @@ staying fault messages left_out = do
   within (full_from [] (kept messages)) (kept messages, with_lost left_out messages)
 
 -- names and lines of a chart, what is left out, and what is told of names
-pub record DrawnView : Type 0 where
+pub record DiagramChartView : Type 0 where
   pub names : List (List ℕ)
   pub lines : List LineView
   pub left_out : List LeftOut
   pub renamed : List (List ℕ × List ℕ)
 
-abbrev pub drawn_view : Drawn → DrawnView
-drawn_view d = record { names = d.names; lines = d.chart; left_out = d.left_out.items; renamed = map renamed_view d.renamed.items }
+abbrev pub diagram_chart_view : DiagramChart → DiagramChartView
+diagram_chart_view d = record { names = d.names; lines = d.chart; left_out = d.left_out.items; renamed = map renamed_view d.renamed.items }
 
 -- of these messages
-unfoldable pub drawn_of : List ParticipantView → List ItemView → List (List ℕ) → List Message × List LeftOut → DrawnView
-drawn_of participants items names stay = record {
+unfoldable pub chart_built : List ParticipantView → List ItemView → List (List ℕ) → List Message × List LeftOut → DiagramChartView
+chart_built participants items names stay = record {
   names = names;
   lines = lines_from (all_ends (named_from none items stay.0)) 1 (length names);
   left_out = stay.1;
@@ -77,18 +77,18 @@ drawn_of participants items names stay = record {
 }
 
 -- where the participants have these names, and the items come to this
-unfoldable pub drawn_by : DiagramView → List (List ℕ) → CollectedView → Result DrawnView DrawError
-drawn_by d names c = do
+unfoldable pub built_by : DiagramView → List (List ℕ) → CollectedView → Result DiagramChartView DrawError
+built_by d names c = do
   stay ← staying c.fault c.messages c.left_out
-  Ok (drawn_of d.participants d.items names stay)
+  Ok (chart_built d.participants d.items names stay)
 
-abbrev pub drawn_named : DiagramView → List (List ℕ) → Result DrawnView DrawError
-drawn_named d names = drawn_by d names (collected names d.items d.left_out)
+abbrev pub built_named : DiagramView → List (List ℕ) → Result DiagramChartView DrawError
+built_named d names = built_by d names (collected names d.items d.left_out)
 
 -- no chart has so few participants, or so many
 abbrev pub has_no_chart : ℕ → Bool
 has_no_chart n = nat_lt n 2 || nat_lt MAX_INSTANCES n
 
 -- the chart of a diagram, or its refusal
-unfoldable pub drawn : DiagramView → Result DrawnView DrawError
-drawn d = if has_no_chart (length d.participants) then Err Instances else drawn_named d (names_from [] d.participants)
+unfoldable pub built : DiagramView → Result DiagramChartView DrawError
+built d = if has_no_chart (length d.participants) then Err Instances else built_named d (names_from [] d.participants)

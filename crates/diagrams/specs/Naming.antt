@@ -5,7 +5,7 @@ use Rattle.diagram_labels.specs.Giving.{called}
 use Rattle.diagram_labels.specs.Labels.{Labelling, with_label, name_of}
 use Rattle.diagram_labels.specs.Spelling.{spelled}
 use Rattle.diagrams.specs.Diagrams.{ParticipantView, ItemView, AnArrow, ANote}
-use Rattle.diagrams.specs.NoteEvents.{SaidView, said_in}
+use Rattle.diagrams.specs.NoteEvents.{EventWordsView, words_in}
 use Rattle.diagrams.specs.declared.message.Message.{Message}
 use Rattle.diagrams.specs.declared.messages.message.Named.{Named}
 
@@ -15,14 +15,14 @@ names_from names [] = names
 names_from names (p ∷ participants) = names_from (names ++ called names (spelled p.label) ∷ []) participants
 
 -- the word for the message in a note
-abbrev pub message_said : Option SaidView → List ℕ
-message_said None = []
-message_said (Some said) = said.message
+abbrev pub message_word : Option EventWordsView → List ℕ
+message_word None = []
+message_word (Some words) = words.message
 
 -- the label of the message that an item says
 unfoldable pub label_of : ItemView → List ℕ
 label_of (AnArrow a) = a.label
-label_of (ANote n) = message_said (said_in n.text)
+label_of (ANote n) = message_word (words_in n.text)
 
 abbrev pub label_by : Option ItemView → List ℕ
 label_by None = []

@@ -14,7 +14,7 @@ unfoldable pub cut : List ℕ → Option (List ℕ × List ℕ)
 cut text = cut_at text (position (λ b. b == 32) text)
 
 -- a send or a receive, with the words for its message and for its partner
-pub record SaidView : Type 0 where
+pub record EventWordsView : Type 0 where
   pub sends : Bool
   pub message : List ℕ
   pub partner : List ℕ
@@ -26,13 +26,13 @@ direction word preposition =
     else (if bytes_eq word (codes "in") && bytes_eq preposition (codes "from") then Some false else None)
 
 -- four words
-abbrev pub said_with : List ℕ → List ℕ → List ℕ × List ℕ → Option SaidView
-said_with word message rest =
+abbrev pub words_with : List ℕ → List ℕ → List ℕ × List ℕ → Option EventWordsView
+words_with word message rest =
     option_and_then (λ sends. Some (record { sends = sends; message = message; partner = rest.1 })) (direction word rest.0)
 
-unfoldable pub said_in : List ℕ → Option SaidView
-said_in text =
-    option_and_then (λ first. option_and_then (λ second. option_and_then (λ third. said_with first.0 second.0 third) (cut second.1)) (cut first.1)) (cut text)
+unfoldable pub words_in : List ℕ → Option EventWordsView
+words_in text =
+    option_and_then (λ first. option_and_then (λ second. option_and_then (λ third. words_with first.0 second.0 third) (cut second.1)) (cut first.1)) (cut text)
 
 -- the instance with this name, if the bytes are a name
 abbrev pub known : List (List ℕ) → Result (List ℕ) NameError → Option ℕ
@@ -51,7 +51,7 @@ event_with sends own (Ok name) (Some partner) = if partner == own then None else
 -- the event that a note at an instance says, if it says one
 unfoldable pub note_event : List (List ℕ) → ℕ → List ℕ → Option NoteEvent
 note_event names own text =
-    option_and_then (λ said. event_with said.sends own (name_of said.message) (partner_in names said.partner)) (said_in text)
+    option_and_then (λ words. event_with words.sends own (name_of words.message) (partner_in names words.partner)) (words_in text)
 
 -- what is found, seen by view
 abbrev pub Finds : {X Y : Type 0} → (X → Y) → Option X → Option Y → Type 0

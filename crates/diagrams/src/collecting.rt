@@ -184,10 +184,10 @@ impl Collected {
 
     /// An item.
     #[tactic(auto, unfolding(crate::specs::Collecting::with_item))]
-    fn add(&mut self, names: &Names, item: usize, said: &Item) -> Result<(), AllocError>
-        ensures { OnOk result (self.new ≡ with_item names.now item (item_view said.now) self.old) }
+    fn add(&mut self, names: &Names, item: usize, words: &Item) -> Result<(), AllocError>
+        ensures { OnOk result (self.new ≡ with_item names.now item (item_view words.now) self.old) }
     {
-        match said {
+        match words {
             Item::Arrow(arrow) => self.add_arrow(item, arrow),
             Item::Note(note) => self.add_note(names, item, note),
         }

@@ -3,10 +3,10 @@
 //! [`messages`] has the chart of a list of messages.
 #![tactic(auto)]
 
+mod built;
 mod collecting;
 mod crossing;
 mod diagram;
-mod drawn;
 mod full;
 mod lanes;
 mod left_out;
@@ -19,10 +19,10 @@ mod place;
 mod placing;
 mod renaming;
 
+pub use built::{DiagramChart, DrawError, draw, has_no_chart};
 pub use collecting::{Collected, collect};
 pub use crossing::{crosses, first_fault, overtakes};
 pub use diagram::{Arrow, Diagram, Item, Note, Participant};
-pub use drawn::{DrawError, Drawn, draw, has_no_chart};
 pub use full::first_full;
 pub use lanes::Lanes;
 pub use left_out::{Kind, LeftOut, leave_out};
@@ -30,4 +30,4 @@ pub use losing::without_lost;
 pub use message::Message;
 pub use naming::{name_messages, names_of};
 pub use place::Place;
-pub use renaming::told_names;
+pub use renaming::renamed_labels;

@@ -1,8 +1,8 @@
 //! The chart of messages whose sends and receives stand in rows.
 //!
 //! What is promised ([`chart_of`]), unless an allocation is refused: each message is a send and a receive, each in
-//! its row, on the lines of its two instances (`specs/Turns`, `specs/Regions`), and where messages follow each
-//! other (`specs/Following`) the chart is possible.
+//! its row, on the lines of its two instances (`specs/Messages/Turns`, `specs/Messages/Regions`), and where
+//! messages follow each other (`specs/Messages/Following`) the chart is possible.
 
 mod end;
 mod line;

@@ -8,7 +8,7 @@ ghost use Rattle.diagrams.specs.Naming.{names_from, label_of, label_at, named_as
 use crate::diagram::{Item, Participant};
 use crate::message::Message;
 use crate::messages::Named;
-use crate::note_event::message_said;
+use crate::note_event::message_word;
 use chart::{Name, Names, NamesError};
 use diagram_labels::{GivenNames, LabelNames, spelled};
 use std::alloc::{AllocError, Global};
@@ -26,7 +26,8 @@ fn add_name(names: &mut Names, name: Name) -> Result<(), AllocError>
     }
 }
 
-/// The names of the participants, of which there are no more than a chart has. F6: it fails only where there is no memory.
+/// The names of the participants, of which there are no more than a chart has. F6: it fails only where there is no
+/// memory.
 pub fn names_of(alloc: Global, participants: &[Participant]) -> Result<Names, AllocError>
     requires { length participants.now ≤ MAX_INSTANCES }
     ensures { IfOk result (λ names. names ≡ names_from [] (map participant_view participants.now)) }
@@ -48,7 +49,7 @@ fn label_of(item: &Item) -> &[u8]
 {
     match item {
         Item::Arrow(arrow) => arrow.label.as_slice(),
-        Item::Note(note) => message_said(note.text.as_slice()),
+        Item::Note(note) => message_word(note.text.as_slice()),
     }
 }
 

@@ -1,7 +1,7 @@
 //! Events that notes say.
 ghost use Rattle.std.specs.Prelude.{◌≡◌, ◌<◌, ◌==◌, length, position, IfSome};
-ghost use Rattle.diagrams.specs.NoteEvents.{Finds, SaidView, cut, direction, said_in, partner_in, note_event};
-ghost use Rattle.diagrams.specs.Naming.{message_said};
+ghost use Rattle.diagrams.specs.NoteEvents.{Finds, EventWordsView, cut, direction, words_in, partner_in, note_event};
+ghost use Rattle.diagrams.specs.Naming.{message_word};
 
 use chart::{InstanceNo, Name, Names};
 
@@ -17,7 +17,7 @@ pub(crate) struct NoteEvent {
 
 /// The words of a send or a receive.
 #[derive(Clone, Copy)]
-struct Said<'a> {
+struct EventWords<'a> {
     sends: bool,
     message: &'a [u8],
     partner: &'a [u8],
@@ -57,16 +57,16 @@ fn direction(word: &[u8], preposition: &[u8]) -> Option<bool>
 }
 
 /// What the text says in the words of our own exports.
-#[tactic(auto, unfolding(crate::specs::NoteEvents::said_in))]
-fn said_in(text: &[u8]) -> Option<Said<'_>>
-    ensures { Finds (λ said. record { sends = said.sends; message = said.message.now; partner = said.partner.now })
-        result (said_in text.now) }
+#[tactic(auto, unfolding(crate::specs::NoteEvents::words_in))]
+fn words_in(text: &[u8]) -> Option<EventWords<'_>>
+    ensures { Finds (λ words. record { sends = words.sends; message = words.message.now; partner = words.partner.now })
+        result (words_in text.now) }
 {
     let (word, rest) = cut(text)?;
     let (message, rest) = cut(rest)?;
     let (preposition, partner) = cut(rest)?;
     let sends = direction(word, preposition)?;
-    Some(Said {
+    Some(EventWords {
         sends,
         message,
         partner,
@@ -89,27 +89,27 @@ fn partner_in(names: &Names, word: &[u8]) -> Option<InstanceNo>
 pub(crate) fn note_event(names: &Names, own: InstanceNo, text: &[u8]) -> Option<NoteEvent>
     ensures { result ≡ note_event names.now own text.now }
 {
-    let said = said_in(text)?;
-    let Ok(name) = Name::new(said.message) else {
+    let words = words_in(text)?;
+    let Ok(name) = Name::new(words.message) else {
         return None;
     };
-    let partner = partner_in(names, said.partner)?;
+    let partner = partner_in(names, words.partner)?;
     if partner == own {
         return None;
     }
     Some(NoteEvent {
-        sends: said.sends,
+        sends: words.sends,
         partner,
         name,
     })
 }
 
 /// The word for the message in a note, if it says an event's words.
-pub(crate) fn message_said(text: &[u8]) -> &[u8]
-    ensures { result.now ≡ message_said (said_in text.now) }
+pub(crate) fn message_word(text: &[u8]) -> &[u8]
+    ensures { result.now ≡ message_word (words_in text.now) }
 {
-    match said_in(text) {
-        Some(said) => said.message,
+    match words_in(text) {
+        Some(words) => words.message,
         None => &[],
     }
 }

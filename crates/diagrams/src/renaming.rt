@@ -4,7 +4,7 @@ ghost use Rattle.diagram_labels.specs.Renaming.{renamed_view, renamed_from};
 
 use crate::diagram::Participant;
 use chart::{InstanceNo, MAX_INSTANCES, Name, Names};
-use diagram_labels::{LabelNames, Renamed, tell_label, tell_labels};
+use diagram_labels::{LabelNames, Renamed, add_renamed_labels, tell_label};
 use std::alloc::{AllocError, Global};
 
 /// The name at this place, from 0.
@@ -18,36 +18,36 @@ fn name_at(names: &Names, place: usize) -> Option<Name>
 }
 
 /// Tells the participants' names.
-fn tell_participants(
+fn add_renamed_participants(
     alloc: Global,
-    told: &mut Vec<Renamed>,
+    renames: &mut Vec<Renamed>,
     participants: &[Participant],
     names: &Names,
 ) -> Result<(), AllocError>
-    ensures { OnOk result (map renamed_view told.new.items ≡ renamed_from (map renamed_view told.old.items)
+    ensures { OnOk result (map renamed_view renames.new.items ≡ renamed_from (map renamed_view renames.old.items)
         (map (λ p. p.label.items) participants.now) names.now) }
 {
     for (place, participant) in participants.iter().enumerate() {
         let Some(name) = name_at(names, place) else {
             return Ok(());
         };
-        tell_label(alloc, told, participant.label.as_slice(), name)?;
+        tell_label(alloc, renames, participant.label.as_slice(), name)?;
     }
     Ok(())
 }
 
 /// The labels whose names have to be told, participants' first, each with its name.
-pub fn told_names(
+pub fn renamed_labels(
     alloc: Global,
     participants: &[Participant],
     names: &Names,
     labels: &LabelNames,
 ) -> Result<Vec<Renamed>, AllocError>
-    ensures { IfOk result (λ told. map renamed_view told.items
+    ensures { IfOk result (λ renames. map renamed_view renames.items
         ≡ renamed_from (renamed_from [] (map (λ p. p.label.items) participants.now) names.now) labels.now.labels labels.now.names) }
 {
-    let mut told = Vec::new(alloc);
-    tell_participants(alloc, &mut told, participants, names)?;
-    tell_labels(alloc, &mut told, labels.labels(), labels.names())?;
-    Ok(told)
+    let mut renames = Vec::new(alloc);
+    add_renamed_participants(alloc, &mut renames, participants, names)?;
+    add_renamed_labels(alloc, &mut renames, labels.labels(), labels.names())?;
+    Ok(renames)
 }

@@ -23,7 +23,7 @@ fn order(alloc: Global, mut post: Post) -> anyhow::Result<()> {
 }
 
 /// Tells the races of a receive: the earlier events of its line that came before it by luck alone.
-fn tell<R: Print>(rt: &R, mailbox: &Mailbox, arrival: &Arrival) -> anyhow::Result<()> {
+fn print_races<R: Print>(rt: &R, mailbox: &Mailbox, arrival: &Arrival) -> anyhow::Result<()> {
     let name = arrival.message.name();
     let receive = arrival.report.receive().index;
     let line = mailbox.line();
@@ -47,7 +47,7 @@ fn serve<R: Print>(rt: &R, post: Post) -> anyhow::Result<()> {
     let mut mailbox = Mailbox::new(post);
     for _ in 0..1_000_000 {
         match mailbox.any()? {
-            Taken::Got(arrival) => tell(rt, &mailbox, &arrival)?,
+            Taken::Got(arrival) => print_races(rt, &mailbox, &arrival)?,
             Taken::Nothing => thread::yield_now(),
             Taken::Ended => return Ok(()),
         }

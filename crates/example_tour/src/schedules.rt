@@ -8,7 +8,7 @@ use schedule_threads::scripts::scripts;
 use std::thread::Threads;
 
 /// Tells of each instance that spent its turns, and of each receive.
-fn tell<R: Print>(rt: &R, ran: &Run) -> anyhow::Result<()> {
+fn print_run<R: Print>(rt: &R, ran: &Run) -> anyhow::Result<()> {
     for end in ran.ends.iter() {
         if *end == End::TurnsSpent {
             println!(rt; "an instance spent its turns")?;
@@ -34,7 +34,7 @@ pub fn run_schedule<R: Threads + Print + AllocGlobal + Sync>(
     let mut board = Board::new(alloc, schedule.names().len(), schedule.capacity().slots())?;
     let posts = board.posts()?;
     match run(rt, posts, behaviours, MAX_TURNS, &Open) {
-        Ok(ran) => tell(rt, &ran),
+        Ok(ran) => print_run(rt, &ran),
         Err(_) => bail!("not run"),
     }
 }

@@ -11,7 +11,7 @@ use Rattle.chart.specs.Places.{IsEvent}
 use Rattle.chart.proofs.Belongs.{IsEvent-from_passes}
 use Rattle.closure.specs.Faults.{place_of}
 use Rattle.closure.proofs.ReadLemmas.{instance_within}
-use Rattle.fault_places.specs.ToldCircles.{HasNames, HaveNames}
+use Rattle.fault_places.specs.NamedCycles.{HasNames, HaveNames}
 
 -- an event's instance is one of them
 event_within : (lines : List LineView) (e : Place) → IsEvent (chart_lines lines) e → e.instance ≤ length lines

@@ -1,4 +1,4 @@
 pub mod Standings
 pub mod Spots
 pub mod Wants
-pub mod ToldCircles
+pub mod NamedCycles

@@ -1,19 +1,19 @@
-//! The steps of a circle, by the names of instances and the lines of the text.
+//! The steps of a cycle, by the names of instances and the lines of the text.
 ghost use Rattle.std.specs.Prelude.{◌≡◌, ◌≤◌, length, map, IfOk};
 ghost use Rattle.chart.specs.Charts.{Place, chart_lines, HasNoSend};
 ghost use Rattle.chart.specs.Order.{IsCyclic};
 ghost use Rattle.texts.specs.Instances.{name_at};
-ghost use Rattle.fault_places.specs.ToldCircles.{told_of, step_of, HasNames, HaveNames, AreStepsOf};
+ghost use Rattle.fault_places.specs.NamedCycles.{named_event, step_of, HasNames, HaveNames, AreStepsOf};
 
 use crate::lines::line_of_event;
 use chart::{Chart, EventNo, InstanceNo, Name, Names};
 use closure::chain::{Link, Rule};
-use closure::cycle::shortest_circle;
+use closure::cycle::shortest_cycle;
 use std::alloc::{AllocError, Global};
 
 /// An event: the name of its instance, and its number there.
 #[derive(Clone, Copy, Debug)]
-pub struct Told {
+pub struct NamedEvent {
     pub name: Name,
     pub index: u32,
 }
@@ -23,8 +23,8 @@ pub struct Told {
 pub struct Step {
     /// The number of the line at which the earlier event stands.
     pub line: u64,
-    pub earlier: Told,
-    pub later: Told,
+    pub earlier: NamedEvent,
+    pub later: NamedEvent,
     pub rule: Rule,
 }
 
@@ -40,11 +40,11 @@ fn name_of(names: &Names, instance: InstanceNo) -> Name
     }
 }
 
-fn told_of(names: &Names, event: &EventNo) -> Told
+fn named_event(names: &Names, event: &EventNo) -> NamedEvent
     requires { event.now.instance ≤ length names.now }
-    ensures { result ≡ told_of names.now event.now }
+    ensures { result ≡ named_event names.now event.now }
 {
-    Told {
+    NamedEvent {
         name: name_of(names, event.instance),
         index: event.index,
     }
@@ -56,8 +56,8 @@ fn step_of(text: &[u8], names: &Names, link: &Link) -> Step
 {
     Step {
         line: line_of_event(text, link.earlier.instance.number(), link.earlier.index),
-        earlier: told_of(names, &link.earlier),
-        later: told_of(names, &link.later),
+        earlier: named_event(names, &link.earlier),
+        later: named_event(names, &link.later),
         rule: link.rule,
     }
 }
@@ -78,7 +78,7 @@ fn all_of(
     Ok(steps)
 }
 
-/// The steps of a shortest circle of a chart whose receives all have their sends, whose instances have these names, and
+/// The steps of a shortest cycle of a chart whose receives all have their sends, whose instances have these names, and
 /// in which an event comes before itself. F6: it fails only where there is no memory.
 pub fn steps_of(
     alloc: Global,
@@ -91,7 +91,7 @@ pub fn steps_of(
     requires cyclic { IsCyclic (chart_lines chart.now) }
     ensures { IfOk result (λ steps. AreStepsOf text.now names.now chart.now steps.items) }
 {
-    match shortest_circle(alloc, chart)? {
+    match shortest_cycle(alloc, chart)? {
         Some(links) => all_of(alloc, text, names, links.as_slice()),
         None => unreachable!(),
     }

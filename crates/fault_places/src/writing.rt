@@ -1,7 +1,7 @@
 //! The text of a step.
 ghost use Rattle.std.specs.Prelude.{◌≡◌};
 ghost use Rattle.texts.specs.Writing.{Adds};
-ghost use Rattle.fault_places.specs.ToldCircles.{step_text};
+ghost use Rattle.fault_places.specs.NamedCycles.{step_text};
 
 use crate::step::Step;
 use closure::chain::rule_of;
@@ -10,7 +10,7 @@ use texts::{Out, TextBuffer, WriteError};
 
 /// Adds a step: the line of its earlier event, the two events, and why the one comes before the other. F24: a put
 /// failed.
-#[tactic(auto, unfolding(crate::specs::ToldCircles::step_text))]
+#[tactic(auto, unfolding(crate::specs::NamedCycles::step_text))]
 pub fn add_step<W: Out>(text: &mut TextBuffer<'_, W>, step: &Step) -> Result<(), WriteError>
     ensures { Adds W.sink text.old text.new result (step_text step.now) }
 {

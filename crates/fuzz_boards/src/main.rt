@@ -28,7 +28,7 @@ use std::thread::Threads;
 use std::time::Clock;
 
 /// Makes these runs, and tells how many were accepted.
-fn tell<R: Threads + Print + AllocGlobal + Sync>(rt: &R, runs: Runs) -> anyhow::Result<()> {
+fn print_runs<R: Threads + Print + AllocGlobal + Sync>(rt: &R, runs: Runs) -> anyhow::Result<()> {
     run_all(rt, rt.alloc(), runs)?;
     let Runs {
         instances,
@@ -42,9 +42,9 @@ fn tell<R: Threads + Print + AllocGlobal + Sync>(rt: &R, runs: Runs) -> anyhow::
 }
 
 /// Makes all runs that have a name, and tells of each kind.
-fn tell_all<R: Threads + Clock + Print + AllocGlobal + Sync>(rt: &R) -> anyhow::Result<()> {
+fn print_all<R: Threads + Clock + Print + AllocGlobal + Sync>(rt: &R) -> anyhow::Result<()> {
     for (instances, many) in [(3, 200), (8, 20), (32, 20)] {
-        tell(
+        print_runs(
             rt,
             Runs {
                 instances,
@@ -73,7 +73,7 @@ fn count<R: Threads + Print + AllocGlobal + Sync>(rt: &R, runs: Runs) -> anyhow:
 fn main(rt: HostRuntime) -> anyhow::Result<()> {
     let words: Vec<String> = env::args(&rt)?.collect(rt.alloc())?;
     match words.as_slice() {
-        [_] => tell_all(&rt),
+        [_] => print_all(&rt),
         [_, instances, slots, seed, many] => {
             let runs = Runs {
                 instances: instances.as_str().parse::<usize>()?,

@@ -58,7 +58,7 @@ impl Worked {
 
 impl Answered {
     /// What was said of the text: the line of a refusal, or nothing.
-    pub fn said(&self) -> &[u8] {
+    pub fn diagnostics(&self) -> &[u8] {
         self.err.as_bytes()
     }
 

@@ -24,12 +24,12 @@ use tally::Tally;
 #[derive(Drop)]
 struct Asked {
     /// Whether each text and its answer are told.
-    tells: bool,
+    prints: bool,
     count: u64,
     seed: u64,
 }
 
-fn tells(mode: &str) -> anyhow::Result<bool> {
+fn prints(mode: &str) -> anyhow::Result<bool> {
     match mode {
         "count" => Ok(false),
         "tell" => Ok(true),
@@ -43,7 +43,7 @@ fn asked_by<'a>(words: &'a [String]) -> anyhow::Result<(Asked, &'a [String])> {
         bail!("the words are MODE COUNT SEED FILE..");
     };
     let asked = Asked {
-        tells: tells(mode.as_str())?,
+        prints: prints(mode.as_str())?,
         count: count.as_str().parse::<u64>()?,
         seed: seed.as_str().parse::<u64>()?,
     };
@@ -69,8 +69,8 @@ fn answer_one<R: Print + AllocGlobal>(
 ) -> anyhow::Result<()> {
     let answered = worked.answered(rt.alloc(), generator)?;
     let record = answered.record(rt.alloc())?;
-    tally.add(answered.said(), record.as_slice());
-    if asked.tells {
+    tally.add(answered.diagnostics(), record.as_slice());
+    if asked.prints {
         io::writer(rt).write_all(record.as_slice())?;
     }
     Ok(())

@@ -41,9 +41,9 @@ impl Tally {
     }
 
     /// Counts a text by what was said of it, and adds the record of it to the digest.
-    pub fn add(&mut self, said: &[u8], record: &[u8]) {
+    pub fn add(&mut self, diagnostics: &[u8], record: &[u8]) {
         self.digest.update(record);
-        match said.strip_prefix(REFUSED) {
+        match diagnostics.strip_prefix(REFUSED) {
             None => self.read = self.read.saturating_add(1),
             Some(rest) => {
                 if let Some(count) = self.refused.get_mut(number_in(rest)) {

@@ -115,23 +115,23 @@ leaves-shut old new (Ok done) is = leaves-region old new _ is.1
 leaves-shut old new (Err CoregionOpen) is = absurd is
 leaves-shut old new (Err CoregionNotOpen) is = leaves-same old new is.1
 
-told : (old new : MailboxView) (a : BareAct) (answer of : Answer) → answer ≡ of → Leaves old (made_of a of) new
+by_answer : (old new : MailboxView) (a : BareAct) (answer of : Answer) → answer ≡ of → Leaves old (made_of a of) new
     → Leaves old (made_of a answer) new
-told old new a answer of is leaves = subst (λ x. Leaves old (made_of a x) new) (sym is) leaves
+by_answer old new a answer of is leaves = subst (λ x. Leaves old (made_of a x) new) (sym is) leaves
 
 -- what an answer that is allowed leaves
 pub leaves-act : (old : MailboxView) (a : Act) (answer : Answer) (new : MailboxView) → Allows old a answer new
     → Leaves old (made_of (bare_act a) answer) new
 leaves-act old (act.Send to message) answer new (result, of, is) =
-    told old new (Send to message.name) answer (send_answer result) of (leaves-send old new to message result is)
+    by_answer old new (Send to message.name) answer (send_answer result) of (leaves-send old new to message result is)
 leaves-act old (act.Receive from) answer new (result, of, is) =
-    told old new (Receive from) answer (take_answer result) of (leaves-receive old new from result is)
+    by_answer old new (Receive from) answer (take_answer result) of (leaves-receive old new from result is)
 leaves-act old act.Any answer new (result, of, is) =
-    told old new Any answer (take_answer result) of (leaves-any old new result is)
+    by_answer old new Any answer (take_answer result) of (leaves-any old new result is)
 leaves-act old (act.Close to) answer new (result, of, is) =
-    told old new (Close to) answer (close_answer result) of (leaves-close old new to result is)
+    by_answer old new (Close to) answer (close_answer result) of (leaves-close old new to result is)
 leaves-act old act.Open answer new (result, of, is) =
-    told old new Open answer (region_answer result) of (leaves-open old new result is)
+    by_answer old new Open answer (region_answer result) of (leaves-open old new result is)
 leaves-act old act.Shut answer new (result, of, is) =
-    told old new Shut answer (region_answer result) of (leaves-shut old new result is)
+    by_answer old new Shut answer (region_answer result) of (leaves-shut old new result is)
 leaves-act old act.Stop answer new is = absurd is

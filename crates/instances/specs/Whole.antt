@@ -6,7 +6,7 @@ use Rattle.board.specs.Views.{PostView}
 use Rattle.instances.specs.declared.end.End.{End}
 use Rattle.instances.specs.declared.outcome.Run.{Run}
 use Rattle.instances.specs.declared.outcome.RunError.{RunError}
-use Rattle.instances.specs.declared.outcome.RunError.TheVariants.{Unfit, Memory}
+use Rattle.instances.specs.declared.outcome.RunError.TheVariants.{InvalidInput, Memory}
 use Rattle.instances.specs.declared.threads.TheConstants.{MAX_TURNS}
 use Rattle.instances.specs.declared.turn.Turn.{Turn}
 use Rattle.instances.specs.Driving.{Meaning, IsRunOfPost}
@@ -18,8 +18,8 @@ pub record IsFit (posts : List PostView) (behaviours turns : ℕ) : Type 0 where
   pub some : (1 ≤ turns) × (turns ≤ MAX_TURNS)
 
 -- one of this isn't so
-abbrev pub IsUnfit : List PostView → ℕ → ℕ → Type 0
-IsUnfit posts behaviours turns = AreNotAll posts ⊎ ((behaviours ≢ length posts) ⊎ ((turns ≡ 0) ⊎ (MAX_TURNS < turns)))
+abbrev pub IsInvalidInput : List PostView → ℕ → ℕ → Type 0
+IsInvalidInput posts behaviours turns = AreNotAll posts ⊎ ((behaviours ≢ length posts) ⊎ ((turns ≡ 0) ⊎ (MAX_TURNS < turns)))
 
 -- what comes of the post at a place: from it, with a trace and an end, to the post that is left
 abbrev pub Drives : Type 1
@@ -49,5 +49,5 @@ IsGathered run = (left : List PostView) × IsWhole left run.gathered
 
 -- why a board isn't run: something is unfit, and all comes back; or memory was refused
 abbrev pub IsUnrun : {P B : Type 0} → P → B → Type 0 → Type 0 → RunError P B → Type 0
-IsUnrun posts behaviours fit unfit (Unfit p b) = (p ≡ posts) × (b ≡ behaviours) × unfit
-IsUnrun posts behaviours fit unfit Memory = fit
+IsUnrun posts behaviours fit invalid (InvalidInput p b) = (p ≡ posts) × (b ≡ behaviours) × invalid
+IsUnrun posts behaviours fit invalid Memory = fit

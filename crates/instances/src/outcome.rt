@@ -17,7 +17,7 @@ pub struct Run {
 pub enum RunError<P, B> {
     /// F25: the posts are not all of their board, there are more or fewer behaviours than posts, or the turns are
     /// none or more than [`crate::MAX_TURNS`]. Nothing was started, and posts and behaviours come back.
-    Unfit(P, B),
+    InvalidInput(P, B),
     /// F6: a growth was refused.
     Memory,
 }

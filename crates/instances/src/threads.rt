@@ -3,7 +3,7 @@ ghost use Rattle.std.specs.Prelude.{◌≡◌, IfOk, IfErr, length, map, true, f
 ghost use Rattle.std.specs.List.{zip};
 ghost use Rattle.board.specs.Meeting.{AreOfOneBoard};
 ghost use Rattle.instances.specs.Driving.{meaning};
-ghost use Rattle.instances.specs.Whole.{IsFit, IsUnfit, DrivenBy, AreRuns, IsGathered, IsUnrun};
+ghost use Rattle.instances.specs.Whole.{IsFit, IsInvalidInput, DrivenBy, AreRuns, IsGathered, IsUnrun};
 
 use crate::end::End;
 use crate::gate::Gate;
@@ -23,7 +23,7 @@ const _: () = prove!(MAX_TURNS == 1_000_000);
 /// Whether posts, so many behaviours and so many turns make a run.
 fn is_fit(posts: &[Post], behaviours: usize, turns: u32) -> bool
     ensures yes { result ≡ true → IsFit posts.now behaviours turns }
-    ensures no { result ≡ false → IsUnfit posts.now behaviours turns }
+    ensures no { result ≡ false → IsInvalidInput posts.now behaviours turns }
 {
     are_all(posts) && behaviours == posts.len() && 1 <= turns && turns <= MAX_TURNS
 }
@@ -114,10 +114,10 @@ pub fn run<'a, R: Threads + Sync, G: Gate + Sync>(
     ensures fit { IfOk result (λ run. IsFit posts.entry.items (length behaviours.items) turns) }
     ensures err { let many = length behaviours.items in
         IfErr result (IsUnrun posts.entry behaviours
-        (IsFit posts.entry.items many turns) (IsUnfit posts.entry.items many turns)) }
+        (IsFit posts.entry.items many turns) (IsInvalidInput posts.entry.items many turns)) }
 {
     if !is_fit(posts.as_slice(), behaviours.len(), turns) {
-        return Err(RunError::Unfit(posts, behaviours));
+        return Err(RunError::InvalidInput(posts, behaviours));
     }
     match run_fit(rt, posts, behaviours, turns, gate) {
         Ok(run) => Ok(run),

@@ -4,5 +4,5 @@ pub mod IndexLaws
 pub mod IndexRuns
 pub mod Passing
 pub mod Rings
-pub mod SlotLaws
-pub mod SlotRuns
+pub mod FlagLaws
+pub mod FlagRuns

@@ -2,6 +2,6 @@ pub mod Alone
 pub mod Forms
 pub mod IndexWords
 pub mod Laws
-pub mod SlotWords
+pub mod FlagWords
 pub mod Steps
 pub mod Traffic

@@ -5,7 +5,7 @@ ghost use Rattle.lane_core.specs.IndexWords.{index_words};
 ghost use Rattle.lane_core.specs.Laws.{FreedInOrder, AtMostCapacity, NoSlotOfBoth, FillsOwnSlot, TakesOwnMessage};
 ghost use Rattle.lane_core.specs.Laws.{PutsBackOwnMessage, NothingAfterClose, FullExactly, MessageExactly};
 ghost use Rattle.lane_core.specs.Laws.{EndedExactly};
-ghost use Rattle.lane_core.specs.SlotWords.{slot_words};
+ghost use Rattle.lane_core.specs.FlagWords.{flag_words};
 
 /// Of every run with messages of this type, in either form and of any capacity: the messages freed are the first of
 /// those published, in order; no more wait than the lane has slots; no slot is claimed by both ends, and each touches
@@ -24,16 +24,16 @@ pub fn every_run<Message>()
     ensures index_full { FullExactly (index_words Message) }
     ensures index_message { MessageExactly (index_words Message) }
     ensures index_ended { EndedExactly (index_words Message) }
-    ensures slot_in_order { FreedInOrder (slot_words Message) }
-    ensures slot_bounded { AtMostCapacity (slot_words Message) }
-    ensures slot_apart { NoSlotOfBoth (slot_words Message) }
-    ensures slot_fills { FillsOwnSlot (slot_words Message) }
-    ensures slot_takes { TakesOwnMessage (slot_words Message) }
-    ensures slot_puts_back { PutsBackOwnMessage (slot_words Message) }
-    ensures slot_closed { NothingAfterClose (slot_words Message) }
-    ensures slot_full { FullExactly (slot_words Message) }
-    ensures slot_message { MessageExactly (slot_words Message) }
-    ensures slot_ended { EndedExactly (slot_words Message) }
+    ensures slot_in_order { FreedInOrder (flag_words Message) }
+    ensures slot_bounded { AtMostCapacity (flag_words Message) }
+    ensures slot_apart { NoSlotOfBoth (flag_words Message) }
+    ensures slot_fills { FillsOwnSlot (flag_words Message) }
+    ensures slot_takes { TakesOwnMessage (flag_words Message) }
+    ensures slot_puts_back { PutsBackOwnMessage (flag_words Message) }
+    ensures slot_closed { NothingAfterClose (flag_words Message) }
+    ensures slot_full { FullExactly (flag_words Message) }
+    ensures slot_message { MessageExactly (flag_words Message) }
+    ensures slot_ended { EndedExactly (flag_words Message) }
 {}
 
 /// Of every run with messages of this type, in either form and of any capacity, after which one end makes no step
@@ -45,6 +45,6 @@ pub fn every_run<Message>()
 pub fn every_stop<Message>()
     ensures index_receiver { ReceiverAlone (index_words Message) }
     ensures index_sender { SenderAlone (index_words Message) }
-    ensures slot_receiver { ReceiverAlone (slot_words Message) }
-    ensures slot_sender { SenderAlone (slot_words Message) }
+    ensures slot_receiver { ReceiverAlone (flag_words Message) }
+    ensures slot_sender { SenderAlone (flag_words Message) }
 {}

@@ -16,8 +16,8 @@
 #![tactic(auto)]
 
 pub mod answers;
+pub mod flag_words;
 pub mod index_words;
 pub mod laws;
-pub mod slot_words;
 
 pub use laws::{every_run, every_stop};

@@ -11,7 +11,7 @@ use Rattle.chart.specs.Events.{is_send_to, send_event, receive_event}
 use Rattle.chart.specs.Histories.{is_lane, sent, received, waiting, chart_of, MayFollow, IsLegal}
 use Rattle.chart.specs.Charts.{Chart, at, LineView}
 use Rattle.chart.specs.Places.{IsSendAfter}
-use Rattle.chart.specs.Order.{IsReport, IsRaces}
+use Rattle.chart.specs.Order.{IsReport, AreLineRaces}
 use Rattle.chart.specs.Knowing.{IsKnown, IsGreatestHeard}
 use Rattle.chart.specs.Reports.{ReportView}
 use Rattle.chart.proofs.Begun.{send_begun, known_begun, heard_begun}
@@ -222,5 +222,5 @@ carried_report n k h legal p q c p_low p_high some clock rest first r line repor
     let there : slice_get (clocks_of n h q p) (received h q p) ≡ Some clock = ith_at_drop (received h q p) (clocks_of n h q p) clock rest first in
     let known = (carried_right n k h legal).carries q p (received h q p) send.0 clock there send.1 p p_low p_high in
     let indices = map (λ race. race.index) report.earlier in
-    let races : IsRaces (chart_of h p) (entry_of clock p) q c indices = subst (λ (l : LineView). IsRaces l.events (entry_of clock l.instance) q c indices) line made.races in
+    let races : AreLineRaces (chart_of h p) (entry_of clock p) q c indices = subst (λ (l : LineView). AreLineRaces l.events (entry_of clock l.instance) q c indices) line made.races in
     subst (λ (l : LineView). IsReport (chart_of (Receive p q c ∷ h)) (at l.instance (length l.events + 1)) indices) (sym line) (new_receive_reports n k h legal p q c message.0 message.1 message.2 send.0 send.1 (entry_of clock p) indices known races)

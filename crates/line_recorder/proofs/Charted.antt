@@ -7,7 +7,7 @@ use Rattle.std.proofs.Math.Seq.{take-append_seam}
 use Rattle.chart.specs.declared.event.Event.{Event}
 use Rattle.chart.specs.Events.{ith, send_event, receive_event, is_receive_from}
 use Rattle.chart.specs.Charts.{Chart, Place, at, chart_event, IsSendTo, BelongsTo}
-use Rattle.chart.specs.Order.{IsCyclic, IsReport, IsRaces, region_of_event}
+use Rattle.chart.specs.Order.{IsCyclic, IsReport, AreLineRaces, region_of_event}
 use Rattle.chart.specs.Knowing.{IsKnown, IsGreatestHeard}
 use Rattle.chart.specs.Reports.{ReportView}
 use Rattle.chart.proofs.Tally.{ith-append, ith_push}
@@ -83,5 +83,5 @@ report_of_receive c s r from name region clock report has belongs known is_repor
     let sender : from ≡ s.instance = eqb-true from s.instance (subst (λ x. is_receive_from s.instance x ≡ true) (same_Some w.0 m (sym w.1 ∙ there)) w.2) in
     let of_region : region_of_event (chart_event c (next_place r)) ≡ region = ap region_of_event there in
     let indices = map (λ race. race.index) report.earlier in
-    let races : IsRaces (take i (c p)) k s.instance region indices = rw (line_before c r m has, ← sender) is_report.races in
+    let races : AreLineRaces (take i (c p)) k s.instance region indices = rw (line_before c r m has, ← sender) is_report.races in
     report_from_races c s p i k region indices belongs of_region known races

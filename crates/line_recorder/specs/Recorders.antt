@@ -5,7 +5,7 @@ use Rattle.chart.specs.Words.{Instance, Name, Clock}
 use Rattle.chart.specs.declared.event.Event.{Event}
 use Rattle.chart.specs.Events.{send_event, receive_event}
 use Rattle.chart.specs.Charts.{LineView}
-use Rattle.chart.specs.Order.{IsRaces}
+use Rattle.chart.specs.Order.{AreLineRaces}
 use Rattle.chart.specs.Reports.{ReportView}
 use Rattle.clock.specs.Clocks.{entry_of, with_entry, merged}
 
@@ -82,14 +82,14 @@ after_receive r from name region clock report = record {
 -- the report of the next event, if it is a receive whose send knows so many events of this line: the races above these
 pub record IsReportAbove (r : RecorderView) (from region entry : ℕ) (report : ReportView) : Type 0 where
   pub receive : report.receive ≡ record { instance = r.line.instance; index = length r.line.events + 1 }
-  pub races : IsRaces r.line.events entry from region (map (λ race. race.index) report.earlier)
+  pub races : AreLineRaces r.line.events entry from region (map (λ race. race.index) report.earlier)
   pub own : All (λ race. race.instance ≡ r.line.instance) report.earlier
 
 -- the report of the next event, if it is a receive of a message with this clock: the races above the clock's own
 -- entry for this line
 pub record IsReportOf (r : RecorderView) (from region : ℕ) (clock : Clock) (report : ReportView) : Type 0 where
   pub receive : report.receive ≡ record { instance = r.line.instance; index = length r.line.events + 1 }
-  pub races : IsRaces r.line.events (entry_of clock r.line.instance) from region
+  pub races : AreLineRaces r.line.events (entry_of clock r.line.instance) from region
       (map (λ race. race.index) report.earlier)
   pub own : All (λ race. race.instance ≡ r.line.instance) report.earlier
 

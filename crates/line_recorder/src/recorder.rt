@@ -200,12 +200,13 @@ impl Recorder {
         Ok(clock)
     }
 
-    /// Makes all ready for the next event to be a send, which [`Recorder::record_begun`] then records: room for it on the
-    /// line, its own number in what is known, and the difference, which is what changed in its clock since the base. No
-    /// clock is copied. So its message can be on its way before it is recorded.
+    /// Makes all ready for the next event to be a send, which [`Recorder::record_begun`] then records: room for it on
+    /// the line, its own number in what is known, and the difference, which is what changed in its clock since the
+    /// base. No clock is copied. So its message can be on its way before it is recorded.
     ///
     /// F6: it fails only where there is no memory, and then nothing has changed but the difference. With room it takes
-    /// none up to [`clock::INLINE_ENTRIES`] instances, and none where nothing new is known of the others since the base.
+    /// none up to [`clock::INLINE_ENTRIES`] instances, and none where nothing new is known of the others since the
+    /// base.
     #[inline(always)]
     pub fn begin_send(&mut self, base: &Clock, diff: &mut Diff) -> Result<(), AllocError>
         requires entries { length base.now ≡ length self.old.knowledge }
@@ -231,8 +232,8 @@ impl Recorder {
         Ok(())
     }
 
-    /// Records the send to this instance that [`Recorder::begin_send`] made all ready for. It isn't refused, and takes no
-    /// memory.
+    /// Records the send to this instance that [`Recorder::begin_send`] made all ready for. It isn't refused, and takes
+    /// no memory.
     #[inline(always)]
     pub fn record_begun(&mut self, to: InstanceNo, name: Name)
         requires not_itself { to ≢ self.old.line.instance }
@@ -251,8 +252,8 @@ impl Recorder {
     }
 
     /// Records a receive from this instance of a message of this name, whose send had this clock, in this coregion (0
-    /// outside of one). It keeps what the report of the receive says, and answers it: the races above what the send knows of
-    /// this line, and it is the message's own clock that says this, not all that is known here.
+    /// outside of one). It keeps what the report of the receive says, and answers it: the races above what the send
+    /// knows of this line, and it is the message's own clock that says this, not all that is known here.
     ///
     /// A refusal, the first of F7 and F6 that applies, changes nothing. Without races, and with room on the line and
     /// for the report, it takes no memory.

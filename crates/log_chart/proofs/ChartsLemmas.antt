@@ -1,5 +1,5 @@
 pub mod ChartLemmas
-pub mod CircleLemmas
+pub mod CycleLemmas
 pub mod FaultLemmas
 pub mod HostItemLemmas
 pub mod ItemLemmas

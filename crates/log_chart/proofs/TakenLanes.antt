@@ -23,34 +23,34 @@ stream_at [] n = 0
 stream_at (e ∷ log) zero = e.stream
 stream_at (e ∷ log) (suc n) = stream_at log n
 
-abbrev Tells : (ℕ → ℕ) → ℕ → List Entry → Type 0
-Tells stream k [] = Unit {0}
-Tells stream k (e ∷ log) = (stream k ≡ e.stream) × Tells stream (k + 1) log
+abbrev AreStreams : (ℕ → ℕ) → ℕ → List Entry → Type 0
+AreStreams stream k [] = Unit {0}
+AreStreams stream k (e ∷ log) = (stream k ≡ e.stream) × AreStreams stream (k + 1) log
 
-tells_same : (f g : ℕ → ℕ) → ((n : ℕ) → f n ≡ g n) → (k : ℕ) (log : List Entry) → Tells f k log → Tells g k log
-tells_same f g same k [] tells = tt
-tells_same f g same k (e ∷ log) tells = (sym (same k) ∙ tells.0, tells_same f g same (k + 1) log tells.1)
+streams_same : (f g : ℕ → ℕ) → ((n : ℕ) → f n ≡ g n) → (k : ℕ) (log : List Entry) → AreStreams f k log → AreStreams g k log
+streams_same f g same k [] streams = tt
+streams_same f g same k (e ∷ log) streams = (sym (same k) ∙ streams.0, streams_same f g same (k + 1) log streams.1)
 
-tells_later : (f : ℕ → ℕ) (k : ℕ) (log : List Entry) → Tells (λ n. f (n + 1)) k log → Tells f (k + 1) log
-tells_later f k [] tells = tt
-tells_later f k (e ∷ log) tells = (tells.0, tells_later f (k + 1) log tells.1)
+streams_later : (f : ℕ → ℕ) (k : ℕ) (log : List Entry) → AreStreams (λ n. f (n + 1)) k log → AreStreams f (k + 1) log
+streams_later f k [] streams = tt
+streams_later f k (e ∷ log) streams = (streams.0, streams_later f (k + 1) log streams.1)
 
-tells_all : (log : List Entry) → Tells (stream_at log) 0 log
-tells_all [] = tt
-tells_all (e ∷ log) = (refl, tells_later (stream_at (e ∷ log)) 0 log (tells_same (stream_at log) (λ n. stream_at (e ∷ log) (n + 1)) (λ n. rw (add-one n) refl) 0 log (tells_all log)))
+streams_all : (log : List Entry) → AreStreams (stream_at log) 0 log
+streams_all [] = tt
+streams_all (e ∷ log) = (refl, streams_later (stream_at (e ∷ log)) 0 log (streams_same (stream_at log) (λ n. stream_at (e ∷ log) (n + 1)) (λ n. rw (add-one n) refl) 0 log (streams_all log)))
 
 -- what is left of each stream: its own sends, in their order
 pub record AreLeft (stream : ℕ → ℕ) (left : ℕ → List ℕ) : Type 0 where
   pub own : (c s : ℕ) → Has (left c) s → stream s ≡ c
   pub rising : (c : ℕ) → IsRising (left c)
 
-sends_own : (stream : ℕ → ℕ) (k : ℕ) (log : List Entry) → Tells stream k log → (c s : ℕ) → Has (sends_from k log c) s → stream s ≡ c
+sends_own : (stream : ℕ → ℕ) (k : ℕ) (log : List Entry) → AreStreams stream k log → (c s : ℕ) → Has (sends_from k log c) s → stream s ≡ c
 unfolding sends_from
-sends_own stream k [] tells c s has = absurd has
-sends_own stream k (e ∷ log) tells c s has = go (is_send e.kind) (e.stream == c) refl has (sends_own stream (k + 1) log tells.1 c s)
+sends_own stream k [] streams c s has = absurd has
+sends_own stream k (e ∷ log) streams c s has = go (is_send e.kind) (e.stream == c) refl has (sends_own stream (k + 1) log streams.1 c s)
   where
     go : (sends its : Bool) → (e.stream == c) ≡ its → Has (cond (sends && its) (k ∷ sends_from (k + 1) log c) (sends_from (k + 1) log c)) s → (Has (sends_from (k + 1) log c) s → stream s ≡ c) → stream s ≡ c
-    go true true f (inl same) rest = ap stream (sym same) ∙ tells.0 ∙ eqb-true e.stream c f
+    go true true f (inl same) rest = ap stream (sym same) ∙ streams.0 ∙ eqb-true e.stream c f
     go true true f (inr there) rest = rest there
     go true false f there rest = rest there
     go false its f there rest = rest there
@@ -65,7 +65,7 @@ sends_rise k (e ∷ log) c = go (is_send e.kind && e.stream == c) (sends_rise (k
     go false rest = rest
 
 pub all_left : (log : List Entry) → AreLeft (stream_at log) (sends_from 0 log)
-all_left log = record { own = sends_own (stream_at log) 0 log (tells_all log); rising = sends_rise 0 log }
+all_left log = record { own = sends_own (stream_at log) 0 log (streams_all log); rising = sends_rise 0 log }
 
 pub rest_has : (xs : List ℕ) (s : ℕ) → Has (drop 1 xs) s → Has xs s
 rest_has [] s has = has
@@ -162,27 +162,27 @@ sends_nothing left e sends = go e.kind sends
     go Freed its = absurd (false≢true its)
 
 module _ (stream from to : ℕ → ℕ) where
-  fits_from : (left : ℕ → List ℕ) (k : ℕ) (log : List Entry) → AreLeft stream left → Tells stream k log → AreOfLanes from to log
+  fits_from : (left : ℕ → List ℕ) (k : ℕ) (log : List Entry) → AreLeft stream left → AreStreams stream k log → AreOfLanes from to log
       → Fits (λ n. from (stream n)) (λ n. to (stream n)) (matched_from left k log)
   unfolding matched_from
-  fits_from left k [] are tells lanes = tt
-  fits_from left k (e ∷ log) are tells lanes = (
+  fits_from left k [] are streams lanes = tt
+  fits_from left k (e ∷ log) are streams lanes = (
     record {
-      sender = here.0 ∙ ap from (sym tells.0);
-      receiver = here.1 ∙ ap to (sym tells.0);
+      sender = here.0 ∙ ap from (sym streams.0);
+      receiver = here.1 ∙ ap to (sym streams.0);
       no_send = sends_nothing left e;
       lane = λ s is.
           let own = are.own e.stream s (first_has (left e.stream) s (took left e s is).1) in
           (ap from own ∙ sym here.0, ap to own ∙ sym here.1);
     },
-    fits_from (left_after left e) (k + 1) log (left_then stream left e are) tells.1 (All-tail (λ x. (sender_of x ≡ from x.stream) × (receiver_of x ≡ to x.stream)) e log lanes),
+    fits_from (left_after left e) (k + 1) log (left_then stream left e are) streams.1 (All-tail (λ x. (sender_of x ≡ from x.stream) × (receiver_of x ≡ to x.stream)) e log lanes),
   )
     where
       here : (sender_of e ≡ from e.stream) × (receiver_of e ≡ to e.stream)
       here = All-head (λ x. (sender_of x ≡ from x.stream) × (receiver_of x ≡ to x.stream)) e log lanes
 
 pub matched_fit : (from to : ℕ → ℕ) (log : List Entry) → AreOfLanes from to log → Fits (λ n. from (stream_at log n)) (λ n. to (stream_at log n)) (matched log)
-matched_fit from to log lanes = fits_from (stream_at log) from to (sends_from 0 log) 0 log (all_left log) (tells_all log) lanes
+matched_fit from to log lanes = fits_from (stream_at log) from to (sends_from 0 log) 0 log (all_left log) (streams_all log) lanes
 
 -- a send of the lane is among its sends
 module _ (from to : ℕ → ℕ) (q p s c : ℕ) (sender : from s ≡ q) (receiver : to s ≡ p) where

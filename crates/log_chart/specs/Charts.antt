@@ -1,3 +1,3 @@
 pub mod ChartLines
 pub mod Drawing
-pub mod Told
+pub mod Listing

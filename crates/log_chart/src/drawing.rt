@@ -104,10 +104,10 @@ pub fn kept_lines(alloc: Global, log: &[Entry]) -> Result<Vec<LogLine>, AllocErr
 pub fn host_lines(alloc: Global, count: usize, log: &[Entry]) -> Result<HostLines, AllocError>
     requires count { count ≤ MAX_INSTANCES }
     requires streams { HaveStreams log.now }
-    ensures matched { IfOk result (λ drawn. drawn.matched.items ≡ matched log.now) }
-    ensures fates { IfOk result (λ drawn. drawn.fates.items ≡ fates (matched log.now)) }
-    ensures given { IfOk result (λ drawn. drawn.given.items ≡ begun (kept log.now)) }
-    ensures lines { IfOk result (λ drawn. drawn.lines.items ≡ host_lines count log.now) }
+    ensures matched { IfOk result (λ built. built.matched.items ≡ matched log.now) }
+    ensures fates { IfOk result (λ built. built.fates.items ≡ fates (matched log.now)) }
+    ensures given { IfOk result (λ built. built.given.items ≡ begun (kept log.now)) }
+    ensures lines { IfOk result (λ built. built.lines.items ≡ host_lines count log.now) }
 {
     let matched = matched(alloc, log)?;
     let sifted = sift(alloc, &matched)?;

@@ -6,9 +6,9 @@
 //! peer.
 
 mod entering;
+mod host_event;
 mod hosts;
-mod said;
 mod stream;
 
 pub use entering::{Log, LogError, entries_of};
-pub use said::Said;
+pub use host_event::HostEvent;

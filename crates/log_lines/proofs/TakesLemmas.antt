@@ -1,3 +1,3 @@
 pub mod CountLemmas
 pub mod ListLemmas
-pub mod ToldLemmas
+pub mod ObservationLemmas

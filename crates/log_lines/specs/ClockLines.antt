@@ -35,14 +35,14 @@ abbrev pub says_in : List ℕ → List ℕ → Bool
 says_in direction preposition = bytes_eq direction (codes "in") && bytes_eq preposition (codes "from")
 
 -- what is said of a host in these words
-abbrev pub said_in_words : List ℕ → List (List ℕ) → LineView
-said_in_words host (direction ∷ name ∷ preposition ∷ peer ∷ []) =
+abbrev pub line_in_words : List ℕ → List (List ℕ) → LineView
+line_in_words host (direction ∷ name ∷ preposition ∷ peer ∷ []) =
     if says_out direction preposition then AnEvent (record { host = host; act = Send; peer = peer; name = name; id = None })
     else (if says_in direction preposition then AnEvent (record { host = host; act = Receive; peer = peer; name = name; id = None })
     else Other)
-said_in_words host words = Other
+line_in_words host words = Other
 
 -- what an event with its vector time says in the words `out M to B` or `in M from A`; what stands behind a comma is left
 -- alone
-unfoldable pub words_said : ClockedView → LineView
-words_said c = said_in_words c.host (words_of (before_comma c.event))
+unfoldable pub event_in_words : ClockedView → LineView
+event_in_words c = line_in_words c.host (words_of (before_comma c.event))

@@ -8,7 +8,7 @@ use Rattle.log_lines.specs.declared.event.Event.{Event}
 use Rattle.log_lines.specs.declared.event.LineSays.{LineSays}
 use Rattle.log_lines.specs.declared.event.LineSays.TheVariants as says
 use Rattle.log_lines.specs.declared.event.Place.{Place}
-use Rattle.log_lines.specs.declared.event.Said.{Said}
+use Rattle.log_lines.specs.declared.event.LoggedEvent.{LoggedEvent}
 
 -- what a host did with a message, by words of the log
 pub record EventView : Type 0 where
@@ -22,12 +22,12 @@ abbrev pub event_view : Event → EventView
 event_view e = record { host = e.host.now; act = e.act; peer = e.peer.now; name = e.name.now; id = option_map (λ w. w.now) e.id }
 
 -- an event, and where it is said
-pub record SaidView : Type 0 where
+pub record LoggedEventView : Type 0 where
   pub event : EventView
   pub place : Place
 
-abbrev pub said_view : Said → SaidView
-said_view s = record { event = event_view s.event; place = s.place }
+abbrev pub logged_event_view : LoggedEvent → LoggedEventView
+logged_event_view s = record { event = event_view s.event; place = s.place }
 
 -- an event of a host with its vector time, by words of the log
 pub record ClockedView : Type 0 where

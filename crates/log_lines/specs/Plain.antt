@@ -54,7 +54,7 @@ directed host Arrives words = Nothing
 directed host Unknown words = Other
 
 -- what a line of these words says; a line without a word says nothing
-unfoldable pub said_by : List (List ℕ) → LineView
-said_by (host ∷ dir ∷ words) = directed host (direction_of dir) (behind_preposition words)
-said_by [] = Nothing
-said_by words = Other
+unfoldable pub line_by : List (List ℕ) → LineView
+line_by (host ∷ dir ∷ words) = directed host (direction_of dir) (behind_preposition words)
+line_by [] = Nothing
+line_by words = Other

@@ -1,14 +1,14 @@
 -- What the texts of an application's log say.
 use Rattle.std.specs.Prelude.{ℕ, List}
 use Rattle.log_lines.specs.Events.{LineView}
-use Rattle.log_lines.specs.Plain.{said_by}
+use Rattle.log_lines.specs.Plain.{line_by}
 use Rattle.log_lines.specs.Reading.{ReadView, nothing_read, with_texts}
 use Rattle.log_lines.specs.Words.{words_of}
 use Rattle.log_lines.specs.declared.range.LineRange.{LineRange}
 
 -- what a line says
 unfoldable pub plain_line : List ℕ → LineView
-plain_line line = said_by (words_of line)
+plain_line line = line_by (words_of line)
 
 -- what is read of the texts
 unfoldable pub plain_read : LineRange → List (List ℕ) → ReadView

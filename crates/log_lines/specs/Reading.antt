@@ -1,7 +1,7 @@
 -- What is read of a log: its events, in the order of the lines, and how many lines aren't read.
 use Rattle.std.specs.Prelude.{ℕ, ◌+◌, ◌&&◌, Bool, nat_le, List, [], ◌∷◌, ◌++◌, Option, None, Some, map, if◌then◌else◌}
 use Rattle.texts.specs.Lines.{lines_of, end_of}
-use Rattle.log_lines.specs.Events.{SaidView, said_view, ClockedAtView, clocked_at_view, LineView, AnEvent, AClocked, AMessage, Nothing, Other, received}
+use Rattle.log_lines.specs.Events.{LoggedEventView, logged_event_view, ClockedAtView, clocked_at_view, LineView, AnEvent, AClocked, AMessage, Nothing, Other, received}
 use Rattle.log_lines.specs.Places.{earlier}
 use Rattle.log_lines.specs.declared.event.Place.{Place}
 use Rattle.log_lines.specs.declared.range.LineRange.{LineRange}
@@ -9,15 +9,15 @@ use Rattle.log_lines.specs.declared.read.Others.{Others}
 use Rattle.log_lines.specs.declared.read.Read.{Read}
 
 pub record ReadView : Type 0 where
-  pub said : List SaidView
+  pub logged : List LoggedEventView
   pub clocked : List ClockedAtView
   pub others : Option Others
 
 abbrev pub read_view : Read → ReadView
-read_view r = record { said = map said_view r.said.items; clocked = map clocked_at_view r.clocked.items; others = r.others }
+read_view r = record { logged = map logged_event_view r.logged.items; clocked = map clocked_at_view r.clocked.items; others = r.others }
 
 abbrev pub nothing_read : ReadView
-nothing_read = record { said = []; clocked = []; others = None }
+nothing_read = record { logged = []; clocked = []; others = None }
 
 -- one line more that isn't read; the first place counts
 abbrev pub with_other : Place → Option Others → Others
@@ -26,10 +26,10 @@ with_other place (Some o) = record { count = o.count + 1; first = earlier o.firs
 
 -- what was read, with what the line at this place says
 abbrev pub with_line : Place → LineView → ReadView → ReadView
-with_line place (AnEvent e) r = record r { said = r.said ++ record { event = e; place = place } ∷ [] }
+with_line place (AnEvent e) r = record r { logged = r.logged ++ record { event = e; place = place } ∷ [] }
 with_line place (AClocked c) r = record r { clocked = r.clocked ++ record { clocked = c; place = place } ∷ [] }
 with_line place (AMessage e) r =
-    record r { said = r.said ++ record { event = e; place = place } ∷ [] ++ record { event = received e; place = place } ∷ [] }
+    record r { logged = r.logged ++ record { event = e; place = place } ∷ [] ++ record { event = received e; place = place } ∷ [] }
 with_line place Nothing r = r
 with_line place Other r = record r { others = Some (with_other place r.others) }
 

@@ -1,4 +1,4 @@
 pub mod Arrivals
 pub mod Messages
 pub mod Patterns
-pub mod Telling
+pub mod Observations

@@ -1,6 +1,6 @@
 //! Lines `HOST {CLOCK} EVENT` of a log for ShiViz.
 ghost use Rattle.std.specs.Prelude.{◌≡◌, ◌≤◌, length, map, option_map, IfOk, IfSome};
-ghost use Rattle.log_lines.specs.ClockLines.{clock_end, clock_line, is_parser, before_comma, says_out, says_in, said_in_words, words_said};
+ghost use Rattle.log_lines.specs.ClockLines.{clock_end, clock_line, is_parser, before_comma, says_out, says_in, line_in_words, event_in_words};
 ghost use Rattle.log_lines.specs.Events.{clocked_view, line_view};
 
 use crate::event::{Act, Clocked, Event, LineSays};
@@ -70,8 +70,8 @@ fn says_in(direction: &[u8], preposition: &[u8]) -> bool
 }
 
 /// What is said of a host in these words.
-fn said_in_words<'a>(host: &'a [u8], words: &[&'a [u8]]) -> LineSays<'a>
-    ensures { line_view result ≡ said_in_words host.now (map (λ w. w.now) words.now) }
+fn line_in_words<'a>(host: &'a [u8], words: &[&'a [u8]]) -> LineSays<'a>
+    ensures { line_view result ≡ line_in_words host.now (map (λ w. w.now) words.now) }
 {
     match words {
         [direction, name, preposition, peer] => {
@@ -101,13 +101,13 @@ fn said_in_words<'a>(host: &'a [u8], words: &[&'a [u8]]) -> LineSays<'a>
 
 /// What an event with its vector time says in the words of our own exports: `out M to B` or `in M from A`. What stands
 /// behind a comma is left alone.
-#[tactic(auto, unfolding(crate::specs::ClockLines::words_said))]
-pub(crate) fn words_said<'a>(
+#[tactic(auto, unfolding(crate::specs::ClockLines::event_in_words))]
+pub(crate) fn event_in_words<'a>(
     alloc: Global,
     clocked: Clocked<'a>,
 ) -> Result<LineSays<'a>, AllocError>
-    ensures { IfOk result (λ says. line_view says ≡ words_said (clocked_view clocked.entry)) }
+    ensures { IfOk result (λ says. line_view says ≡ event_in_words (clocked_view clocked.entry)) }
 {
     let words = words_of(alloc, before_comma(clocked.event))?;
-    Ok(said_in_words(clocked.host, &words))
+    Ok(line_in_words(clocked.host, &words))
 }

@@ -40,7 +40,7 @@ impl Place {
 
 /// An event, and where it is said.
 #[derive(Clone, Copy, Debug)]
-pub struct Said<'a> {
+pub struct LoggedEvent<'a> {
     pub event: Event<'a>,
     pub place: Place,
 }

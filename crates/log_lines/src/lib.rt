@@ -21,7 +21,7 @@ mod windows;
 mod worded;
 mod words;
 
-pub use event::{Act, Clocked, ClockedAt, Event, LineSays, Place, Said};
+pub use event::{Act, Clocked, ClockedAt, Event, LineSays, LoggedEvent, Place};
 pub use plain::{Direction, begins_rest, behind_preposition, direction_of, id_in};
 pub use plain_reading::read_plain;
 pub use range::{LineRange, is_within};

@@ -2,7 +2,7 @@
 //!
 //! What is promised ([`named`]), unless an allocation is refused: hosts that differ have names that differ, and so
 //! do messages' names; ids are numbered; a message of a host to itself is left out, and counted. All are functions
-//! of what is read of the log (`specs/Naming`).
+//! of what is read of the log (`specs/Names/Naming`).
 
 mod hosts;
 mod ids;

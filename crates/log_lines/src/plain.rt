@@ -1,7 +1,7 @@
 //! Lines of an application's log: `HOST DIR [to or from] PEER NAME [ID] [REST]`.
 ghost use Rattle.std.specs.Prelude.{◌≡◌, map, option_map};
 ghost use Rattle.log_lines.specs.Events.{line_view};
-ghost use Rattle.log_lines.specs.Plain.{is_send_word, is_receive_word, is_preposition, direction_of, behind_preposition, begins_rest, id_in, event_of, directed, said_by};
+ghost use Rattle.log_lines.specs.Plain.{is_send_word, is_receive_word, is_preposition, direction_of, behind_preposition, begins_rest, id_in, event_of, directed, line_by};
 
 use crate::event::{Act, Event, LineSays};
 use texts::begins_with;
@@ -133,9 +133,9 @@ fn directed<'a>(host: &'a [u8], direction: Direction, words: &[&'a [u8]]) -> Lin
 }
 
 /// What a line of these words says.
-#[tactic(auto, unfolding(crate::specs::Plain::said_by))]
-pub(crate) fn said_by<'a>(words: &[&'a [u8]]) -> LineSays<'a>
-    ensures { line_view result ≡ said_by (map (λ w. w.now) words.now) }
+#[tactic(auto, unfolding(crate::specs::Plain::line_by))]
+pub(crate) fn line_by<'a>(words: &[&'a [u8]]) -> LineSays<'a>
+    ensures { line_view result ≡ line_by (map (λ w. w.now) words.now) }
 {
     match words {
         [] => LineSays::Nothing,

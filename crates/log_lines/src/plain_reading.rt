@@ -1,12 +1,12 @@
 //! Logs of applications, read.
 ghost use Rattle.std.specs.Prelude.{◌≡◌, if◌then◌else◌, map, IfOk, OnOk};
 ghost use Rattle.log_lines.specs.Events.{line_view};
-ghost use Rattle.log_lines.specs.Plain.{said_by};
+ghost use Rattle.log_lines.specs.Plain.{line_by};
 ghost use Rattle.log_lines.specs.PlainReading.{plain_line, plain_read};
 ghost use Rattle.log_lines.specs.Reading.{read_view, is_within, with_line, with_lines, all_lines};
 
 use crate::event::{LineSays, Place};
-use crate::plain::said_by;
+use crate::plain::line_by;
 use crate::range::{LineRange, is_within};
 use crate::read::Read;
 use crate::words::words_of;
@@ -19,7 +19,7 @@ fn plain_line(alloc: Global, line: &[u8]) -> Result<LineSays<'_>, AllocError>
     ensures { IfOk result (λ says. line_view says ≡ plain_line line.now) }
 {
     let words = words_of(alloc, line)?;
-    Ok(said_by(&words))
+    Ok(line_by(&words))
 }
 
 /// Adds a line, if it is read.
@@ -66,10 +66,10 @@ fn add_text<'a>(
     Ok(())
 }
 
-/// What the texts of an application's log say: each line `HOST DIR [to or from] PEER NAME [ID] [REST]` an event of HOST.
-/// DIR is `send`, `sent`, `tx`, `out`, `->` or `>` for a send, and `recv`, `receive`, `received`, `rx`, `in`, `<-` or `<`
-/// for a receive, in any letters. A line without a word says nothing, nor does one whose DIR is `arrive`; what else there
-/// is isn't read, and counted. It takes time in proportion to the texts.
+/// What the texts of an application's log say: each line `HOST DIR [to or from] PEER NAME [ID] [REST]` an event of
+/// HOST. DIR is `send`, `sent`, `tx`, `out`, `->` or `>` for a send, and `recv`, `receive`, `received`, `rx`, `in`,
+/// `<-` or `<` for a receive, in any letters. A line without a word says nothing, nor does one whose DIR is `arrive`;
+/// what else there is isn't read, and counted. It takes time in proportion to the texts.
 #[tactic(auto, unfolding(crate::specs::PlainReading::plain_read))]
 pub fn read_plain<'a>(
     alloc: Global,

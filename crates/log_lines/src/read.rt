@@ -4,7 +4,7 @@ ghost use Rattle.log_lines.specs.Events.{event_view, line_view, received};
 ghost use Rattle.log_lines.specs.Places.{earlier};
 ghost use Rattle.log_lines.specs.Reading.{nothing_read, read_view, with_other, with_line};
 
-use crate::event::{Act, ClockedAt, Event, LineSays, Place, Said};
+use crate::event::{Act, ClockedAt, Event, LineSays, LoggedEvent, Place};
 use std::alloc::{AllocError, Global};
 
 /// Lines that aren't read.
@@ -17,7 +17,7 @@ pub struct Others {
 /// What is read of a log: its events, in the order of the lines, and which lines aren't read.
 #[derive(Debug, Drop)]
 pub struct Read<'a> {
-    pub said: Vec<Said<'a>>,
+    pub logged: Vec<LoggedEvent<'a>>,
     /// Those with their vector time.
     pub clocked: Vec<ClockedAt<'a>>,
     pub others: Option<Others>,
@@ -72,7 +72,7 @@ impl<'a> Read<'a> {
         ensures { read_view result ≡ nothing_read }
     {
         Read {
-            said: Vec::new(alloc),
+            logged: Vec::new(alloc),
             clocked: Vec::new(alloc),
             others: None,
         }
@@ -83,12 +83,12 @@ impl<'a> Read<'a> {
         ensures { OnOk result (read_view self.new ≡ with_line place (line_view line.entry) (read_view self.old)) }
     {
         match line {
-            LineSays::Event(event) => self.said.push(Said { event, place })?,
+            LineSays::Event(event) => self.logged.push(LoggedEvent { event, place })?,
             LineSays::Clocked(clocked) => self.clocked.push(ClockedAt { clocked, place })?,
             LineSays::Message(event) => {
-                self.said.push(Said { event, place })?;
+                self.logged.push(LoggedEvent { event, place })?;
                 let event = received(event);
-                self.said.push(Said { event, place })?;
+                self.logged.push(LoggedEvent { event, place })?;
             }
             LineSays::Nothing => {}
             LineSays::Other => self.others = Some(one_more(self.others, place)?),

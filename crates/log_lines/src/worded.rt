@@ -3,7 +3,7 @@ ghost use Rattle.std.specs.Prelude.{◌≡◌, IfOk};
 ghost use Rattle.log_lines.specs.ByWords.{by_words};
 ghost use Rattle.log_lines.specs.Reading.{read_view};
 
-use crate::clock_line::words_said;
+use crate::clock_line::event_in_words;
 use crate::read::Read;
 use std::alloc::{AllocError, Global};
 
@@ -14,18 +14,18 @@ pub fn by_words<'a>(alloc: Global, read: Read<'a>) -> Result<Read<'a>, AllocErro
     ensures { IfOk result (λ r. read_view r ≡ by_words (read_view read.entry)) }
 {
     let Read {
-        said,
+        logged,
         clocked,
         others,
     } = read;
-    let mut told = Read {
-        said,
+    let mut joined = Read {
+        logged,
         clocked: Vec::new(alloc),
         others,
     };
     for event in &clocked {
-        let says = words_said(alloc, event.clocked)?;
-        told.add(event.place, says)?;
+        let says = event_in_words(alloc, event.clocked)?;
+        joined.add(event.place, says)?;
     }
-    Ok(told)
+    Ok(joined)
 }

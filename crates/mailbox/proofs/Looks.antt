@@ -15,7 +15,7 @@ use Rattle.board.specs.declared.error.TakeError.{TakeError}
 use Rattle.board.specs.declared.error.TakeError.TheVariants.{NoSuchInstance, ToItself, LineFull, Memory}
 use Rattle.board.specs.Views.{BoardView, PostView, Sound, Stays}
 use Rattle.board.specs.Taking.{IsGot, IsFoundEmpty, Waits, Takes}
-use Rattle.board.specs.Glancing.{AreGlanced, IsFirstWaiting}
+use Rattle.board.specs.Peeking.{ArePeeked, IsFirstWaiting}
 use Rattle.board.proofs.Scanning.{and_true, and_assoc, sound-onward}
 use Rattle.mailbox.specs.TakingAny.{Look, lanes_of, NoneWaits, IsFirst, IsOneOpen, IsDrained, IsEnd, AreFoundEmpty, IsFirstUntaken, TakesFirst, LooksAtAll}
 
@@ -198,20 +198,20 @@ waits-none : (q : ℕ) (now : PostView) → 0 < length (waiting now.seen q now.n
 waits-none q now some none = absurd (omega (arith, some, ap length none))
 
 -- looks at the next lanes, one after another
-looked-along : (old mid new : PostView) (order some rest : List ℕ) (its_end more_end : Bool) → Sound old old → HasLooked old order (some ++ rest) its_end mid → AreGlanced mid some more_end new → HasLooked old order rest (its_end && more_end) new
-looked-along old mid new order [] rest its_end more_end first looked glanced =
-    subst (λ now. HasLooked old order rest (its_end && more_end) now) (sym glanced.0)
-    (subst (λ e. HasLooked old order rest e mid) (sym (ap (λ e. its_end && e) glanced.1 ∙ and_true its_end)) looked)
-looked-along old mid new order (q ∷ some) rest its_end more_end first looked glanced =
-    let sound = glanced.3 in
-    let here = looked-on old mid glanced.0 first order (q ∷ []) (some ++ rest) its_end looked sound glanced.1 glanced.4 (one-empty mid glanced.0 q glanced.1 sound glanced.5) (omega (arith, glanced.5.looked)) in
-    subst (λ e. HasLooked old order rest e new) (and_assoc its_end glanced.1 glanced.2 ∙ ap (λ e. its_end && e) (sym glanced.7))
-    (looked-along old glanced.0 new order some rest (its_end && glanced.1) glanced.2 first here glanced.6)
+looked-along : (old mid new : PostView) (order some rest : List ℕ) (its_end more_end : Bool) → Sound old old → HasLooked old order (some ++ rest) its_end mid → ArePeeked mid some more_end new → HasLooked old order rest (its_end && more_end) new
+looked-along old mid new order [] rest its_end more_end first looked peeked =
+    subst (λ now. HasLooked old order rest (its_end && more_end) now) (sym peeked.0)
+    (subst (λ e. HasLooked old order rest e mid) (sym (ap (λ e. its_end && e) peeked.1 ∙ and_true its_end)) looked)
+looked-along old mid new order (q ∷ some) rest its_end more_end first looked peeked =
+    let sound = peeked.3 in
+    let here = looked-on old mid peeked.0 first order (q ∷ []) (some ++ rest) its_end looked sound peeked.1 peeked.4 (one-empty mid peeked.0 q peeked.1 sound peeked.5) (omega (arith, peeked.5.looked)) in
+    subst (λ e. HasLooked old order rest e new) (and_assoc its_end peeked.1 peeked.2 ∙ ap (λ e. its_end && e) (sym peeked.7))
+    (looked-along old peeked.0 new order some rest (its_end && peeked.1) peeked.2 first here peeked.6)
 
 -- at all lanes, from the first on
-pub looked-among : (old new : PostView) (order : List ℕ) (its_end : Bool) → Sound old old → AreGlanced old order its_end new → HasLooked old order [] its_end new
-looked-among old new order its_end first glanced =
-    looked-along old old new order order [] true its_end first (subst (λ rest. HasLooked old order rest true old) (sym (append-nil order)) (looked-none old order first)) glanced
+pub looked-among : (old new : PostView) (order : List ℕ) (its_end : Bool) → Sound old old → ArePeeked old order its_end new → HasLooked old order [] its_end new
+looked-among old new order its_end first peeked =
+    looked-along old old new order order [] true its_end first (subst (λ rest. HasLooked old order rest true old) (sym (append-nil order)) (looked-none old order first)) peeked
 
 -- a message waits on one of the lanes, and then it was received, or refused
 pub message-among : (old now new : PostView) (order : List ℕ) (q : ℕ) (result : Result Taken TakeError) → Sound old old → IsFirstWaiting old order q now → Sound now new → Takes now q result new

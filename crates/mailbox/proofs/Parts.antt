@@ -10,8 +10,8 @@ use Rattle.board.specs.declared.answer.Scan.TheVariants as among
 use Rattle.board.specs.declared.answer.Taken.{Taken}
 use Rattle.board.specs.declared.error.TakeError.{TakeError}
 use Rattle.board.specs.Views.{PostView, Sound}
-use Rattle.board.specs.Glancing.{others, AreGlanced, IsFirstWaiting, GlancesAmong}
-use Rattle.board.proofs.Scanning.{glanced-append}
+use Rattle.board.specs.Peeking.{others, ArePeeked, IsFirstWaiting, PeeksAmong}
+use Rattle.board.proofs.Scanning.{peeked-append}
 use Rattle.mailbox.specs.TakingAny.{TakesFirst, LooksAtAll, TakesAny}
 
 -- the post is one of its board's instances, and `last` is one or 0
@@ -47,9 +47,9 @@ module _ (old : PostView) (last : ℕ) where
   })
 
   -- none was, and in the second part this
-  module _ (mid : PostView) (its_end : Bool) (sound : Sound old mid) (none : AreGlanced old (others old.number last old.board.size) its_end mid) where
-    here : (result : Scan) (new : PostView) → GlancesAmong mid (others mid.number 0 last) result new → GlancesAmong mid (others old.number 0 last) result new
-    here result new glances = subst (λ p. GlancesAmong mid (others p 0 last) result new) sound.same.number glances
+  module _ (mid : PostView) (its_end : Bool) (sound : Sound old mid) (none : ArePeeked old (others old.number last old.board.size) its_end mid) where
+    here : (result : Scan) (new : PostView) → PeeksAmong mid (others mid.number 0 last) result new → PeeksAmong mid (others old.number 0 last) result new
+    here result new peeks = subst (λ p. PeeksAmong mid (others p 0 last) result new) sound.same.number peeks
 
     pub then-found : (from : ℕ) (new : PostView) → IsFirstWaiting mid (others mid.number 0 last) from new → IsFirstWaiting old (scan old.board.size old.number last) from new
     then-found from new found =
@@ -61,19 +61,19 @@ module _ (old : PostView) (last : ℕ) where
           order_is = ap (λ xs. others old.number last old.board.size ++ xs) is.order_is ∙ sym (append_assoc (others old.number last old.board.size) is.before (from ∷ is.after));
           mid = is.mid;
           its_end = its_end && is.its_end;
-          empty = glanced-append old mid is.mid (others old.number last old.board.size) is.before its_end is.its_end none is.empty;
+          empty = peeked-append old mid is.mid (others old.number last old.board.size) is.before its_end is.its_end none is.empty;
           later = is.later;
           stays = is.stays;
           waits = is.waits;
         })
 
-    pub then-none : (f : Bool) (new : PostView) → AreGlanced mid (others mid.number 0 last) f new → AreGlanced old (scan old.board.size old.number last) (its_end && f) new
-    then-none f new glanced =
-        let are = subst (λ p. AreGlanced mid (others p 0 last) f new) sound.same.number glanced in
-        subst (λ order. AreGlanced old order (its_end && f) new) is-scan (glanced-append old mid new (others old.number last old.board.size) (others old.number 0 last) its_end f none are)
+    pub then-none : (f : Bool) (new : PostView) → ArePeeked mid (others mid.number 0 last) f new → ArePeeked old (scan old.board.size old.number last) (its_end && f) new
+    then-none f new peeked =
+        let are = subst (λ p. ArePeeked mid (others p 0 last) f new) sound.same.number peeked in
+        subst (λ order. ArePeeked old order (its_end && f) new) is-scan (peeked-append old mid new (others old.number last old.board.size) (others old.number 0 last) its_end f none are)
 
   -- the first part was the end
-  pub then-any : (mid new : PostView) (result : Scan) → Sound old mid → AreGlanced old (others old.number last old.board.size) true mid → GlancesAmong mid (others mid.number 0 last) result new → GlancesAmong old (scan old.board.size old.number last) result new
+  pub then-any : (mid new : PostView) (result : Scan) → Sound old mid → ArePeeked old (others old.number last old.board.size) true mid → PeeksAmong mid (others mid.number 0 last) result new → PeeksAmong old (scan old.board.size old.number last) result new
   then-any mid new (among.Message from) sound none found = then-found mid true sound none from new found
-  then-any mid new among.Nothing sound none glanced = then-none mid true sound none false new glanced
-  then-any mid new among.Ended sound none glanced = then-none mid true sound none true new glanced
+  then-any mid new among.Nothing sound none peeked = then-none mid true sound none false new peeked
+  then-any mid new among.Ended sound none peeked = then-none mid true sound none true new peeked

@@ -3,7 +3,7 @@ ghost use Rattle.std.specs.Prelude.{◌≤◌, unwrap_or};
 ghost use Rattle.chart.specs.Scans.{scan};
 ghost use Rattle.board.specs.Views.{Sound};
 ghost use Rattle.board.specs.Taking.{Takes};
-ghost use Rattle.board.specs.Glancing.{GlancesAmong};
+ghost use Rattle.board.specs.Peeking.{PeeksAmong};
 ghost use Rattle.mailbox.specs.TakingAny.{TakesAny};
 
 use board::{Post, Scan, TakeError, Taken};
@@ -45,13 +45,13 @@ fn any_after(post: &mut Post, last: usize) -> Result<Taken, TakeError>
 fn scan_after(post: &mut Post, last: usize) -> Scan
     requires known { last ≤ post.old.board.size }
     ensures sound { Sound post.old post.new }
-    ensures answer { GlancesAmong post.old (scan post.old.board.size post.old.number last) result post.new }
+    ensures answer { PeeksAmong post.old (scan post.old.board.size post.old.number last) result post.new }
 {
     let size = post.board_size();
-    match post.glance_among(last, size) {
+    match post.peek_among(last, size) {
         Scan::Message(other) => Scan::Message(other),
-        Scan::Ended => post.glance_among(0, last),
-        Scan::Nothing => match post.glance_among(0, last) {
+        Scan::Ended => post.peek_among(0, last),
+        Scan::Nothing => match post.peek_among(0, last) {
             Scan::Message(other) => Scan::Message(other),
             Scan::Nothing => Scan::Nothing,
             Scan::Ended => Scan::Nothing,

@@ -18,7 +18,8 @@ use board::{CloseError, Memory, Post, RegionError, SendError, Sent, TakeError, T
 use chart::{GrowingLine, InstanceNo, Message};
 use std::marker::Model;
 
-/// A post that keeps from which instance it got a message last, so that [`Mailbox::any`] gives each its turn.
+/// A post that keeps from which instance it got a message last, so that [`Mailbox::any`] gives each its turn: an
+/// actor's mailbox, with a lane for each sender.
 ///
 /// A contract sees its post and this instance, 0 for none. It is none at first. Each message that [`Mailbox::any`],
 /// [`Mailbox::receive`] and [`Mailbox::receive_up_to`] get makes it the sender, and no other call changes it. What

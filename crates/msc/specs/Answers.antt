@@ -13,24 +13,24 @@ use Rattle.c_board.specs.Refusals.{number_of}
 use Rattle.c_board.specs.Sending.{HandleSends}
 use Rattle.c_board.specs.SendingAll.{HandleSendsAll}
 use Rattle.chart.specs.Messages.{Content}
-use Rattle.c_board.specs.Receiving.{HandleTakes, HandleTakesAny, told_after}
+use Rattle.c_board.specs.Receiving.{HandleTakes, HandleTakesAny, arrived_after}
 use Rattle.c_board.specs.Closing.{HandleCloses}
 use Rattle.c_board.specs.Copying as races
 use Rattle.c_board.specs.Copying.{CopiesOut, picked_in}
 use Rattle.c_board.specs.declared.came.Which.{Which}
 use Rattle.c_board.specs.Opening.{Opens}
-use Rattle.c_board.specs.declared.found.Told.{Told}
+use Rattle.c_board.specs.declared.found.EventInfo.{EventInfo}
 use Rattle.c_board.specs.Regions.{HandleOpens, HandleShuts}
 use Rattle.c_board.specs.Reserving.{HandleReserves}
 use Rattle.c_board.specs.declared.boards.reports.Reported.{Reported}
 use Rattle.c_board.specs.declared.boards.left.Place.{Place}
 use Rattle.c_board.specs.declared.boards.left.Waiting.{Waiting}
-use Rattle.c_board.specs.Boards.BoardTelling.{HandleReports, HandleWaits, NameAndBody}
+use Rattle.c_board.specs.Boards.BoardCopies.{HandleReports, HandleWaits, NameAndBody}
 use Rattle.c_board.specs.Boards.BoardText.{HandleWritesText}
 use Rattle.c_board.specs.Gathering.{Gathers}
 use Rattle.c_board.specs.Meeting.{Meets}
 use Rattle.c_board.specs.Carrying.{CarriesAll}
-use Rattle.c_board.specs.Telling.{HandleTells}
+use Rattle.c_board.specs.EventInfos.{HandleCopies}
 use Rattle.msc.specs.declared.answers.MscEvent.{MscEvent}
 use Rattle.msc.specs.declared.answers.MscLeft.{MscLeft}
 use Rattle.msc.specs.declared.answers.MscReport.{MscReport}
@@ -65,26 +65,26 @@ number_after before (Err refusal) = before
 pub record Got (T : Type 0) : Type 0 where
   pub code : ℤ
   pub before : T
-  pub told : T
+  pub output : T
 
 -- what a send, a receive, .. answers: some answer of the handle's call has this code, and tells this
 abbrev pub Sends : Option Kept → ℕ → List ℕ → List ℕ → Got ℕ → Option Kept → Type 0
 Sends old to name body got new = (answer : Result EventNo Refusal)
     × HandleSends old to name body answer new × (got.code ≡ done_code answer)
-    × (got.told ≡ event_after got.before answer)
+    × (got.output ≡ event_after got.before answer)
 
 abbrev pub SendsAll : Option Kept → ℕ → List Content → Got ℕ → Option Kept → Type 0
 SendsAll old to all got new = (answer : Result ℕ Refusal)
     × HandleSendsAll old to all answer new × (got.code ≡ done_code answer)
-    × (got.told ≡ number_after got.before answer)
+    × (got.output ≡ number_after got.before answer)
 
 abbrev pub Takes : Option Kept → ℕ → Got Arrived → Option Kept → Type 0
 Takes old from got new = (answer : Result Found Refusal)
-    × HandleTakes old from answer new × (got.code ≡ found_code answer) × (got.told ≡ told_after got.before answer)
+    × HandleTakes old from answer new × (got.code ≡ found_code answer) × (got.output ≡ arrived_after got.before answer)
 
 abbrev pub TakesAny : Option Kept → Got Arrived → Option Kept → Type 0
 TakesAny old got new = (answer : Result Found Refusal)
-    × HandleTakesAny old answer new × (got.code ≡ found_code answer) × (got.told ≡ told_after got.before answer)
+    × HandleTakesAny old answer new × (got.code ≡ found_code answer) × (got.output ≡ arrived_after got.before answer)
 
 abbrev pub Closes : Option Kept → ℕ → ℤ → Option Kept → Type 0
 Closes old to code new = (answer : Result (Unit {0}) Refusal) × HandleCloses old to answer new
@@ -97,12 +97,12 @@ OpensAll k old code new = (answer : Result (Unit {0}) Refusal) × Opens k old an
 abbrev pub Copies : (Arrival → List ℕ) → Which → Option Kept → List ℕ → Got ℕ → List ℕ → Type 0
 Copies what which old room got out = (answer : Result ℕ Refusal)
     × CopiesOut what (picked_in which old) room answer out × (got.code ≡ done_code answer)
-    × (got.told ≡ number_after got.before answer)
+    × (got.output ≡ number_after got.before answer)
 
 abbrev pub CopiesRaces : Which → Option Kept → List ℕ → Got ℕ → List ℕ → Type 0
 CopiesRaces which old room got out = (answer : Result ℕ Refusal)
     × races.CopiesRaces (picked_in which old) room answer out × (got.code ≡ done_code answer)
-    × (got.told ≡ number_after got.before answer)
+    × (got.output ≡ number_after got.before answer)
 
 abbrev pub OpensRegion : Option Kept → ℤ → Option Kept → Type 0
 OpensRegion old code new = (answer : Result (Unit {0}) Refusal) × HandleOpens old answer new × (code ≡ done_code answer)
@@ -111,22 +111,22 @@ abbrev pub ShutsRegion : Option Kept → ℤ → Option Kept → Type 0
 ShutsRegion old code new = (answer : Result (Unit {0}) Refusal) × HandleShuts old answer new × (code ≡ done_code answer)
 
 -- what is told of an event, field by field: 1 says that it is a receive
-abbrev pub event_from : Told → MscEvent
-event_from told = record {
-  receives = cond told.receives 1 0;
-  partner = told.partner;
-  region = told.region;
-  name_length = told.name;
+abbrev pub event_from : EventInfo → MscEvent
+event_from output = record {
+  receives = cond output.receives 1 0;
+  partner = output.partner;
+  region = output.region;
+  name_length = output.name;
 }
 
 -- and else what was told before
-abbrev pub told_event : MscEvent → Result Told Refusal → MscEvent
-told_event before (Ok told) = event_from told
-told_event before (Err refusal) = before
+abbrev pub filled_event : MscEvent → Result EventInfo Refusal → MscEvent
+filled_event before (Ok output) = event_from output
+filled_event before (Err refusal) = before
 
-abbrev pub TellsEvent : Option Kept → ℕ → List ℕ → Got MscEvent → List ℕ → Type 0
-TellsEvent old number room got out = (answer : Result Told Refusal)
-    × HandleTells old number room answer out × (got.code ≡ done_code answer) × (got.told ≡ told_event got.before answer)
+abbrev pub CopiesEvent : Option Kept → ℕ → List ℕ → Got MscEvent → List ℕ → Type 0
+CopiesEvent old number room got out = (answer : Result EventInfo Refusal)
+    × HandleCopies old number room answer out × (got.code ≡ done_code answer) × (got.output ≡ filled_event got.before answer)
 
 abbrev pub Reserves : Option Kept → ℕ → ℤ → Option Kept → Type 0
 Reserves old events code new = (answer : Result (Unit {0}) Refusal) × HandleReserves old events answer new
@@ -143,41 +143,41 @@ abbrev pub CarriesBoard : Option Kept → List (Option Kept) → List ℕ → Go
     → List ℕ → Type 0
 CarriesBoard board old room got now new out = (answer : Result ℕ Refusal)
     × CarriesAll board old room answer now new out × (got.code ≡ done_code answer)
-    × (got.told ≡ number_after got.before answer)
+    × (got.output ≡ number_after got.before answer)
 
 abbrev pub WritesText : Option Kept → List (List ℕ) → List ℕ → Got ℕ → List ℕ → Type 0
 WritesText old names room got out = (answer : Result ℕ Refusal)
     × HandleWritesText old names room answer out × (got.code ≡ done_code answer)
-    × (got.told ≡ number_after got.before answer)
+    × (got.output ≡ number_after got.before answer)
 
 -- what is told of a report, field by field, and else what was told before
 abbrev pub report_from : Reported → MscReport
-report_from told = record { instance = told.instance; event = told.event; races = told.races }
+report_from output = record { instance = output.instance; event = output.event; races = output.races }
 
-abbrev pub told_report : MscReport → Result Reported Refusal → MscReport
-told_report before (Ok told) = report_from told
-told_report before (Err refusal) = before
+abbrev pub filled_report : MscReport → Result Reported Refusal → MscReport
+filled_report before (Ok output) = report_from output
+filled_report before (Err refusal) = before
 
-abbrev pub TellsReport : Option Kept → ℕ → List ℕ → Got MscReport → List ℕ → Type 0
-TellsReport old number room got out = (answer : Result Reported Refusal)
+abbrev pub CopiesReport : Option Kept → ℕ → List ℕ → Got MscReport → List ℕ → Type 0
+CopiesReport old number room got out = (answer : Result Reported Refusal)
     × HandleReports old number room answer out × (got.code ≡ done_code answer)
-    × (got.told ≡ told_report got.before answer)
+    × (got.output ≡ filled_report got.before answer)
 
 -- what is told of a message that waits, field by field, and else what was told before
 abbrev pub left_from : Waiting → MscLeft
-left_from told = record { name_length = told.name; body_length = told.body }
+left_from output = record { name_length = output.name; body_length = output.body }
 
-abbrev pub told_left : MscLeft → Result (Option Waiting) Refusal → MscLeft
-told_left before (Ok (Some told)) = left_from told
-told_left before (Ok None) = before
-told_left before (Err refusal) = before
+abbrev pub filled_left : MscLeft → Result (Option Waiting) Refusal → MscLeft
+filled_left before (Ok (Some output)) = left_from output
+filled_left before (Ok None) = before
+filled_left before (Err refusal) = before
 
 abbrev pub waiting_code : Result (Option Waiting) Refusal → ℤ
-waiting_code (Ok (Some told)) = pos 0
+waiting_code (Ok (Some output)) = pos 0
 waiting_code (Ok None) = pos 1
 waiting_code (Err refusal) = code_of refusal
 
-abbrev pub TellsLeft : Option Kept → Place → NameAndBody → Got MscLeft → NameAndBody → Type 0
-TellsLeft old place room got out = (answer : Result (Option Waiting) Refusal)
+abbrev pub CopiesLeft : Option Kept → Place → NameAndBody → Got MscLeft → NameAndBody → Type 0
+CopiesLeft old place room got out = (answer : Result (Option Waiting) Refusal)
     × HandleWaits old place room answer out × (got.code ≡ waiting_code answer)
-    × (got.told ≡ told_left got.before answer)
+    × (got.output ≡ filled_left got.before answer)

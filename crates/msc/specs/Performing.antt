@@ -27,4 +27,4 @@ pub record Streams : Type 0 where
 abbrev pub PerformsTask : ℕ → ℕ → List ℕ → Streams → Got MscLengths → Streams → Type 0
 PerformsTask task seed bytes room got written = (answer : Result Performed Refusal)
     × Performs (task_in task seed) bytes room.out room.err answer written.out written.err
-    × (got.code ≡ performed_code answer) × (got.told ≡ lengths_after got.before answer)
+    × (got.code ≡ performed_code answer) × (got.output ≡ lengths_after got.before answer)

@@ -35,5 +35,5 @@ many_of (Err refusal) = 0
 
 -- some answer of the handle's call has this code, and tells of these messages, so many
 abbrev pub TakesUpTo : Option Kept → ℕ → List Arrived → ℤ → List Arrived → ℕ → Option Kept → Type 0
-TakesUpTo old from room code told many new = (answer : Result FoundMany Refusal)
-    × HandleTakesMany old from room answer new told × (code ≡ many_code answer) × (many ≡ many_of answer)
+TakesUpTo old from room code output many new = (answer : Result FoundMany Refusal)
+    × HandleTakesMany old from room answer new output × (code ≡ many_code answer) × (many ≡ many_of answer)

@@ -13,4 +13,4 @@ use Rattle.msc.specs.Performing.{performed_code, lengths_after, Streams}
 abbrev pub ViewsTexts : List Bytes → Streams → Got MscLengths → Streams → Type 0
 ViewsTexts texts room got written = (answer : Result Performed Refusal)
     × ViewsSome texts room.out room.err answer written.out written.err
-    × (got.code ≡ performed_code answer) × (got.told ≡ lengths_after got.before answer)
+    × (got.code ≡ performed_code answer) × (got.output ≡ lengths_after got.before answer)

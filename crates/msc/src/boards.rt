@@ -4,11 +4,11 @@ ghost use Rattle.c_board.specs.Carrying.{MayCarryOver};
 ghost use Rattle.c_board.specs.Chairs.{KeepOneBoard};
 ghost use Rattle.c_board.specs.Boards.Naming.{words_in};
 ghost use Rattle.c_board.specs.Opening.{kept_by};
-ghost use Rattle.msc.specs.Answers.{CarriesBoard, GathersAll, MeetsAll, WritesText, TellsReport, TellsLeft};
+ghost use Rattle.msc.specs.Answers.{CarriesBoard, GathersAll, MeetsAll, WritesText, CopiesReport, CopiesLeft};
 
 use crate::answers::{MscLeft, MscReport};
 use crate::codes::{count_code, done_code, report_code, waiting_code};
-use c_board::boards::{Place, copy_text, tell_report, tell_waiting};
+use c_board::boards::{Place, copy_text, report_at, waiting_at};
 use c_board::{Handle, gather, meet};
 use std::alloc::Global;
 
@@ -39,7 +39,7 @@ pub extern "C" fn msc_carry_over_(
     requires one { KeepOneBoard (kept_by posts.old) }
     requires may { MayCarryOver board.old.slot.value (kept_by posts.old) }
     ensures { CarriesBoard board.old.slot.value (kept_by posts.old) carried.old
-        (record { code = result; before = count.old; told = count.new })
+        (record { code = result; before = count.old; output = count.new })
         board.new.slot.value (kept_by posts.new) carried.new }
 {
     count_code(board.carry_over(alloc, posts, carried), count)
@@ -56,7 +56,7 @@ pub extern "C" fn msc_board_text_(
 ) -> i32
     ensures same { board.new.slot.value ≡ board.old.slot.value }
     ensures answer { WritesText board.old.slot.value (words_in names.now lengths.now) buffer.old
-        (record { code = result; before = length.old; told = length.new }) buffer.new }
+        (record { code = result; before = length.old; output = length.new }) buffer.new }
 {
     count_code(copy_text(alloc, board, names, lengths, buffer), length)
 }
@@ -70,10 +70,10 @@ pub extern "C" fn msc_board_report_(
     buffer: &mut [u32],
 ) -> i32
     ensures same { board.new.slot.value ≡ board.old.slot.value }
-    ensures answer { TellsReport board.old.slot.value number buffer.old
-        (record { code = result; before = report.old; told = report.new }) buffer.new }
+    ensures answer { CopiesReport board.old.slot.value number buffer.old
+        (record { code = result; before = report.old; output = report.new }) buffer.new }
 {
-    report_code(tell_report(alloc, board, number, buffer), report)
+    report_code(report_at(alloc, board, number, buffer), report)
 }
 
 #[unsafe(no_mangle)]
@@ -86,8 +86,8 @@ pub extern "C" fn msc_board_left_(
     body: &mut [u8],
 ) -> i32
     ensures same { board.new.slot.value ≡ board.old.slot.value }
-    ensures answer { TellsLeft board.old.slot.value place.now (record { name = name.old; body = body.old })
-        (record { code = result; before = left.old; told = left.new }) (record { name = name.new; body = body.new }) }
+    ensures answer { CopiesLeft board.old.slot.value place.now (record { name = name.old; body = body.old })
+        (record { code = result; before = left.old; output = left.new }) (record { name = name.new; body = body.new }) }
 {
-    waiting_code(tell_waiting(alloc, board, place, name, body), left)
+    waiting_code(waiting_at(alloc, board, place, name, body), left)
 }

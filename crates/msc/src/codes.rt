@@ -1,15 +1,15 @@
 //! Answers as numbers.
 ghost use Rattle.std.specs.Prelude.{◌≡◌};
-ghost use Rattle.c_board.specs.Receiving.{found_with, told_after};
+ghost use Rattle.c_board.specs.Receiving.{found_with, arrived_after};
 ghost use Rattle.c_board.specs.declared.found.Arrived.{Arrived};
 ghost use Rattle.msc.specs.Answers.{code_of, done_code, found_code, number_after};
-ghost use Rattle.msc.specs.Answers.{event_from, told_event, report_from, told_report, left_from, waiting_code};
-ghost use Rattle.msc.specs.Answers.{told_left};
+ghost use Rattle.msc.specs.Answers.{event_from, filled_event, report_from, filled_report, left_from, waiting_code};
+ghost use Rattle.msc.specs.Answers.{filled_left};
 
 use crate::answers::{MscEvent, MscLeft, MscReport};
-use board::Glance;
+use board::Peek;
 use c_board::boards::{Reported, Waiting};
-use c_board::{Arrived, Found, Refusal, Told};
+use c_board::{Arrived, EventInfo, Found, Refusal};
 
 /// The number of a refusal, below 0.
 #[inline(always)]
@@ -21,13 +21,13 @@ pub(crate) fn code_of(refusal: Refusal) -> i32
 
 /// The number of what a receive answers; of a message that came it tells.
 #[inline(always)]
-pub(crate) fn found_code(answer: Result<Found, Refusal>, told: &mut Arrived) -> i32
+pub(crate) fn found_code(answer: Result<Found, Refusal>, output: &mut Arrived) -> i32
     ensures code { result ≡ found_code answer }
-    ensures told { told.new ≡ told_after told.old answer }
+    ensures output { output.new ≡ arrived_after output.old answer }
 {
     match answer {
         Ok(Found::Message(arrived)) => {
-            *told = arrived;
+            *output = arrived;
             0
         }
         Ok(Found::Nothing) => 1,
@@ -38,13 +38,13 @@ pub(crate) fn found_code(answer: Result<Found, Refusal>, told: &mut Arrived) -> 
 
 /// The number of what a receive answers that has told of its message elsewhere.
 #[inline(always)]
-pub(crate) fn glance_code(answer: Result<Glance, Refusal>) -> i32
-    ensures { (told : Arrived) → result ≡ found_code (found_with answer told) }
+pub(crate) fn peek_code(answer: Result<Peek, Refusal>) -> i32
+    ensures { (output : Arrived) → result ≡ found_code (found_with answer output) }
 {
     match answer {
-        Ok(Glance::Message) => 0,
-        Ok(Glance::Nothing) => 1,
-        Ok(Glance::Ended) => 2,
+        Ok(Peek::Message) => 0,
+        Ok(Peek::Nothing) => 1,
+        Ok(Peek::Ended) => 2,
         Err(refusal) => code_of(refusal),
     }
 }
@@ -88,25 +88,25 @@ pub(crate) fn first_code(answer: Result<u32, Refusal>, event: &mut u32) -> i32
 }
 
 /// What is told of an event, as C reads it.
-fn event_from(told: Told) -> MscEvent
-    ensures { result ≡ event_from told }
+fn event_from(output: EventInfo) -> MscEvent
+    ensures { result ≡ event_from output }
 {
     MscEvent {
-        receives: if told.receives { 1 } else { 0 },
-        partner: told.partner,
-        region: told.region,
-        name_length: told.name,
+        receives: if output.receives { 1 } else { 0 },
+        partner: output.partner,
+        region: output.region,
+        name_length: output.name,
     }
 }
 
 /// The number of what is told or refused, and what is told.
-pub(crate) fn event_code(answer: Result<Told, Refusal>, event: &mut MscEvent) -> i32
+pub(crate) fn event_code(answer: Result<EventInfo, Refusal>, event: &mut MscEvent) -> i32
     ensures code { result ≡ done_code answer }
-    ensures event { event.new ≡ told_event event.old answer }
+    ensures event { event.new ≡ filled_event event.old answer }
 {
     match answer {
-        Ok(told) => {
-            *event = event_from(told);
+        Ok(output) => {
+            *event = event_from(output);
             0
         }
         Err(refusal) => code_of(refusal),
@@ -127,7 +127,7 @@ fn report_from(reported: Reported) -> MscReport
 /// The number of what is told of a report or refused, and what is told.
 pub(crate) fn report_code(answer: Result<Reported, Refusal>, report: &mut MscReport) -> i32
     ensures code { result ≡ done_code answer }
-    ensures report { report.new ≡ told_report report.old answer }
+    ensures report { report.new ≡ filled_report report.old answer }
 {
     match answer {
         Ok(reported) => {
@@ -151,7 +151,7 @@ fn left_from(waiting: Waiting) -> MscLeft
 /// The number of what is told of a message that waits, if there is one, or refused; and what is told.
 pub(crate) fn waiting_code(answer: Result<Option<Waiting>, Refusal>, left: &mut MscLeft) -> i32
     ensures code { result ≡ waiting_code answer }
-    ensures left { left.new ≡ told_left left.old answer }
+    ensures left { left.new ≡ filled_left left.old answer }
 {
     match answer {
         Ok(Some(waiting)) => {

@@ -15,7 +15,7 @@ pub extern "C" fn msc_view_(
     lengths: &mut MscLengths,
 ) -> i32
     ensures { ViewsTexts texts.now (record { out = out.old; err = err.old })
-        (record { code = result; before = lengths.old; told = lengths.new }) (record { out = out.new; err = err.new }) }
+        (record { code = result; before = lengths.old; output = lengths.new }) (record { out = out.new; err = err.new }) }
 {
     performed_code(view_into(alloc, words, texts, out, err), lengths)
 }

@@ -32,7 +32,7 @@ pub extern "C" fn msc_name_(
 ) -> i32
     ensures same { post.new.slot.value ≡ post.old.slot.value }
     ensures answer { Copies name_in Last post.old.slot.value buffer.old
-        (record { code = result; before = length.old; told = length.new }) buffer.new }
+        (record { code = result; before = length.old; output = length.new }) buffer.new }
 {
     count_code(post.copy_name(alloc, Which::Last, buffer), length)
 }
@@ -46,7 +46,7 @@ pub extern "C" fn msc_body_(
 ) -> i32
     ensures same { post.new.slot.value ≡ post.old.slot.value }
     ensures answer { Copies body_in Last post.old.slot.value buffer.old
-        (record { code = result; before = length.old; told = length.new }) buffer.new }
+        (record { code = result; before = length.old; output = length.new }) buffer.new }
 {
     count_code(post.copy_body(alloc, Which::Last, buffer), length)
 }
@@ -60,7 +60,7 @@ pub extern "C" fn msc_races_(
 ) -> i32
     ensures same { post.new.slot.value ≡ post.old.slot.value }
     ensures answer { CopiesRaces Last post.old.slot.value buffer.old
-        (record { code = result; before = count.old; told = count.new }) buffer.new }
+        (record { code = result; before = count.old; output = count.new }) buffer.new }
 {
     count_code(post.copy_races(alloc, Which::Last, buffer), count)
 }
@@ -75,7 +75,7 @@ pub extern "C" fn msc_name_of_(
 ) -> i32
     ensures same { post.new.slot.value ≡ post.old.slot.value }
     ensures answer { Copies name_in (At place) post.old.slot.value buffer.old
-        (record { code = result; before = length.old; told = length.new }) buffer.new }
+        (record { code = result; before = length.old; output = length.new }) buffer.new }
 {
     count_code(post.copy_name(alloc, Which::At(place), buffer), length)
 }
@@ -90,7 +90,7 @@ pub extern "C" fn msc_body_of_(
 ) -> i32
     ensures same { post.new.slot.value ≡ post.old.slot.value }
     ensures answer { Copies body_in (At place) post.old.slot.value buffer.old
-        (record { code = result; before = length.old; told = length.new }) buffer.new }
+        (record { code = result; before = length.old; output = length.new }) buffer.new }
 {
     count_code(post.copy_body(alloc, Which::At(place), buffer), length)
 }
@@ -105,7 +105,7 @@ pub extern "C" fn msc_races_of_(
 ) -> i32
     ensures same { post.new.slot.value ≡ post.old.slot.value }
     ensures answer { CopiesRaces (At place) post.old.slot.value buffer.old
-        (record { code = result; before = count.old; told = count.new }) buffer.new }
+        (record { code = result; before = count.old; output = count.new }) buffer.new }
 {
     count_code(post.copy_races(alloc, Which::At(place), buffer), count)
 }

@@ -43,7 +43,7 @@ pub extern "C" fn msc_perform_(
     lengths: &mut MscLengths,
 ) -> i32
     ensures { PerformsTask task seed text.now (record { out = out.old; err = err.old })
-        (record { code = result; before = lengths.old; told = lengths.new }) (record { out = out.new; err = err.new }) }
+        (record { code = result; before = lengths.old; output = lengths.new }) (record { out = out.new; err = err.new }) }
 {
     performed_code(perform_into(alloc, task, seed, text, out, err), lengths)
 }

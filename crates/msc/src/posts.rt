@@ -2,11 +2,11 @@
 ghost use Rattle.std.specs.Prelude.{◌≡◌, None};
 ghost use Rattle.c_board.specs.Opening.{kept_by};
 ghost use Rattle.msc.specs.Answers.{Sends, Takes, TakesAny, Closes, OpensAll, OpensRegion};
-ghost use Rattle.msc.specs.Answers.{ShutsRegion, TellsEvent, Reserves, SendsAll};
+ghost use Rattle.msc.specs.Answers.{ShutsRegion, CopiesEvent, Reserves, SendsAll};
 ghost use Rattle.c_board.specs.SendingAll.{contents_in};
 
 use crate::answers::MscEvent;
-use crate::codes::{code_of, done_code, event_code, first_code, found_code, glance_code};
+use crate::codes::{code_of, done_code, event_code, first_code, found_code, peek_code};
 use c_board::{Arrived, Handle, MessageLengths, open};
 use std::alloc::Global;
 
@@ -27,7 +27,7 @@ pub extern "C" fn msc_send_(
     event: &mut u32,
 ) -> i32
     ensures { Sends post.old.slot.value to name.now body.now
-        (record { code = result; before = event.old; told = event.new }) post.new.slot.value }
+        (record { code = result; before = event.old; output = event.new }) post.new.slot.value }
 {
     match post.send(alloc, to, name, body) {
         Ok(sent) => {
@@ -48,7 +48,7 @@ pub extern "C" fn msc_send_all_(
     event: &mut u32,
 ) -> i32
     ensures { SendsAll post.old.slot.value to (contents_in bytes.now lengths.now)
-        (record { code = result; before = event.old; told = event.new }) post.new.slot.value }
+        (record { code = result; before = event.old; output = event.new }) post.new.slot.value }
 {
     first_code(post.send_all(alloc, to, bytes, lengths), event)
 }
@@ -60,15 +60,15 @@ pub extern "C" fn msc_receive_(
     from: u32,
     arrival: &mut Arrived,
 ) -> i32
-    ensures { Takes post.old.slot.value from (record { code = result; before = arrival.old; told = arrival.new })
+    ensures { Takes post.old.slot.value from (record { code = result; before = arrival.old; output = arrival.new })
         post.new.slot.value }
 {
-    glance_code(post.receive(alloc, from, arrival))
+    peek_code(post.receive(alloc, from, arrival))
 }
 
 #[unsafe(no_mangle)]
 pub extern "C" fn msc_any_(alloc: Global, post: &mut Handle, arrival: &mut Arrived) -> i32
-    ensures { TakesAny post.old.slot.value (record { code = result; before = arrival.old; told = arrival.new })
+    ensures { TakesAny post.old.slot.value (record { code = result; before = arrival.old; output = arrival.new })
         post.new.slot.value }
 {
     found_code(post.any(alloc), arrival)
@@ -111,8 +111,8 @@ pub extern "C" fn msc_event_(
     buffer: &mut [u8],
 ) -> i32
     ensures same { post.new.slot.value ≡ post.old.slot.value }
-    ensures answer { TellsEvent post.old.slot.value number buffer.old
-        (record { code = result; before = event.old; told = event.new }) buffer.new }
+    ensures answer { CopiesEvent post.old.slot.value number buffer.old
+        (record { code = result; before = event.old; output = event.new }) buffer.new }
 {
     event_code(post.event(alloc, number, buffer), event)
 }

@@ -12,15 +12,15 @@ use chart::{EventNo, EventRange, Name, Names, Report};
 use itoa::Buffer;
 use texts::{Held, Out, TextBuffer, WriteError, named};
 
-/// The most bytes that stand around the number of an earlier event: a word and a space, a name and a space before it, and
-/// behind it a space, a number and the line's end.
+/// The most bytes that stand around the number of an earlier event: a word and a space, a name and a space before it,
+/// and behind it a space, a number and the line's end.
 const MOST_ENDS: usize = 80;
 
 /// The tens of no event's number.
 const NO_TENS: u32 = u32::MAX;
 
-/// A race line. Those of events whose numbers have all digits but the last in common differ in that digit alone, so that
-/// one line serves them all.
+/// A race line. Those of events whose numbers have all digits but the last in common differ in that digit alone, so
+/// that one line serves them all.
 #[derive(Drop)]
 struct MadeLine {
     line: Held,

@@ -4,7 +4,7 @@ use Rattle.std.proofs.lemmas.List.{take_all}
 use Rattle.std.specs.Prelude.{slice_get, Option, None, Some, Result, Ok, Err, IsErrAnd}
 use Rattle.std.specs.Global.{Vec}
 use Rattle.cmd_base.specs.declared.error.ProgramError.{ProgramError}
-use Rattle.mscview_requests.specs.Given.{named_so, files_said, told_files, AreGiven, IsNotGiven, AreAnswered}
+use Rattle.mscview_requests.specs.Given.{named_so, files_named, diagnostic_files, AreGiven, IsNotGiven, AreAnswered}
 use Rattle.mscview_requests.specs.declared.file_bytes.FileBytes.{FileBytes}
 
 same : {A : Type 0} {a b : A} → Some a ≡ Some b → a ≡ b
@@ -65,7 +65,7 @@ pub given_all : {W : Type 0} (gives : ℕ → Option (List ℕ) → Result (List
 given_all gives f words texts n whole all = subst (λ ws. AreGiven gives 0 (map f ws) texts) (take_all n words whole) all
 
 -- the names of several files
-pub several : {W : Type 0} (f : W → List ℕ) (words : List W) → 2 ≤ length words → files_said (map f words) ≡ map (λ w. Some (f w)) words
+pub several : {W : Type 0} (f : W → List ℕ) (words : List W) → 2 ≤ length words → files_named (map f words) ≡ map (λ w. Some (f w)) words
 several f [] many = absurd (omega (arith, many))
 several f (w ∷ []) many = absurd (omega (arith, many))
 several {W = W} f (w ∷ v ∷ words) many = ap (λ fs. Some (f w) ∷ Some (f v) ∷ fs) (each words)
@@ -75,22 +75,22 @@ several {W = W} f (w ∷ v ∷ words) many = ap (λ fs. Some (f w) ∷ Some (f v
     each (w ∷ ws) = ap (λ fs. Some (f w) ∷ fs) (each ws)
 
 -- by which they are told
-pub told_several : {W : Type 0} (f : W → List ℕ) (words : List W) → 2 ≤ length words → told_files (map f words) ≡ map f words
-told_several f [] many = absurd (omega (arith, many))
-told_several f (w ∷ []) many = absurd (omega (arith, many))
-told_several f (w ∷ v ∷ words) many = refl
+pub diagnostic_several : {W : Type 0} (f : W → List ℕ) (words : List W) → 2 ≤ length words → diagnostic_files (map f words) ≡ map f words
+diagnostic_several f [] many = absurd (omega (arith, many))
+diagnostic_several f (w ∷ []) many = absurd (omega (arith, many))
+diagnostic_several f (w ∷ v ∷ words) many = refl
 
-pub told_one : {W : Type 0} (f : W → List ℕ) (words : List W) (n : ℕ) → n ≡ length words → n + 1 ≤ 2 → told_files (map f words) ≡ []
-told_one f [] n is few = refl
-told_one f (w ∷ []) n is few = refl
-told_one f (w ∷ v ∷ words) n is few = absurd (omega (arith, is, few))
+pub diagnostic_one : {W : Type 0} (f : W → List ℕ) (words : List W) (n : ℕ) → n ≡ length words → n + 1 ≤ 2 → diagnostic_files (map f words) ≡ []
+diagnostic_one f [] n is few = refl
+diagnostic_one f (w ∷ []) n is few = refl
+diagnostic_one f (w ∷ v ∷ words) n is few = absurd (omega (arith, is, few))
 
 -- one file, or none
-pub none_named : {W : Type 0} (f : W → List ℕ) (words : List W) → slice_get words 0 ≡ None → files_said (map f words) ≡ None ∷ []
+pub none_named : {W : Type 0} (f : W → List ℕ) (words : List W) → slice_get words 0 ≡ None → files_named (map f words) ≡ None ∷ []
 none_named f [] at = refl
 none_named f (w ∷ words) at = absurd (never (sym at))
 
-pub one_named : {W : Type 0} (f : W → List ℕ) (words : List W) (word : W) → length words ≤ 1 → slice_get words 0 ≡ Some word → files_said (map f words) ≡ named_so (f word) ∷ []
+pub one_named : {W : Type 0} (f : W → List ℕ) (words : List W) (word : W) → length words ≤ 1 → slice_get words 0 ≡ Some word → files_named (map f words) ≡ named_so (f word) ∷ []
 one_named f [] word few at = absurd (never at)
 one_named f (w ∷ []) word few at = ap (λ x. named_so (f x) ∷ []) (same at)
 one_named f (w ∷ v ∷ words) word few at = absurd (omega (arith, few))

@@ -16,22 +16,22 @@ abbrev pub named_so : List ℕ → Option (List ℕ)
 named_so word = if bytes_eq word (codes "-") then None else Some word
 
 -- the same where there may be no word: then standard input is read
-abbrev pub file_said : Option (List ℕ) → Option (List ℕ)
-file_said None = None
-file_said (Some word) = named_so word
+abbrev pub file_named : Option (List ℕ) → Option (List ℕ)
+file_named None = None
+file_named (Some word) = named_so word
 
 -- the files of a command that reads any number of them: standard input where no word names one, or where there is one word
 -- for it; among several `-` is a file's name
-abbrev pub files_said : List (List ℕ) → List (Option (List ℕ))
-files_said [] = None ∷ []
-files_said (word ∷ []) = named_so word ∷ []
-files_said (first ∷ second ∷ words) = map Some (first ∷ second ∷ words)
+abbrev pub files_named : List (List ℕ) → List (Option (List ℕ))
+files_named [] = None ∷ []
+files_named (word ∷ []) = named_so word ∷ []
+files_named (first ∷ second ∷ words) = map Some (first ∷ second ∷ words)
 
 -- the names of several files, by which their lines are told; of one none
-abbrev pub told_files : List (List ℕ) → List (List ℕ)
-told_files [] = []
-told_files (word ∷ []) = []
-told_files (first ∷ second ∷ words) = first ∷ second ∷ words
+abbrev pub diagnostic_files : List (List ℕ) → List (List ℕ)
+diagnostic_files [] = []
+diagnostic_files (word ∷ []) = []
+diagnostic_files (first ∷ second ∷ words) = first ∷ second ∷ words
 
 -- the files from this place on were given, with these bytes
 abbrev pub AreGiven : (ℕ → Option (List ℕ) → Result (List ℕ) ProgramError → Type 0) → ℕ → List (Option (List ℕ)) → List (List ℕ) → Type 0

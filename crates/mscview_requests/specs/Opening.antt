@@ -5,7 +5,7 @@ use Rattle.cmd_import_log.specs.Options as logs
 use Rattle.mscview_requests.specs.Words.Words.{AreNotRead}
 use Rattle.cli.specs.declared.view.request.ImportLog.{ImportLog}
 use Rattle.mscview_requests.specs.FileBytes.{bytes_of}
-use Rattle.mscview_requests.specs.Given.{files_said, told_files, AreGiven, IsNotGiven}
+use Rattle.mscview_requests.specs.Given.{files_named, diagnostic_files, AreGiven, IsNotGiven}
 use Rattle.mscview_requests.specs.Readings.{log_words_view}
 use Rattle.mscview_requests.specs.Wanted.{IsLog}
 use Rattle.mscview_requests.specs.declared.recorded.OpenLog.{OpenLog}
@@ -13,11 +13,11 @@ use Rattle.mscview_requests.specs.declared.recorded.OpenLog.{OpenLog}
 -- the words say how the log is read, and its files were given; of several the names are kept
 pub record IsOpened (gives : ℕ → Option (List ℕ) → Result (List ℕ) ProgramError → Type 0) (log : ImportLog) (opened : OpenLog) : Type 0 where
   pub words : IsLog log (log_words_view opened.words)
-  pub texts : AreGiven gives 0 (files_said (map (λ word. word.now) log.files.items)) (map bytes_of opened.texts.items)
-  pub names : map (λ name. name.now) opened.names.items ≡ told_files (map (λ word. word.now) log.files.items)
+  pub texts : AreGiven gives 0 (files_named (map (λ word. word.now) log.files.items)) (map bytes_of opened.texts.items)
+  pub names : map (λ name. name.now) opened.names.items ≡ diagnostic_files (map (λ word. word.now) log.files.items)
 
 -- a log is opened; or its words say nothing, or one of its files isn't given, or memory runs out
 abbrev pub OpensLog : (ℕ → Option (List ℕ) → Result (List ℕ) ProgramError → Type 0) → ImportLog → Result OpenLog ProgramError → Type 0
 OpensLog gives log (Ok opened) = IsOpened gives log opened
 OpensLog gives log (Err error) = AreNotRead (IsLog log) error
-    ⊎ ((wanted : logs.OptionsView) × IsLog log wanted × IsNotGiven gives 0 (files_said (map (λ word. word.now) log.files.items)) error)
+    ⊎ ((wanted : logs.OptionsView) × IsLog log wanted × IsNotGiven gives 0 (files_named (map (λ word. word.now) log.files.items)) error)

@@ -1,17 +1,17 @@
 -- What `mscview` does for each command line (this project's profile).
 use Rattle.std.specs.Prelude.{◌≡◌, ◌⊎◌, ℕ, Bool, true, false, List, [], ◌∷◌, map, Option, None, Some, option_map, Result, Ok, Err}
-use Rattle.cmd_compare.specs.Answers.{compare_said}
+use Rattle.cmd_compare.specs.Answers.{compare_exit}
 use Rattle.cmd_compare.specs.Comparisons.{ComparesFiles}
 use Rattle.diagram_import.specs.Importing as diagrams
-use Rattle.cmd_explain_file.specs.Explaining.{Explains, explained_said}
+use Rattle.cmd_explain_file.specs.Explaining.{Explains, explained_exit}
 use Rattle.cmd_base.specs.Answers.{Answers}
 use Rattle.cmd_base.specs.Refusals.{refusal_text, Tried}
 use Rattle.cmd_base.specs.declared.error.ProgramError.{ProgramError}
 use Rattle.cmd_base.specs.declared.error.ProgramError.TheVariants.{Usage}
-use Rattle.cmd_draw.specs.Answers.{drawn_said}
+use Rattle.cmd_draw.specs.Answers.{draw_exit}
 use Rattle.cmd_draw.specs.Drawing.{DrawsText}
-use Rattle.cmd_draw.specs.Exporting.{ExportsText, export_said}
-use Rattle.cmd_draw.specs.Targets.{target_said}
+use Rattle.cmd_draw.specs.Exporting.{ExportsText, export_exit}
+use Rattle.cmd_draw.specs.Targets.{target_named}
 use Rattle.cmd_import_diagram.specs.Importing as diagram_answers
 use Rattle.cmd_page.specs.Imports.Drawings as diagram_pages
 use Rattle.cmd_draw.specs.Imports.Drawing as diagram_pictures
@@ -20,19 +20,19 @@ use Rattle.cmd_import_log.specs.Importing as log_answers
 use Rattle.cmd_import_log.specs.Options as logs
 use Rattle.cmd_page.specs.Logs.Showing as log_pages
 use Rattle.cmd_races.specs.Logs.Showing as log_races
-use Rattle.cmd_mend.specs.Answers.{mend_said, mend_all_said}
+use Rattle.cmd_mend.specs.Answers.{mend_exit, mend_all_exit}
 use Rattle.cmd_mend.specs.Showing as mends
 use Rattle.cmd_mend.specs.declared.showing.Wanted as mend_wanted
 use Rattle.texts.specs.Outs.{Sink}
 use Rattle.mscview_requests.specs.Words.Words.{SayNothing, AreNotRead}
 use Rattle.cmd_page.specs.Showing as pages
-use Rattle.cmd_page.specs.Showing.{page_said}
+use Rattle.cmd_page.specs.Showing.{page_exit}
 use Rattle.cmd_races.specs.Showing as races
-use Rattle.cmd_races.specs.Statuses.{shown_said}
+use Rattle.cmd_races.specs.Statuses.{shown_exit}
 use Rattle.cmd_races.specs.declared.judging.LuckWanted.{LuckWanted}
 use Rattle.cmd_races.specs.declared.showing.Wanted.{Wanted}
 use Rattle.cmd_races.specs.Schedules.Showing.{ShowsLuck}
-use Rattle.cmd_tidy.specs.Tidying.{Tidies, tidy_said}
+use Rattle.cmd_tidy.specs.Tidying.{Tidies, tidy_exit}
 use Rattle.diagram_tool.specs.declared.Tool.{Tool}
 use Rattle.cli.specs.declared.view.request.Compare.{Compare}
 use Rattle.cli.specs.declared.view.request.Draw.{Draw}
@@ -50,68 +50,68 @@ use Rattle.cli.specs.declared.view.request.Races.{Races}
 use Rattle.cli.specs.declared.view.request.Reading.{Reading}
 use Rattle.cli.specs.declared.view.request.Request.{Request}
 use Rattle.cli.specs.declared.view.request.Request.TheVariants as requests
-use Rattle.cmd_explain_race.specs.Answers.{why_said, witness_said}
+use Rattle.cmd_explain_race.specs.Answers.{why_exit, witness_exit}
 use Rattle.cmd_explain_race.specs.Views.{Whys}
 use Rattle.cmd_explain_race.specs.Witnessing.{Witnesses}
 use Rattle.cmd_base.specs.declared.pairs.pair.Asked.{Asked}
-use Rattle.cmd_draw.specs.Witness.Answers.{picture_said}
+use Rattle.cmd_draw.specs.Witness.Answers.{picture_exit}
 use Rattle.cmd_draw.specs.Witness.Drawing.{DrawsWitnessText}
-use Rattle.mscview_requests.specs.Given.{named_so, file_said, files_said, told_files, AreGiven, IsNotGiven}
+use Rattle.mscview_requests.specs.Given.{named_so, file_named, files_named, diagnostic_files, AreGiven, IsNotGiven}
 use Rattle.mscview_requests.specs.Lines.{RefusesWords}
 use Rattle.mscview_requests.specs.Wanted.{IsAsked, IsMend, IsPicture, IsPictureOf, IsBeside, IsNameOf, titled_path, first_path, comparison_form, AreRaces, AreJudged, IsReading, IsLog}
 
 -- What commands do, by what is known of standard output and of standard error, with what they were before and are afterwards.
-module _ {S V : Type 0} (sink : S → Sink) (old new : S) (told : V → Sink) (before after : V) where
+module _ {S V : Type 0} (sink : S → Sink) (old new : S) (diagnostics : V → Sink) (before after : V) where
   -- a pair of events was explained, or turned round
   abbrev pub DoesPair : question.Question → Asked → List ℕ → ℕ → Type 0
-  DoesPair Witness asked text status = Answers (Witnesses sink old new text asked) witness_said told before after status
-  DoesPair Why asked text status = Answers (Whys sink old new text asked) why_said told before after status
+  DoesPair Witness asked text status = Answers (Witnesses sink old new text asked) witness_exit diagnostics before after status
+  DoesPair Why asked text status = Answers (Whys sink old new text asked) why_exit diagnostics before after status
 
   -- the races of a chart or of a schedule were shown; where luck is asked for, those that were luck
   abbrev pub DoesRaces : Bool → Wanted → List ℕ → ℕ → Type 0
-  DoesRaces true wanted text status = Answers (ShowsLuck sink old new wanted text) shown_said told before after status
-  DoesRaces false wanted text status = Answers (races.ShowsText sink old new wanted text) shown_said told before after status
+  DoesRaces true wanted text status = Answers (ShowsLuck sink old new wanted text) shown_exit diagnostics before after status
+  DoesRaces false wanted text status = Answers (races.ShowsText sink old new wanted text) shown_exit diagnostics before after status
 
   -- the races of another tool's text were shown
   abbrev pub DoesToolRaces : Races → Option Tool × diagrams.OptionsView → List ℕ → ℕ → Type 0
   DoesToolRaces asked reading text status = (wanted : Wanted) × AreRaces asked.showing wanted
-      × Answers (diagram_races.ShowsDrawing sink old new reading.0 text reading.1 wanted) diagram_races.races_said told before after status
+      × Answers (diagram_races.ShowsDrawing sink old new reading.0 text reading.1 wanted) diagram_races.races_exit diagnostics before after status
 
   -- a log was read; of several files the lines are told by their names
   abbrev pub DoesLog : ImportLog → logs.OptionsView → List (List ℕ) → ℕ → Type 0
-  DoesLog log options texts status = (names : List (List ℕ)) × (names ≡ told_files (map (λ word. word.now) log.files.items))
-      × Answers (λ done. log_answers.Imports sink old new done options texts) (log_answers.imported_said names) told before after status
+  DoesLog log options texts status = (names : List (List ℕ)) × (names ≡ diagnostic_files (map (λ word. word.now) log.files.items))
+      × Answers (λ done. log_answers.Imports sink old new done options texts) (log_answers.imported_exit names) diagnostics before after status
 
   -- the races of a log were shown
   abbrev pub DoesLogRaces : LogRaces → logs.OptionsView → List (List ℕ) → ℕ → Type 0
   DoesLogRaces asked options texts status = (wanted : LuckWanted) × (names : List (List ℕ)) × AreJudged asked.showing wanted
-      × (names ≡ told_files (map (λ word. word.now) asked.log.files.items))
-      × Answers (log_races.ShowsLog sink old new options texts wanted) (log_races.races_said names) told before after status
+      × (names ≡ diagnostic_files (map (λ word. word.now) asked.log.files.items))
+      × Answers (log_races.ShowsLog sink old new options texts wanted) (log_races.races_exit names) diagnostics before after status
 
   -- the page of a file was written, called as a picture of it is
   abbrev pub DoesPage : Option (List ℕ) → List ℕ → ℕ → Type 0
   DoesPage file text status = (title : List ℕ) × IsNameOf (titled_path file) title
-      × Answers (pages.ShowsText sink old new (pages.titled title) text) page_said told before after status
+      × Answers (pages.ShowsText sink old new (pages.titled title) text) page_exit diagnostics before after status
 
   -- the page of another tool's text was written, called as a picture of the file is
   abbrev pub DoesToolPage : Option (List ℕ) → Option Tool × diagrams.OptionsView → List ℕ → ℕ → Type 0
   DoesToolPage file reading text status = (title : List ℕ) × IsNameOf (titled_path file) title
-      × Answers (diagram_pages.ShowsDrawing sink old new reading.0 text reading.1 title) diagram_pages.page_said told before after status
+      × Answers (diagram_pages.ShowsDrawing sink old new reading.0 text reading.1 title) diagram_pages.page_exit diagnostics before after status
 
   -- the page of a log was written, called as a picture of its first file is
   abbrev pub DoesLogPage : ImportLog → logs.OptionsView → List (List ℕ) → ℕ → Type 0
   DoesLogPage log options texts status = (title : List ℕ) × (names : List (List ℕ))
       × IsNameOf (titled_path (first_path (map (λ word. word.now) log.files.items))) title
-      × (names ≡ told_files (map (λ word. word.now) log.files.items))
-      × Answers (log_pages.ShowsLog sink old new options texts title) (log_pages.page_said names) told before after status
+      × (names ≡ diagnostic_files (map (λ word. word.now) log.files.items))
+      × Answers (log_pages.ShowsLog sink old new options texts title) (log_pages.page_exit names) diagnostics before after status
 
   -- a message was added by which a race goes
   abbrev pub DoesMend : mend_wanted.Wanted → List ℕ → ℕ → Type 0
-  DoesMend wanted text status = Answers (mends.ShowsText sink old new wanted text) mend_said told before after status
+  DoesMend wanted text status = Answers (mends.ShowsText sink old new wanted text) mend_exit diagnostics before after status
 
 -- Of the files of a command line these may be given, by their places and names; and what is known of standard output and of
 -- standard error, with what they were before and are afterwards.
-module _ {S V : Type 0} (gives : ℕ → Option (List ℕ) → Result (List ℕ) ProgramError → Type 0) (sink : S → Sink) (old new : S) (told : V → Sink) (before after : V) where
+module _ {S V : Type 0} (gives : ℕ → Option (List ℕ) → Result (List ℕ) ProgramError → Type 0) (sink : S → Sink) (old new : S) (diagnostics : V → Sink) (before after : V) where
   -- nothing was written
   abbrev pub IsSilent : Type 0
   IsSilent = (new ≡ old) × (after ≡ before)
@@ -135,24 +135,24 @@ module _ {S V : Type 0} (gives : ℕ → Option (List ℕ) → Result (List ℕ)
   -- a pair of events was explained, or turned round
   abbrev pub ViewsPair : Pair → Result ℕ ProgramError → Type 0
   ViewsPair pair = OfFile (IsAsked pair.instance.now pair.earlier.now pair.receive.now)
-      (SayNothing (IsAsked pair.instance.now pair.earlier.now pair.receive.now)) (named_so pair.file.now) (DoesPair sink old new told before after pair.question)
+      (SayNothing (IsAsked pair.instance.now pair.earlier.now pair.receive.now)) (named_so pair.file.now) (DoesPair sink old new diagnostics before after pair.question)
 
   -- a chart or a schedule was drawn
   abbrev pub ViewsFilePicture : Draw → Result ℕ ProgramError → Type 0
-  ViewsFilePicture draw = OfFile (IsPicture draw) (SayNothing (IsPicture draw)) (file_said (option_map (λ word. word.now) draw.file))
-      (λ wanted text status. Answers (DrawsText sink old new wanted text) drawn_said told before after status)
+  ViewsFilePicture draw = OfFile (IsPicture draw) (SayNothing (IsPicture draw)) (file_named (option_map (λ word. word.now) draw.file))
+      (λ wanted text status. Answers (DrawsText sink old new wanted text) draw_exit diagnostics before after status)
 
   -- another tool's text was drawn
   abbrev pub ViewsPictureOf : Draw → Reading → Result ℕ ProgramError → Type 0
   ViewsPictureOf draw reading = OfFile (IsPictureOf draw reading) (AreNotRead (IsPictureOf draw reading))
-      (file_said (option_map (λ word. word.now) draw.file))
+      (file_named (option_map (λ word. word.now) draw.file))
       (λ asked text status. Answers (diagram_pictures.DrawsDrawing sink old new asked.1.0 text asked.1.1 asked.0)
-      diagram_pictures.picture_said told before after status)
+      diagram_pictures.picture_exit diagnostics before after status)
 
   -- a chart was drawn beside its witness
   abbrev pub ViewsWitnessPicture : DrawWitness → Result ℕ ProgramError → Type 0
-  ViewsWitnessPicture draw = OfFile (IsBeside draw) (SayNothing (IsBeside draw)) (file_said (option_map (λ word. word.now) draw.file))
-      (λ wanted text status. Answers (DrawsWitnessText sink old new wanted.0 wanted.1 text) picture_said told before after status)
+  ViewsWitnessPicture draw = OfFile (IsBeside draw) (SayNothing (IsBeside draw)) (file_named (option_map (λ word. word.now) draw.file))
+      (λ wanted text status. Answers (DrawsWitnessText sink old new wanted.0 wanted.1 text) picture_exit diagnostics before after status)
 
   -- by whether another tool's text is read
   abbrev pub ViewsPictureBy : Option Reading → Draw → Result ℕ ProgramError → Type 0
@@ -164,30 +164,30 @@ module _ {S V : Type 0} (gives : ℕ → Option (List ℕ) → Result (List ℕ)
 
   -- a file was written for another tool
   abbrev pub ViewsExport : Export → Result ℕ ProgramError → Type 0
-  ViewsExport export = OfFile (λ target. target_said export.to.now ≡ Some target) (SayNothing (λ target. target_said export.to.now ≡ Some target))
-      (file_said (option_map (λ word. word.now) export.file))
-      (λ target text status. Answers (ExportsText sink old new target text) export_said told before after status)
+  ViewsExport export = OfFile (λ target. target_named export.to.now ≡ Some target) (SayNothing (λ target. target_named export.to.now ≡ Some target))
+      (file_named (option_map (λ word. word.now) export.file))
+      (λ target text status. Answers (ExportsText sink old new target text) export_exit diagnostics before after status)
 
   -- another tool's text was read
   abbrev pub ViewsImport : Import → Result ℕ ProgramError → Type 0
-  ViewsImport wanted = OfFile (IsReading wanted.reading) (AreNotRead (IsReading wanted.reading)) (file_said (option_map (λ word. word.now) wanted.file))
-      (λ reading text status. Answers (λ done. diagram_answers.Imports sink old new done reading.0 text reading.1) diagram_answers.imported_said told before after status)
+  ViewsImport wanted = OfFile (IsReading wanted.reading) (AreNotRead (IsReading wanted.reading)) (file_named (option_map (λ word. word.now) wanted.file))
+      (λ reading text status. Answers (λ done. diagram_answers.Imports sink old new done reading.0 text reading.1) diagram_answers.imported_exit diagnostics before after status)
 
   -- a log was read
   abbrev pub ViewsLog : ImportLog → Result ℕ ProgramError → Type 0
-  ViewsLog log = OfFiles (IsLog log) (files_said (map (λ word. word.now) log.files.items)) (DoesLog sink old new told before after log)
+  ViewsLog log = OfFiles (IsLog log) (files_named (map (λ word. word.now) log.files.items)) (DoesLog sink old new diagnostics before after log)
 
   -- two files were compared; the first is read before the second, and `-` is a file's name
   abbrev pub ViewsComparison : Compare → Result ℕ ProgramError → Type 0
   ViewsComparison wanted (Ok status) = (first : List ℕ) × (second : List ℕ)
       × gives 0 (Some wanted.first.now) (Ok first) × gives 1 (Some wanted.second.now) (Ok second)
-      × Answers (ComparesFiles sink old new (comparison_form wanted.json) first second) compare_said told before after status
+      × Answers (ComparesFiles sink old new (comparison_form wanted.json) first second) compare_exit diagnostics before after status
   ViewsComparison wanted (Err error) = IsSilent × IsNotGiven gives 0 (Some wanted.first.now ∷ Some wanted.second.now ∷ []) error
 
   -- the races of a chart or of a schedule were shown
   abbrev pub ViewsFileRaces : Races → Result ℕ ProgramError → Type 0
-  ViewsFileRaces asked = OfFileAlone (file_said (option_map (λ word. word.now) asked.file))
-      (λ text status. (wanted : Wanted) × AreRaces asked.showing wanted × DoesRaces sink old new told before after asked.showing.luck wanted text status)
+  ViewsFileRaces asked = OfFileAlone (file_named (option_map (λ word. word.now) asked.file))
+      (λ text status. (wanted : Wanted) × AreRaces asked.showing wanted × DoesRaces sink old new diagnostics before after asked.showing.luck wanted text status)
 
   -- the text wasn't given; or it was, and luck is asked for, of which such a text tells nothing (G1)
   abbrev pub HasNoLuck : Bool → Option (List ℕ) → ProgramError → Type 0
@@ -195,10 +195,10 @@ module _ {S V : Type 0} (gives : ℕ → Option (List ℕ) → Result (List ℕ)
 
   abbrev pub ViewsRacesOf : Races → Reading → Result ℕ ProgramError → Type 0
   ViewsRacesOf asked reading (Ok status) = (asked.showing.luck ≡ false) × OfFile (IsReading reading) (AreNotRead (IsReading reading))
-      (file_said (option_map (λ word. word.now) asked.file)) (DoesToolRaces sink old new told before after asked) (Ok status)
+      (file_named (option_map (λ word. word.now) asked.file)) (DoesToolRaces sink old new diagnostics before after asked) (Ok status)
   ViewsRacesOf asked reading (Err error) = IsSilent × (AreNotRead (IsReading reading) error
       ⊎ ((wanted : Option Tool × diagrams.OptionsView) × IsReading reading wanted
-      × HasNoLuck asked.showing.luck (file_said (option_map (λ word. word.now) asked.file)) error))
+      × HasNoLuck asked.showing.luck (file_named (option_map (λ word. word.now) asked.file)) error))
 
   -- by whether another tool's text is read
   abbrev pub ViewsRacesBy : Option Reading → Races → Result ℕ ProgramError → Type 0
@@ -210,37 +210,37 @@ module _ {S V : Type 0} (gives : ℕ → Option (List ℕ) → Result (List ℕ)
 
   -- the races of a log were shown
   abbrev pub ViewsLogRaces : LogRaces → Result ℕ ProgramError → Type 0
-  ViewsLogRaces asked = OfFiles (IsLog asked.log) (files_said (map (λ word. word.now) asked.log.files.items)) (DoesLogRaces sink old new told before after asked)
+  ViewsLogRaces asked = OfFiles (IsLog asked.log) (files_named (map (λ word. word.now) asked.log.files.items)) (DoesLogRaces sink old new diagnostics before after asked)
 
   -- a message was added by which a race goes, or all by which races become fewer
   abbrev pub ViewsMend : mend.Mend → Result ℕ ProgramError → Type 0
   ViewsMend (One name file instance earlier receive) result =
       OfFile (IsMend (option_map (λ word. word.now) name) instance.now earlier.now receive.now)
       (SayNothing (IsMend (option_map (λ word. word.now) name) instance.now earlier.now receive.now)) (named_so file.now)
-      (DoesMend sink old new told before after) result
-  ViewsMend (All file) result = OfFileAlone (file_said (option_map (λ word. word.now) file))
-      (λ text status. Answers (mends.ShowsAllText sink old new text) mend_all_said told before after status) result
+      (DoesMend sink old new diagnostics before after) result
+  ViewsMend (All file) result = OfFileAlone (file_named (option_map (λ word. word.now) file))
+      (λ text status. Answers (mends.ShowsAllText sink old new text) mend_all_exit diagnostics before after status) result
 
   -- the page of a file was written
   abbrev pub ViewsPage : Option (List ℕ) → Result ℕ ProgramError → Type 0
-  ViewsPage file = OfFileAlone (file_said file) (DoesPage sink old new told before after file)
+  ViewsPage file = OfFileAlone (file_named file) (DoesPage sink old new diagnostics before after file)
 
   -- the page of another tool's text was written
   abbrev pub ViewsToolPage : Import → Result ℕ ProgramError → Type 0
-  ViewsToolPage wanted = OfFile (IsReading wanted.reading) (AreNotRead (IsReading wanted.reading)) (file_said (option_map (λ word. word.now) wanted.file))
-      (DoesToolPage sink old new told before after (option_map (λ word. word.now) wanted.file))
+  ViewsToolPage wanted = OfFile (IsReading wanted.reading) (AreNotRead (IsReading wanted.reading)) (file_named (option_map (λ word. word.now) wanted.file))
+      (DoesToolPage sink old new diagnostics before after (option_map (λ word. word.now) wanted.file))
 
   -- the page of a log was written
   abbrev pub ViewsLogPage : ImportLog → Result ℕ ProgramError → Type 0
-  ViewsLogPage log = OfFiles (IsLog log) (files_said (map (λ word. word.now) log.files.items)) (DoesLogPage sink old new told before after log)
+  ViewsLogPage log = OfFiles (IsLog log) (files_named (map (λ word. word.now) log.files.items)) (DoesLogPage sink old new diagnostics before after log)
 
   -- the exact text of what is typed in a file was written
   abbrev pub ViewsTidy : Option (List ℕ) → Result ℕ ProgramError → Type 0
-  ViewsTidy file = OfFileAlone (file_said file) (λ text status. Answers (Tidies sink old new text) tidy_said told before after status)
+  ViewsTidy file = OfFileAlone (file_named file) (λ text status. Answers (Tidies sink old new text) tidy_exit diagnostics before after status)
 
   -- it was told what a file is
   abbrev pub ViewsExplanation : Option (List ℕ) → Result ℕ ProgramError → Type 0
-  ViewsExplanation file = OfFileAlone (file_said file) (λ text status. Answers (Explains sink old new text) explained_said told before after status)
+  ViewsExplanation file = OfFileAlone (file_named file) (λ text status. Answers (Explains sink old new text) explained_exit diagnostics before after status)
 
   -- what comes of each command line
   abbrev pub Comes : Request → Result ℕ ProgramError → Type 0
@@ -262,12 +262,12 @@ module _ {S V : Type 0} (gives : ℕ → Option (List ℕ) → Result (List ℕ)
 
 -- a refusal's line was written to standard error, or a beginning of it where that failed, and the status is 2
 abbrev pub IsRefusedBy : {V : Type 0} → ProgramError → (V → Sink) → V → V → ℕ → Type 0
-IsRefusedBy error told before after status = (status ≡ 2) × Tried told before after (refusal_text error)
+IsRefusedBy error diagnostics before after status = (status ≡ 2) × Tried diagnostics before after (refusal_text error)
 
 -- the exit status of what came of a command line; a refusal is told
 abbrev pub Ends : {V : Type 0} → Result ℕ ProgramError → (V → Sink) → V → V → ℕ → Type 0
-Ends (Ok status') told before after status = (status ≡ status') × (after ≡ before)
-Ends (Err error) told before after status = IsRefusedBy error told before after status
+Ends (Ok status') diagnostics before after status = (status ≡ status') × (after ≡ before)
+Ends (Err error) diagnostics before after status = IsRefusedBy error diagnostics before after status
 
 -- an output: what is known of it by its kind, with what it was before and is afterwards
 pub record Stream (S : Type 0) : Type 0 where

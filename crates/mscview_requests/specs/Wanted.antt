@@ -6,7 +6,7 @@ use Rattle.diagram_import.specs.Importing as diagrams
 use Rattle.diagram_import.specs.declared.skipping.Skip.{Skip}
 use Rattle.cmd_base.specs.Numbers.{IsNumber, number_of}
 use Rattle.cmd_draw.specs.Spans.{AreEvents}
-use Rattle.cmd_draw.specs.Targets.{tool_said}
+use Rattle.cmd_draw.specs.Targets.{tool_named}
 use Rattle.cmd_draw.specs.Titles.{IsFileName}
 use Rattle.cmd_draw.specs.declared.drawing.Wanted as pictures
 use Rattle.cmd_draw.specs.declared.events.Events.{Events}
@@ -18,11 +18,11 @@ use Rattle.log_lines.specs.declared.range.LineRange.{LineRange}
 use Rattle.cmd_mend.specs.declared.showing.Wanted as mends
 use Rattle.mscview_requests.specs.Words.Hosts.{AreFirst, IsPeer}
 use Rattle.mscview_requests.specs.Words.Joins.{IsJoin}
-use Rattle.mscview_requests.specs.Words.Words.{AreSaid}
+use Rattle.mscview_requests.specs.Words.Words.{AreRead}
 use Rattle.cmd_races.specs.declared.judging.LuckWanted as judged
 use Rattle.cmd_races.specs.declared.showing.Wanted as races
-use Rattle.races_text.specs.declared.named.telling.Form as telling
-use Rattle.races_text.specs.declared.named.telling.Form.TheVariants as tellings
+use Rattle.races_text.specs.declared.named.listing.Form as listing
+use Rattle.races_text.specs.declared.named.listing.Form.TheVariants as listings
 use Rattle.diagram_tool.specs.declared.Tool.{Tool}
 use Rattle.cli.specs.declared.view.request.Draw.{Draw}
 use Rattle.cli.specs.declared.view.request.DrawWitness.{DrawWitness}
@@ -109,9 +109,9 @@ abbrev pub comparison_form : Bool → comparison.Form
 comparison_form true = comparisons.Json
 comparison_form false = comparisons.Plain
 
-abbrev pub races_form : Bool → telling.Form
-races_form true = tellings.Json
-races_form false = tellings.Plain
+abbrev pub races_form : Bool → listing.Form
+races_form true = listings.Json
+races_form false = listings.Plain
 
 -- the races that are wanted
 pub record AreRaces (showing : Showing) (wanted : races.Wanted) : Type 0 where
@@ -129,7 +129,7 @@ pub record AreJudged (showing : Showing) (wanted : judged.LuckWanted) : Type 0 w
 abbrev pub IsTool : Option (List ℕ) → Option Tool → Type 0
 IsTool None tool = tool ≡ None
 IsTool (Some word) None = ⊥
-IsTool (Some word) (Some tool) = tool_said word ≡ Some tool
+IsTool (Some word) (Some tool) = tool_named word ≡ Some tool
 
 -- the lines that a word says to skip
 pub record IsSkip (word : List ℕ) (skip : Skip) : Type 0 where
@@ -141,15 +141,15 @@ pub record IsSkip (word : List ℕ) (skip : Skip) : Type 0 where
 -- how another tool's text is read: as which tool's, and with which options
 pub record IsReading (reading : Reading) (wanted : Option Tool × diagrams.OptionsView) : Type 0 where
   pub tool : IsTool (option_map (λ word. word.now) reading.from) wanted.0
-  pub skipped : AreSaid IsSkip (map (λ word. word.now) reading.skipped.items) wanted.1.skipped
-  pub joined : AreSaid IsJoin (map (λ word. word.now) reading.joined.items) wanted.1.joins
+  pub skipped : AreRead IsSkip (map (λ word. word.now) reading.skipped.items) wanted.1.skipped
+  pub joined : AreRead IsJoin (map (λ word. word.now) reading.joined.items) wanted.1.joins
   pub strict : wanted.1.is_strict ≡ reading.strict
 
 -- how the lines of a log are written
-abbrev pub form_said : LogForm → logs.FormView
-form_said forms.Plain = Plain
-form_said (forms.Pattern text) = Pattern text.now
-form_said forms.ShiViz = ShiViz
+abbrev pub form_of : LogForm → logs.FormView
+form_of forms.Plain = Plain
+form_of (forms.Pattern text) = Pattern text.now
+form_of forms.ShiViz = ShiViz
 
 -- the number of a line that a word says, at least 1; without a word this one
 abbrev pub IsLine : ℕ → Option (List ℕ) → ℕ → Type 0
@@ -164,10 +164,10 @@ pub record AreLines (first last : Option (List ℕ)) (range : LineRange) : Type 
 
 -- how a log is read
 pub record IsLog (log : ImportLog) (options : logs.OptionsView) : Type 0 where
-  pub form : options.form ≡ form_said log.form
+  pub form : options.form ≡ form_of log.form
   pub range : AreLines (option_map (λ word. word.now) log.from_line) (option_map (λ word. word.now) log.to_line) options.range
   pub hosts : AreFirst (option_map (λ word. word.now) log.hosts) options.hosts
-  pub peers : AreSaid IsPeer (map (λ word. word.now) log.peers.items) options.peers
+  pub peers : AreRead IsPeer (map (λ word. word.now) log.peers.items) options.peers
 
 -- the picture that is wanted of another tool's text, and how that is read
 abbrev pub IsPictureOf : Draw → Reading → pictures.Wanted × (Option Tool × diagrams.OptionsView) → Type 0

@@ -1,6 +1,6 @@
 //! Pictures, and texts for other tools.
 ghost use Rattle.std.specs.Prelude.{◌≡◌, Some, option_map};
-ghost use Rattle.cmd_draw.specs.Targets.{target_said};
+ghost use Rattle.cmd_draw.specs.Targets.{target_named};
 ghost use Rattle.mscview_requests.specs.Words.Words.{Says};
 ghost use Rattle.mscview_requests.specs.Views.{ViewsPicture, ViewsFilePicture, ViewsExport};
 ghost use Rattle.mscview_requests.specs.Wanted.{IsPicture, TitleBy, IsNameOf, AreDrawn, AreRows, titled_path};
@@ -132,7 +132,7 @@ pub(crate) fn view_picture<G: Giver, W: Out, V: Out>(
 
 /// What is to be exported to. G1: the word says none.
 fn target_by(word: &str) -> Result<Target, ProgramError>
-    ensures { Says (λ target. target_said word.now ≡ Some target) result }
+    ensures { Says (λ target. target_named word.now ≡ Some target) result }
 {
     match target_in(word) {
         Some(target) => Ok(target),

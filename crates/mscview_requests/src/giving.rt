@@ -1,7 +1,7 @@
 //! What gives the bytes of the files that a command line names.
 ghost use Rattle.std.specs.Prelude.{◌≡◌, ℕ, List, Option, Result, option_map};
 ghost use Rattle.cmd_base.specs.declared.error.ProgramError.{ProgramError};
-ghost use Rattle.mscview_requests.specs.Given.{named_so, file_said, given_in};
+ghost use Rattle.mscview_requests.specs.Given.{named_so, file_named, given_in};
 
 use crate::file_bytes::FileBytes;
 use cmd_base::ProgramError;
@@ -13,8 +13,8 @@ pub trait Giver {
     /// name it is standard input.
     ghost gives: { Self → ℕ → Option (List ℕ) → Result (List ℕ) ProgramError → Type 0 };
 
-    /// The bytes of the file that is read at this place of the command line, from 0, and has this name; without a name it
-    /// is standard input.
+    /// The bytes of the file that is read at this place of the command line, from 0, and has this name; without a name
+    /// it is standard input.
     fn bytes_in(
         &self,
         alloc: Global,
@@ -32,8 +32,8 @@ fn named_so(word: &str) -> Option<&str>
 }
 
 /// The same where there may be no word: then standard input is read.
-fn file_said(word: Option<&str>) -> Option<&str>
-    ensures { option_map (λ w. w.now) result ≡ file_said (option_map (λ w. w.now) word.entry) }
+fn file_named(word: Option<&str>) -> Option<&str>
+    ensures { option_map (λ w. w.now) result ≡ file_named (option_map (λ w. w.now) word.entry) }
 {
     match word {
         None => None,
@@ -47,7 +47,7 @@ pub(crate) fn first_in<'a, G: Giver>(
     giver: &'a G,
     word: Option<&str>,
 ) -> Result<FileBytes<'a>, ProgramError>
-    ensures { G.gives giver.now 0 (file_said (option_map (λ w. w.now) word.entry)) (given_in result) }
+    ensures { G.gives giver.now 0 (file_named (option_map (λ w. w.now) word.entry)) (given_in result) }
 {
-    giver.bytes_in(alloc, 0, file_said(word))
+    giver.bytes_in(alloc, 0, file_named(word))
 }

@@ -4,7 +4,7 @@ ghost use Rattle.cmd_base.specs.declared.error.ProgramError.TheVariants.{Memory}
 ghost use Rattle.diagram_join.specs.Joins.{join_view};
 ghost use Rattle.diagram_import.specs.Importing.{options_view};
 ghost use Rattle.mscview_requests.specs.Readings.{read_view, skips_of};
-ghost use Rattle.mscview_requests.specs.Words.Words.{AreSaid, Says, Reads};
+ghost use Rattle.mscview_requests.specs.Words.Words.{AreRead, Says, Reads};
 ghost use Rattle.mscview_requests.specs.Views.{ViewsImport, ViewsPictureOf, ViewsRacesOf, ViewsToolPage};
 ghost use Rattle.mscview_requests.specs.Wanted.{IsTool, IsSkip, IsReading};
 
@@ -62,7 +62,7 @@ fn skip_by(word: &str) -> Result<Skip, ProgramError>
 
 /// The lines that are skipped. G1: a word says none.
 fn skips_by(alloc: Global, words: &[&str]) -> Result<Vec<Skip>, ProgramError>
-    ensures { Reads result skips_of (AreSaid IsSkip (map (λ w. w.now) words.now)) }
+    ensures { Reads result skips_of (AreRead IsSkip (map (λ w. w.now) words.now)) }
 {
     let mut skips = Vec::new(alloc);
     for word in words {

@@ -1,9 +1,9 @@
 //! All that `mscview` does with a command line, over what gives the bytes of files, and what is written to.
 //!
 //! What is promised of [`view_request`], of what a command line asks for: the words and the bytes that are given of
-//! the files decide what is written. Each command does with the bytes what its own crate promises (`specs/Views`):
-//! it is the command that is asked for, with the options that the words say, over the files that they name, each in
-//! its place.
+//! the files decide what is written. Each command does with the bytes what its own crate or module promises
+//! (`specs/Views`): it is the command that is asked for, with the options that the words say, over the files that
+//! they name, each in its place.
 //!
 //! - The words are looked at first. Where they say nothing that the command could do, they are refused (G1), and no
 //!   file is read.
@@ -30,8 +30,8 @@ mod racing;
 mod recorded;
 mod refusing;
 mod requests;
-mod telling;
 pub mod words;
+mod writing;
 
 pub use counting::many_files;
 pub use file_bytes::FileBytes;

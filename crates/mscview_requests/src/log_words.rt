@@ -5,7 +5,7 @@ ghost use Rattle.cmd_import_log.specs.Options.{form_view, options_view};
 ghost use Rattle.log_lines.specs.Names.Hosts.{peer_view};
 ghost use Rattle.mscview_requests.specs.Readings.{log_words_view};
 ghost use Rattle.mscview_requests.specs.Words.Words.{Says, Reads};
-ghost use Rattle.mscview_requests.specs.Wanted.{form_said, IsLine, AreLines, IsLog};
+ghost use Rattle.mscview_requests.specs.Wanted.{form_of, IsLine, AreLines, IsLog};
 
 use crate::asking::number_by;
 use crate::words::{PeerWord, hosts_by, peer_words, peers_of};
@@ -27,7 +27,7 @@ pub(crate) struct LogWords<'a> {
 
 /// How the lines of the log are written.
 fn form_by<'a>(form: LogForm<'a>) -> Form<'a>
-    ensures { form_view result ≡ form_said form.entry }
+    ensures { form_view result ≡ form_of form.entry }
 {
     match form {
         LogForm::Plain => Form::Plain,

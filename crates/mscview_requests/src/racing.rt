@@ -31,8 +31,8 @@ pub(crate) fn wanted_by<'a>(showing: &Showing<'a>) -> Wanted<'a>
     }
 }
 
-/// Shows the races of a chart or of a schedule: where luck is asked for, those that were luck. G1: luck is asked for of a
-/// chart, which tells nothing of it.
+/// Shows the races of a chart or of a schedule: where luck is asked for, those that were luck. G1: luck is asked for of
+/// a chart, which tells nothing of it.
 fn answer_races<W: Out, V: Out>(
     alloc: Global,
     luck: bool,

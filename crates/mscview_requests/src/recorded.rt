@@ -1,7 +1,7 @@
 //! Logs: the charts that they say, and the races and pages of these.
 ghost use Rattle.std.specs.Prelude.{◌≡◌, ◌∷◌, [], map, option_map, IfOk, Some};
 ghost use Rattle.mscview_requests.specs.FileBytes.{bytes_of};
-ghost use Rattle.mscview_requests.specs.Given.{file_said, files_said, told_files, AreAnswered};
+ghost use Rattle.mscview_requests.specs.Given.{file_named, files_named, diagnostic_files, AreAnswered};
 ghost use Rattle.mscview_requests.specs.Opening.{OpensLog};
 ghost use Rattle.mscview_requests.specs.Views.{ViewsLog, ViewsLogPage, ViewsLogRaces};
 ghost use Rattle.mscview_requests.specs.Wanted.{AreJudged, IsNameOf, first_path, titled_path};
@@ -44,7 +44,7 @@ fn one_in<'a, G: Giver>(
     giver: &'a G,
     file: Option<&str>,
 ) -> Result<Vec<FileBytes<'a>>, ProgramError>
-    ensures { AreAnswered (G.gives giver.now) (file_said (option_map (λ w. w.now) file.entry) ∷ []) result }
+    ensures { AreAnswered (G.gives giver.now) (file_named (option_map (λ w. w.now) file.entry) ∷ []) result }
 {
     let mut texts = Vec::new(alloc);
     let text = first_in(alloc, giver, file)?;
@@ -60,7 +60,7 @@ fn texts_in<'a, G: Giver>(
     giver: &'a G,
     files: &[&str],
 ) -> Result<Vec<FileBytes<'a>>, ProgramError>
-    ensures { AreAnswered (G.gives giver.now) (files_said (map (λ w. w.now) files.now)) result }
+    ensures { AreAnswered (G.gives giver.now) (files_named (map (λ w. w.now) files.now)) result }
 {
     if files.len() > 1 {
         return all_in(alloc, giver, files);
@@ -72,8 +72,8 @@ fn texts_in<'a, G: Giver>(
 }
 
 /// The names of several files, by which their lines are told; of one none.
-fn told_files<'a>(alloc: Global, files: &[&'a str]) -> Result<Vec<&'a [u8]>, AllocError>
-    ensures { IfOk result (λ names. map (λ w. w.now) names.items ≡ told_files (map (λ w. w.now) files.now)) }
+fn diagnostic_files<'a>(alloc: Global, files: &[&'a str]) -> Result<Vec<&'a [u8]>, AllocError>
+    ensures { IfOk result (λ names. map (λ w. w.now) names.items ≡ diagnostic_files (map (λ w. w.now) files.now)) }
 {
     if files.len() < 2 {
         return Ok(Vec::new(alloc));
@@ -88,8 +88,8 @@ fn slices_of<'a>(alloc: Global, texts: &'a [FileBytes<'_>]) -> Result<Vec<&'a [u
     texts.iter().map(|text| text.as_slice()).collect(alloc)
 }
 
-/// A log that was opened: what the words say of how it is read, the bytes of its files, and the names by which the lines of
-/// several files are told.
+/// A log that was opened: what the words say of how it is read, the bytes of its files, and the names by which the
+/// lines of several files are told.
 struct OpenLog<'a> {
     words: LogWords<'a>,
     texts: Vec<FileBytes<'a>>,
@@ -118,7 +118,7 @@ fn open_log<'a, G: Giver>(
 {
     let words = log_words(alloc, log)?;
     let texts = texts_in(alloc, giver, &log.files)?;
-    let Ok(names) = told_files(alloc, &log.files) else {
+    let Ok(names) = diagnostic_files(alloc, &log.files) else {
         return Err(ProgramError::Memory);
     };
     Ok(OpenLog {

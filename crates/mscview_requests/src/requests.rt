@@ -10,7 +10,7 @@ use crate::mends::view_mend;
 use crate::racing::view_races;
 use crate::recorded::{view_log, view_log_page, view_log_races};
 use crate::refusing::refusal;
-use crate::telling::{view_explanation, view_page, view_tidy};
+use crate::writing::{view_explanation, view_page, view_tidy};
 use cli::view::{Request, requested};
 use cmd_base::{ProgramError, refused};
 use std::alloc::Global;
@@ -46,9 +46,9 @@ fn come<G: Giver, W: Out, V: Out>(
     }
 }
 
-/// Does what a command line asks for, with the files that the giver gives, and answers the exit status: that of the command,
-/// or 2 where a word (G1) or a file is refused. Then nothing is written to `out`, and the refusal's line to `err`. A failed
-/// write to `err` changes nothing.
+/// Does what a command line asks for, with the files that the giver gives, and answers the exit status: that of the
+/// command, or 2 where a word (G1) or a file is refused. Then nothing is written to `out`, and the refusal's line to
+/// `err`. A failed write to `err` changes nothing.
 pub fn view_request<G: Giver, W: Out, V: Out>(
     alloc: Global,
     request: &Request<'_>,
@@ -65,8 +65,8 @@ pub fn view_request<G: Giver, W: Out, V: Out>(
     }
 }
 
-/// Does what the words of a command line ask for, of which the first is the program's name, as [`view_request`] does it. G1:
-/// they ask for nothing. F6: memory ran out while they were read.
+/// Does what the words of a command line ask for, of which the first is the program's name, as [`view_request`] does
+/// it. G1: they ask for nothing. F6: memory ran out while they were read.
 pub fn view<S: AsStr, G: Giver, W: Out, V: Out>(
     alloc: Global,
     words: &[S],

@@ -14,9 +14,9 @@ use Rattle.chart.specs.Runs.{IsRun, IsStartOfRun}
 use Rattle.chart.specs.declared.instance.EventNo.{EventNo}
 use Rattle.chart.specs.declared.line.TheConstants.{MAX_EVENTS}
 use Rattle.chart.specs.Charts.{LineView}
-use Rattle.chart.specs.Order.{IsRaces}
+use Rattle.chart.specs.Order.{AreLineRaces}
 use Rattle.chart.proofs.Tally.{ith_within, ith-take, ith_from_take}
-use Rattle.online_races.specs.Passing.{IsRace, ArePassed, AreRaces, AreFound, HasFound}
+use Rattle.online_races.specs.Passing.{IsCandidate, ArePassed, AreRaces, AreFound, HasFound}
 
 -- a head that is below each of a rising list makes a rising list
 AllPairs-cons : (x : ℕ) (xs : List ℕ) → AllPairs (λ i j. i < j) xs → ((j : ℕ) → Contains xs j → x < j) → AllPairs (λ i j. i < j) (x ∷ xs)
@@ -58,12 +58,12 @@ AreFound-passed line start last entry q region xs passed found = record {
 }
 
 -- a race is the first of those that are found
-pub AreFound-race : (line : List Event) (index entry q region : ℕ) (xs : List ℕ) → entry < index → IsRace line q region index → AreFound line index entry q region xs → AreFound line (index - 1) entry q region (index ∷ xs)
+pub AreFound-race : (line : List Event) (index entry q region : ℕ) (xs : List ℕ) → entry < index → IsCandidate line q region index → AreFound line index entry q region xs → AreFound line (index - 1) entry q region (index ∷ xs)
 AreFound-race line index entry q region xs above race found = record {
   rising = AllPairs-cons index xs found.rising (λ j here. ((found.exact j).0 here).0);
   exact = λ j. (
     λ here. elim (Contains-cons_cases index xs j here) [
-      | inl same ↦ subst (λ x. (index - 1 < x) × (entry < x) × IsRace line q region x) same (omega arith, above, race)
+      | inl same ↦ subst (λ x. (index - 1 < x) × (entry < x) × IsCandidate line q region x) same (omega arith, above, race)
       | inr later ↦ let w = (found.exact j).0 later in (omega (arith, w.0), w.1, w.2)
     ],
     λ w. elim (cases_eq j index) [
@@ -74,8 +74,8 @@ AreFound-race line index entry q region xs above race found = record {
 }
 
 -- where all after the entry is passed, the races are found
-pub IsRaces-found : (line : List Event) (start entry q region : ℕ) (xs : List ℕ) → start ≤ entry → AreFound line start entry q region xs → IsRaces line entry q region xs
-IsRaces-found line start entry q region xs done found = record {
+pub AreLineRaces-found : (line : List Event) (start entry q region : ℕ) (xs : List ℕ) → start ≤ entry → AreFound line start entry q region xs → AreLineRaces line entry q region xs
+AreLineRaces-found line start entry q region xs done found = record {
   rising = found.rising;
   exact = λ j. (
     λ here. let w = (found.exact j).0 here in (w.1, w.2),
@@ -94,8 +94,8 @@ HasFound-end line end entry q region within short = record {
 }
 
 -- what holds of an event of the line holds of it among the first events
-IsRace-front : (line : List Event) (end q region index : ℕ) → index ≤ end → IsRace line q region index → IsRace (take end line) q region index
-IsRace-front line end q region index within (m, is, other, outside) = (m, ith-take end line index within ∙ is, other, outside)
+IsCandidate-front : (line : List Event) (end q region index : ℕ) → index ≤ end → IsCandidate line q region index → IsCandidate (take end line) q region index
+IsCandidate-front line end q region index within (m, is, other, outside) = (m, ith-take end line index within ∙ is, other, outside)
 
 ArePassed-front : (line : List Event) (end start last q region : ℕ) → ArePassed line start last q region → ArePassed (take end line) start last q region
 ArePassed-front line end start last q region passed = record {
@@ -116,11 +116,11 @@ HasFound-passed line end start index entry q region found passed old = record {
 AreRaces-front : (line : List Event) (end start last q region : ℕ) → last ≤ end → AreRaces line start last q region → AreRaces (take end line) start last q region
 AreRaces-front line end start last q region within races = record {
   less = races.less;
-  each = λ j low high. IsRace-front line end q region j (omega (arith, high, within)) (races.each j low high);
+  each = λ j low high. IsCandidate-front line end q region j (omega (arith, high, within)) (races.each j low high);
 }
 
 -- some races are the first of those that are found
-AreFound-races : (line : List Event) (p entry q region n start : ℕ) (found : List EventNo) → entry ≤ start → ((j : ℕ) → start < j → j ≤ start + n → IsRace line q region j) → AreFound line (start + n) entry q region (map (λ race. race.index) found)
+AreFound-races : (line : List Event) (p entry q region n start : ℕ) (found : List EventNo) → entry ≤ start → ((j : ℕ) → start < j → j ≤ start + n → IsCandidate line q region j) → AreFound line (start + n) entry q region (map (λ race. race.index) found)
     → AreFound line start entry q region (map (λ race. race.index) (events_from p (start + 1) n ++ found))
 AreFound-races line p entry q region zero start found after races old =
     let here : start + zero ≡ start = omega arith in subst (λ k. AreFound line k entry q region (map (λ (race : EventNo). race.index) found)) here old
@@ -182,7 +182,7 @@ AreRaces-run line start last q from region run within other outside = record {
 
 -- a race that is a receive, and the run of receives from its sender that ends with it
 pub AreRaces-receive : (line : List Event) (start index q region from c : ℕ) (name : List ℕ) (m : Event) → 1 ≤ index → index ≤ length line → m ≡ get_or line (index - 1) m → m ≡ receive_event from name c
-    → IsStartOfRun is_receive_from line index start → IsRace line q region index → region ≡ 0 → AreRaces line start index q region
+    → IsStartOfRun is_receive_from line index start → IsCandidate line q region index → region ≡ 0 → AreRaces line start index q region
 AreRaces-receive line start index q region from c name m low within read is kept (n, at_n, other, outside) none =
     let here : ith line index ≡ Some m = ith_read line index m low within read in
     let pass : is_receive_from from m ≡ true = ap (is_receive_from from) is ∙ eq-eqb from from refl in
@@ -191,7 +191,7 @@ AreRaces-receive line start index q region from c name m low within read is kept
 
 -- an event that is asked for what it is
 AreRaces-kind : (line : List Event) (start index q region : ℕ) (m : Event) → 1 ≤ index → index ≤ length line → m ≡ get_or line (index - 1) m → is_receive m ≡ true
-    → IsStartOfRun is_receive_from line index start → IsRace line q region index → region ≡ 0 → AreRaces line start index q region
+    → IsStartOfRun is_receive_from line index start → IsCandidate line q region index → region ≡ 0 → AreRaces line start index q region
 AreRaces-kind line start index q region (Send to name) low within read is kept race none = absurd (false≢true is)
 AreRaces-kind line start index q region (Receive from name c) low within read is kept race none = AreRaces-receive line start index q region from c name (Receive from name c) low within read refl kept race none
 
@@ -204,7 +204,7 @@ unfolding at_index
 index_read line index low within = get_or_default line (index - 1) (send_event 0 []) (at_index line index) (omega (arith, low, within))
 
 pub AreRaces-asked : (line : List Event) (start index q region : ℕ) (b : Bool) → 1 ≤ index → index ≤ length line → ((m : Event) → m ≡ get_or line (index - 1) m → b ≡ is_receive m) → b ≡ true
-    → IsStartOfRun is_receive_from line index start → IsRace line q region index → region ≡ 0 → AreRaces line start index q region
+    → IsStartOfRun is_receive_from line index start → IsCandidate line q region index → region ≡ 0 → AreRaces line start index q region
 AreRaces-asked line start index q region b low within asked passing kept race none =
     let read = index_read line index low within in
     AreRaces-kind line start index q region (at_index line index) low within read (sym (asked (at_index line index) read) ∙ passing) kept race none
@@ -226,19 +226,19 @@ ArePassed-from line start index q region b low within asked passing kept =
     let run = kept.run q m (ith_read line index m low within read) (sym (asked m read) ∙ passing) in
     record { less = run.begun; each = λ j n above high e. inl (run.passes j n above high e) }
 
-pub IsRace-asked : (line : List Event) (index q region : ℕ) (b c : Bool) → 1 ≤ index → index ≤ length line → ((m : Event) → m ≡ get_or line (index - 1) m → b ≡ is_in region m) → b ≡ false
-    → ((m : Event) → m ≡ get_or line (index - 1) m → c ≡ is_receive_from q m) → c ≡ false → IsRace line q region index
-IsRace-asked line index q region b c low within in_it not_in from_it not_from =
+pub IsCandidate-asked : (line : List Event) (index q region : ℕ) (b c : Bool) → 1 ≤ index → index ≤ length line → ((m : Event) → m ≡ get_or line (index - 1) m → b ≡ is_in region m) → b ≡ false
+    → ((m : Event) → m ≡ get_or line (index - 1) m → c ≡ is_receive_from q m) → c ≡ false → IsCandidate line q region index
+IsCandidate-asked line index q region b c low within in_it not_in from_it not_from =
     let m = at_index line index in
     let read = index_read line index low within in
     (m, ith_read line index m low within read, sym (from_it m read) ∙ not_from, sym (in_it m read) ∙ not_in)
 
 -- the search is done
-pub IsRaces-done : (line : LineView) (end index entry q region : ℕ) (found : List EventNo) → index ≤ entry → HasFound line end index entry q region found → IsRaces (take end line.events) entry q region (map (λ race. race.index) found)
-IsRaces-done line end index entry q region found done has = IsRaces-found (take end line.events) index entry q region _ done has.races
+pub AreLineRaces-done : (line : LineView) (end index entry q region : ℕ) (found : List EventNo) → index ≤ entry → HasFound line end index entry q region found → AreLineRaces (take end line.events) entry q region (map (λ race. race.index) found)
+AreLineRaces-done line end index entry q region found done has = AreLineRaces-found (take end line.events) index entry q region _ done has.races
 
 -- where there are no races, none are met
-pub none_met : (line : LineView) (end index entry q region : ℕ) (races : EventRange) (found : List EventNo) → IsRaces (take end line.events) entry q region [] → 0 < races.count → HasFound line end index entry q region (events_of races ++ found) → ⊥
+pub none_met : (line : LineView) (end index entry q region : ℕ) (races : EventRange) (found : List EventNo) → AreLineRaces (take end line.events) entry q region [] → 0 < races.count → HasFound line end index entry q region (events_of races ++ found) → ⊥
 none_met line end index entry q region races found none some has = by races.first.instance races.first.index races.count some has
   where
     by : (p i n : ℕ) → 0 < n → HasFound line end index entry q region (events_from p i n ++ found) → ⊥
@@ -248,7 +248,7 @@ none_met line end index entry q region races found none some has = by races.firs
         let here = (none.exact i).1 (race.1, race.2) in omega (arith, here.1)
 
 -- there is one list of races where there are none
-pub none_found : (line : List Event) (entry q region : ℕ) (found : List EventNo) → IsRaces line entry q region [] → IsRaces line entry q region (map (λ race. race.index) found) → found ≡ []
+pub none_found : (line : List Event) (entry q region : ℕ) (found : List EventNo) → AreLineRaces line entry q region [] → AreLineRaces line entry q region (map (λ race. race.index) found) → found ≡ []
 none_found line entry q region [] none races = refl
 none_found line entry q region (race ∷ found) none races =
     let here = (none.exact race.index).1 ((races.exact race.index).0 (0, omega arith, refl)) in absurd (omega (arith, here.1))

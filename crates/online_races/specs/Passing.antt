@@ -11,8 +11,8 @@ use Rattle.chart.specs.Charts.{LineView}
 use Rattle.chart.specs.Events.{ith, is_receive_from, is_in}
 
 -- the event at j is neither a receive from q nor in the region
-abbrev pub IsRace : List Event → ℕ → ℕ → ℕ → Type 0
-IsRace line q region j = (m : Event) × (ith line j ≡ Some m) × (is_receive_from q m ≡ false) × (is_in region m ≡ false)
+abbrev pub IsCandidate : List Event → ℕ → ℕ → ℕ → Type 0
+IsCandidate line q region j = (m : Event) × (ith line j ≡ Some m) × (is_receive_from q m ≡ false) × (is_in region m ≡ false)
 
 -- each event after the first `start` ones, up to the last, is a receive from q or in the region
 pub record ArePassed (line : List Event) (start last q region : ℕ) : Type 0 where
@@ -23,7 +23,7 @@ pub record ArePassed (line : List Event) (start last q region : ℕ) : Type 0 wh
 -- each event after the first `start` ones, up to the last, is neither
 pub record AreRaces (line : List Event) (start last q region : ℕ) : Type 0 where
   pub less : start < last
-  pub each : (j : ℕ) → start < j → j ≤ last → IsRace line q region j
+  pub each : (j : ℕ) → start < j → j ≤ last → IsCandidate line q region j
 
 -- what is said of the neighbouring events that end at index
 abbrev pub IsStretch : List Event → ℕ → ℕ → ℕ → Stretch → Type 0
@@ -33,7 +33,7 @@ IsStretch line q region index (Races start) = AreRaces line start index q region
 -- rising, the races later than the entry among the events after the first `start` ones
 pub record AreFound (line : List Event) (start entry q region : ℕ) (races : Indices) : Type 0 where
   pub rising : AllPairs (λ i j. i < j) races
-  pub exact : (j : ℕ) → Contains races j ↔ ((start < j) × (entry < j) × IsRace line q region j)
+  pub exact : (j : ℕ) → Contains races j ↔ ((start < j) × (entry < j) × IsCandidate line q region j)
 
 -- what the search among the first events of a line keeps: where it is, and what it found
 pub record HasFound (line : LineView) (end index entry q region : ℕ) (found : List EventNo) : Type 0 where

@@ -7,10 +7,10 @@
 
 ghost use Rattle.std.specs.Prelude.{◌≡◌, ℕ, ◌-◌, ◌<◌, ◌≤◌, List, [], ◌++◌, length, map, take, vec_capacity, All};
 ghost use Rattle.std.specs.Prelude.{IfSome, MatchOption, IsOk, IfOk};
-ghost use Rattle.chart.specs.Order.{IsRaces};
+ghost use Rattle.chart.specs.Order.{AreLineRaces};
 ghost use Rattle.chart.specs.Ranges.{IsRange, events_of, events_in};
 ghost use Rattle.chart.specs.declared.line.TheConstants.{MAX_EVENTS};
-ghost use Rattle.online_races.specs.Passing.{IsRace, AreRaces, IsStretch, HasFound};
+ghost use Rattle.online_races.specs.Passing.{IsCandidate, AreRaces, IsStretch, HasFound};
 
 use chart::{EventNo, EventRange, EventRanges, GrowingLine, InstanceNo, Line, RangesBuilder};
 use std::alloc::{AllocError, Global};
@@ -29,7 +29,7 @@ enum Stretch {
 fn races_start(line: &GrowingLine, index: usize, region: u32) -> usize
     requires begun { 1 ≤ index }
     requires within { index ≤ length line.now.line.events }
-    ensures { (sender : ℕ) → IsRace line.now.line.events sender region index
+    ensures { (sender : ℕ) → IsCandidate line.now.line.events sender region index
         → AreRaces line.now.line.events result index sender region }
 {
     if region == 0 {
@@ -81,7 +81,7 @@ fn last_races(
     ensures within { IfSome result (λ races. races.first.index ≤ index) }
     ensures found { (end : ℕ) (found : List EventNo) → HasFound line.now.line end index entry sender region found
         → MatchOption result
-        (IsRaces (take end line.now.line.events) entry sender region (map (λ race. race.index) found))
+        (AreLineRaces (take end line.now.line.events) entry sender region (map (λ race. race.index) found))
         (λ races. HasFound line.now.line end (races.first.index - 1) entry sender region (events_of races ++ found)) }
 {
     prove!(index <= line.len());
@@ -121,9 +121,9 @@ pub fn race_ranges(
 ) -> Result<EventRanges, AllocError>
     requires { end ≤ length line.now.line.events }
     ensures races { IfOk result (λ found.
-        IsRaces (take end line.now.line.events) entry sender region (map (λ race. race.index) found)) }
+        AreLineRaces (take end line.now.line.events) entry sender region (map (λ race. race.index) found)) }
     ensures own { IfOk result (λ found. All (λ race. race.instance ≡ line.now.line.instance) found) }
-    ensures none { IsRaces (take end line.now.line.events) entry sender region [] → IsOk result }
+    ensures none { AreLineRaces (take end line.now.line.events) entry sender region [] → IsOk result }
 {
     prove!(end <= line.len());
     match last_races(line, end, entry, sender, region) {
@@ -149,7 +149,7 @@ fn races_up_to(
     requires within { last.first.index ≤ length line.now.line.events }
     ensures races { (end : ℕ) → HasFound line.now.line end (last.first.index - 1) entry sender region (events_of last)
         → IfOk result (λ found.
-        IsRaces (take end line.now.line.events) entry sender region (map (λ race. race.index) found)) }
+        AreLineRaces (take end line.now.line.events) entry sender region (map (λ race. race.index) found)) }
     ensures own { (end : ℕ) → HasFound line.now.line end (last.first.index - 1) entry sender region (events_of last)
         → IfOk result (λ found. All (λ race. race.instance ≡ line.now.line.instance) found) }
 {
@@ -178,7 +178,7 @@ pub fn find_races(
 )
     requires end { end ≤ length line.now.line.events }
     requires places { MAX_EVENTS ≤ vec_capacity found.old }
-    ensures races { IsRaces (take end line.now.line.events) entry sender region
+    ensures races { AreLineRaces (take end line.now.line.events) entry sender region
         (map (λ race. race.index) (events_in found.new.items)) }
     ensures own { All (λ race. race.instance ≡ line.now.line.instance) (events_in found.new.items) }
     ensures ranges { All IsRange found.new.items }
@@ -207,9 +207,9 @@ pub fn next_races(
     region: u32,
 ) -> Result<EventRanges, AllocError>
     ensures races { IfOk result (λ found.
-        IsRaces line.now.line.events entry sender region (map (λ race. race.index) found)) }
+        AreLineRaces line.now.line.events entry sender region (map (λ race. race.index) found)) }
     ensures own { IfOk result (λ found. All (λ race. race.instance ≡ line.now.line.instance) found) }
-    ensures none { IsRaces line.now.line.events entry sender region [] → IsOk result }
+    ensures none { AreLineRaces line.now.line.events entry sender region [] → IsOk result }
 {
     race_ranges(alloc, line, line.len(), entry, sender, region)
 }
@@ -225,9 +225,9 @@ pub fn races(
     region: u32,
 ) -> Result<Vec<EventNo>, AllocError>
     ensures races { IfOk result (λ found.
-        IsRaces line.now.events entry sender region (map (λ race. race.index) found.items)) }
+        AreLineRaces line.now.events entry sender region (map (λ race. race.index) found.items)) }
     ensures own { IfOk result (λ found. All (λ race. race.instance ≡ line.now.instance) found.items) }
-    ensures none { IsRaces line.now.events entry sender region [] → IsOk result }
+    ensures none { AreLineRaces line.now.events entry sender region [] → IsOk result }
 {
     let found = next_races(alloc, line.as_growing(), entry, sender, region)?;
     found.listed(alloc)

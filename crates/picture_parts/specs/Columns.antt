@@ -1,4 +1,4 @@
 pub mod Choices
 pub mod Placing
 pub mod Rooms
-pub mod Widths
+pub mod TextWidths

@@ -10,14 +10,14 @@
 //! - F6: only [`columns_of`] and [`places_of`] take memory, and they fail only where there is none.
 
 mod choice;
-mod column;
+mod columns;
 mod placing;
 mod plan;
 mod rooms;
-mod widths;
+mod text_widths;
 
 pub use choice::{Choice, places_of};
-pub use column::{Column, Room};
+pub use columns::{Column, Room};
 pub use placing::{columns_of, width_of};
 pub use plan::Plan;
-pub use widths::{line_break, name_width};
+pub use text_widths::{line_break, name_width};

@@ -7,8 +7,8 @@ use Rattle.chart.specs.Charts.{chart_lines}
 use Rattle.texts.specs.Instances.{name_at}
 use Rattle.pictures.specs.declared.columns.Life.{Life}
 use Rattle.chart.specs.declared.instance.EventNo.{EventNo}
-use Rattle.picture_parts.specs.declared.columns.column.Column.{Column}
-use Rattle.picture_parts.specs.Columns.Widths.{line_break, name_width}
+use Rattle.picture_parts.specs.declared.columns.columns.Column.{Column}
+use Rattle.picture_parts.specs.Columns.TextWidths.{line_break, name_width}
 use Rattle.picture_parts.specs.Elements.Elements.{segment, head_box, name_lines, foot}
 use Rattle.pictures.specs.Pictures.{PictureView, cell_of}
 use Rattle.pictures.specs.Spots.{height}

@@ -9,7 +9,7 @@ use Rattle.chart.specs.Reports.{ReportView}
 use Rattle.texts.specs.Pieces.RaceWords.{amount, range_text, ranges_text}
 use Rattle.picture_parts.specs.declared.elements.spot.Spot.{Spot}
 use Rattle.pictures.specs.declared.spots.Cell.{Cell}
-use Rattle.picture_parts.specs.declared.columns.column.Column.{Column}
+use Rattle.picture_parts.specs.declared.columns.columns.Column.{Column}
 use Rattle.picture_parts.specs.Elements.Elements.{dot_start, dot_end, bracket_name, bracket_outline, bracket_end, number_text, group_end}
 use Rattle.pictures.specs.Pictures.{PictureView, column_of, row_at, cell_of, end_of}
 use Rattle.pictures.specs.Spots.{height, number_spot}
@@ -41,7 +41,7 @@ dot e a n ranges = dot_start e.instance e.index a ++ (amount n ++ (ranges_text r
 
 -- the number beside a dot, where the event hasn't its number anyway
 abbrev pub race_class : Cell → List ℕ
-race_class cell = if cell.column.room.turned then codes "e k" else codes "n k"
+race_class cell = if cell.column.room.mirrored then codes "e k" else codes "n k"
 
 abbrev pub race_number : PictureView → EventNo → Cell → List ℕ
 race_number v e cell = if v.numbers then [] else number_text (race_class cell) (number_spot cell) e.index
@@ -59,12 +59,12 @@ offset column receive = slot_offset column.room.step (receive % 5)
 
 abbrev pub bracket_x : Column → ℕ → ℕ
 bracket_x column receive =
-    if column.room.turned then column.x + offset column receive else column.x - offset column receive
+    if column.room.mirrored then column.x + offset column receive else column.x - offset column receive
 
 -- how far its ends are
 abbrev pub inner_x : Column → ℕ → ℕ
 inner_x column receive =
-    if column.room.turned then (column.x + offset column receive) - 3 else column.x - (offset column receive - 3)
+    if column.room.mirrored then (column.x + offset column receive) - 3 else column.x - (offset column receive - 3)
 
 -- where its upper corner is, below so many rows: not on the arrow, and in two steps, so that numbers stand apart
 abbrev pub upper_y : ℕ → ℕ → ℕ

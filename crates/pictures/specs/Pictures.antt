@@ -8,7 +8,7 @@ use Rattle.closure.specs.Faults.{place_of}
 use Rattle.chart_layout.specs.Layouts.{row_of}
 use Rattle.chart_layout.specs.declared.row.Row.{Row}
 use Rattle.chart_layout.specs.declared.margin.MarginNote.{MarginNote}
-use Rattle.picture_parts.specs.declared.columns.column.Column.{Column}
+use Rattle.picture_parts.specs.declared.columns.columns.Column.{Column}
 use Rattle.picture_parts.specs.Columns.Choices as choices
 use Rattle.picture_parts.specs.Columns.Choices.{ChoiceView, is_shown}
 use Rattle.picture_parts.specs.declared.elements.spot.Spot.{Spot}

@@ -12,8 +12,8 @@ use Rattle.pictures.specs.declared.labels.Side.{Side}
 use Rattle.pictures.specs.declared.labels.Side.TheVariants.{Receiver, Sender}
 use Rattle.picture_parts.specs.declared.elements.spot.Spot.{Spot}
 use Rattle.pictures.specs.declared.spots.Cell.{Cell}
-use Rattle.picture_parts.specs.declared.columns.column.Column.{Column}
-use Rattle.picture_parts.specs.Columns.Widths.{name_width}
+use Rattle.picture_parts.specs.declared.columns.columns.Column.{Column}
+use Rattle.picture_parts.specs.Columns.TextWidths.{name_width}
 use Rattle.picture_parts.specs.Elements.Elements.{arrow, ring, label, label_start, label_end, number_text, point_start, group_end}
 use Rattle.pictures.specs.Pictures.{PictureView, column_of, cell_of, end_of, event_of}
 use Rattle.pictures.specs.Spots.{on_line, are_near, label_x, aside, cut_spot, height, number_spot}
@@ -33,7 +33,7 @@ side_text Sender = codes " from "
 
 -- the classes of an event's number: it begins or ends at its spot
 abbrev pub number_class : Cell → List ℕ
-number_class cell = if cell.column.room.turned then codes "e" else codes "n"
+number_class cell = if cell.column.room.mirrored then codes "e" else codes "n"
 
 -- the number of an event, where the picture has numbers
 abbrev pub number_at : PictureView → EventNo → Cell → List ℕ

@@ -1,6 +1,6 @@
 -- Where things are on a picture, in pixels from its upper left corner (this project's profile).
 use Rattle.std.specs.Prelude.{ℕ, ◌+◌, ◌-◌, ◌*◌, ◌/◌, Bool, ◌||◌, ◌==◌, nat_lt, if◌then◌else◌}
-use Rattle.picture_parts.specs.declared.columns.column.Column.{Column}
+use Rattle.picture_parts.specs.declared.columns.columns.Column.{Column}
 use Rattle.picture_parts.specs.declared.elements.spot.Spot.{Spot}
 use Rattle.pictures.specs.declared.spots.Cell.{Cell}
 
@@ -34,7 +34,7 @@ label_x level from to width = if level then between from to else beside from to 
 -- where the number of the cell's event is
 abbrev pub number_spot : Cell → Spot
 number_spot cell = record {
-  x = if cell.column.room.turned then cell.column.x - 7 else cell.column.x + 7;
+  x = if cell.column.room.mirrored then cell.column.x - 7 else cell.column.x + 7;
   y = height cell.place + 11;
 }
 

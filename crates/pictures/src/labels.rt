@@ -77,7 +77,7 @@ fn add_number_at<W: Out>(
         return text.add(b"");
     }
     let number = u64::from(event.index);
-    if cell.column.room.turned {
+    if cell.column.room.mirrored {
         add_number(text, b"e", number_spot(cell), number)
     } else {
         add_number(text, b"n", number_spot(cell), number)

@@ -80,7 +80,7 @@ fn add_race_number<W: Out>(
         return text.add(b"");
     }
     let number = u64::from(receive.index);
-    if cell.column.room.turned {
+    if cell.column.room.mirrored {
         add_number(text, b"e k", number_spot(cell), number)
     } else {
         add_number(text, b"n k", number_spot(cell), number)
@@ -113,7 +113,7 @@ fn bracket_x(column: &Column, receive: u32) -> u64
     ensures { result ≡ bracket_x column.now receive }
 {
     let line = u64::from(column.x);
-    if column.room.turned {
+    if column.room.mirrored {
         line + offset(column, receive)
     } else {
         line.saturating_sub(offset(column, receive))
@@ -125,7 +125,7 @@ fn inner_x(column: &Column, receive: u32) -> u64
     ensures { result ≡ inner_x column.now receive }
 {
     let line = u64::from(column.x);
-    if column.room.turned {
+    if column.room.mirrored {
         line + offset(column, receive) - 3
     } else {
         line.saturating_sub(offset(column, receive) - 3)

@@ -94,7 +94,7 @@ pub(crate) fn number_spot(cell: &Cell) -> Spot
     ensures { result ≡ number_spot cell.now }
 {
     let line = u64::from(cell.column.x);
-    let x = if cell.column.room.turned {
+    let x = if cell.column.room.mirrored {
         line.saturating_sub(7)
     } else {
         line + 7

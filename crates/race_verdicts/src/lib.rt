@@ -1,7 +1,8 @@
 //! What a recording tells beside its chart: what each receive would have taken, which messages had arrived when,
 //! and for each race whether it was luck.
 //!
-//! These are types alone, lent by whoever read the recording. What they mean is in `luck`.
+//! The types here are lent by whoever read the recording. [`luck`] says what they mean, and gives each race its
+//! verdict.
 #![tactic(auto)]
 
 pub mod luck;

@@ -1,8 +1,8 @@
 //! Recordings, as they are lent.
 use log_chart::{HostLine, LogLine};
 
-/// A sender and names of messages, each as the log writes them. `*` is any sender. Names are one name, or `*` for any, or
-/// all that begin with what stands before a `*` at the end.
+/// A sender and names of messages, each as the log writes them. `*` is any sender. Names are one name, or `*` for any,
+/// or all that begin with what stands before a `*` at the end.
 #[derive(Clone, Copy, Debug)]
 pub struct Pattern<'a> {
     pub peer: &'a [u8],

@@ -1,5 +1,5 @@
 pub mod JsonText
 pub mod Parts
 pub mod PlainText
-pub mod Telling
+pub mod Listing
 pub mod Words

@@ -8,11 +8,11 @@
 //! Nothing here takes memory.
 
 mod json;
+mod listing;
 mod part;
 mod plain;
-mod telling;
 mod verdicts;
 
+pub use listing::{VerdictQuery, write_luck};
 pub use part::Part;
-pub use telling::{ToldLuck, write_luck};
 pub use verdicts::Verdicts;

@@ -1,9 +1,9 @@
 //! What a race means: that another run with the same events and the same causes has the two the other way round.
 //!
 //! A chart's report says that an order was luck. Here is what that comes to, from outside: nothing of clocks or of
-//! the search for what is before what is in it. `specs/OtherRuns` says what another run of a chart's events is: a
-//! legal history with the same messages on each lane and as many receives, in which nothing comes before its direct
-//! causes.
+//! the search for what is before what is in it. `specs/OtherRuns/OtherRuns` says what another run of a chart's
+//! events is: a legal history with the same messages on each lane and as many receives, in which nothing comes
+//! before its direct causes.
 //!
 //! What is promised, for any number of instances:
 //!

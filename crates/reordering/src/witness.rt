@@ -11,10 +11,10 @@
 
 mod counts;
 mod needs;
+mod numbered;
 mod overtaking;
 mod parting;
-mod turned;
 
 pub use counts::Counts;
+pub use numbered::Passed;
 pub use overtaking::overtake;
-pub use turned::Passed;

@@ -13,7 +13,7 @@ use Rattle.repair.specs.Repairs.{ArePairs, Leaves, with_message, IsAdded, IsBest
 use Rattle.repair.specs.Repairs.AreAdded.{none, more}
 use Rattle.chart.specs.Reports.{ReportView, AreReports}
 use Rattle.closure.specs.Faults.{place_of}
-use Rattle.repair.specs.Mends.{Tells}
+use Rattle.repair.specs.Mends.{Informs}
 use Rattle.repair.specs.declared.message.Message.{Message}
 use Rattle.repair.specs.Naming.{IsNewName}
 use Rattle.repair.specs.Best.{HasPairs, IsTried, limit_of, better, IsBestSo, IsFound}
@@ -128,10 +128,10 @@ pub added_all : (first lines : List LineView) (before : List Addition) → ((oth
 added_all first lines before so_far nothing = subst (λ (l : List Addition). AreAdded first l lines) (append-nil before) (so_far [] lines (none nothing))
 
 -- a pair that was mended, with the reports of its chart
-pub tried_is : (lines chart : List LineView) (pair : RacePair) (name : List ℕ) (m : Message) (reports given : List ReportView) (left : ℕ) → IsChart chart → Tells (length lines) (chart_lines lines) (place_of pair.earlier) (place_of pair.receive) name m chart → chart ≡ with_message (message_of m) lines
+pub tried_is : (lines chart : List LineView) (pair : RacePair) (name : List ℕ) (m : Message) (reports given : List ReportView) (left : ℕ) → IsChart chart → Informs (length lines) (chart_lines lines) (place_of pair.earlier) (place_of pair.receive) name m chart → chart ≡ with_message (message_of m) lines
     → AreReports chart reports → given ≡ reports → left ≡ length (pairs_of given) → IsTried lines name pair (record { addition = record { pair = pair; message = m }; chart = chart; left = left })
-tried_is lines chart pair name m reports given left is_chart tells is are same counted =
-    let repair : IsRepair lines pair name (message_of m) = repair_of lines chart pair name m is_chart tells is in
+tried_is lines chart pair name m reports given left is_chart informs is are same counted =
+    let repair : IsRepair lines pair name (message_of m) = repair_of lines chart pair name m is_chart informs is in
     let pairs : ArePairs (with_message (message_of m) lines) (pairs_of reports) = (reports, subst (λ (l : List LineView). AreReports l reports) is are, refl) in
     let count : left ≡ length (pairs_of reports) = counted ∙ ap (λ (rs : List ReportView). length (pairs_of rs)) same in
     record {

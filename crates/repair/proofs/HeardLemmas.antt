@@ -7,23 +7,23 @@ use Rattle.chart.specs.Charts.{Chart, Place, at, IsReceiveFrom, BelongsTo}
 use Rattle.chart.specs.Order.{IsEarlier, Before}
 use Rattle.chart.proofs.Belongs.{one_sender, same_send, earlier_send, IsEvent-from_passes}
 use Rattle.chart.proofs.Chains.{chain_of, heard_from, before_its_receive, before_later_send}
-use Rattle.repair.specs.Crossings.{HasNoneIn, IsLastIn, IsHeardAt, TellsHeard, IsHeardFrom, IsBeforeNone}
+use Rattle.repair.specs.Crossings.{HasNoneIn, IsLastIn, IsHeardAt, InformsHeard, IsHeardFrom, IsBeforeNone}
 
 -- where no receive from q is among them, none is heard
 pub none_heard : (c : Chart) (s : Place) (p low high q : ℕ) → HasNoneIn (is_receive_from q) (c p) low high → IsHeardFrom c s p low high q → ⊥
-none_heard c s p low high q none (i, t, above, up, on, b, told) =
+none_heard c s p low high q none (i, t, above, up, on, b, informed) =
     let from = subst (λ x. IsReceiveFrom c x (at p i)) on b.received in
     false≢true (sym (none i from.0 above up from.1) ∙ from.2)
 
 -- what is heard at the last receive from q is heard, and nothing else
 pub heard_last : (c : Chart) (s : Place) (p low high q l : ℕ) → IsLastIn (is_receive_from q) (c p) low high l → IsHeardAt c s (at p l) → IsHeardFrom c s p low high q
-heard_last c s p low high q l last (t, b, told) = (l, t, last.above, last.up_to, sender (b.received) (last.passes), b, told)
+heard_last c s p low high q l last (t, b, informed) = (l, t, last.above, last.up_to, sender (b.received) (last.passes), b, informed)
   where
     sender : IsReceiveFrom c t.instance (at p l) → IsReceiveFrom c q (at p l) → t.instance ≡ q
     sender a e = one_sender c t.instance q (at p l) a e
 
 pub last_heard : (c : Chart) (s : Place) (p low high q l : ℕ) (u : Place) → BelongsTo c u (at p l) → IsLastIn (is_receive_from q) (c p) low high l → IsHeardFrom c s p low high q → IsHeardAt c s (at p l)
-last_heard c s p low high q l u mine last (i, t, above, up, on, b, told) = elim (cases_lt i l) [
+last_heard c s p low high q l u mine last (i, t, above, up, on, b, informed) = elim (cases_lt i l) [
   | inl less ↦
       let sender = one_sender c u.instance q (at p l) mine.received last.passes in
       let from = subst (λ x. IsReceiveFrom c x (at p i)) (on ∙ sym sender) b.received in
@@ -31,7 +31,7 @@ last_heard c s p low high q l u mine last (i, t, above, up, on, b, told) = elim 
       let sooner = earlier_send c u (at p l) (at p i) mine (record { line = refl; begun = begun; less = less }) from in
       let same = same_send c sooner.0 t (at p i) sooner.1 b in
       let earlier = subst (λ x. IsEarlier x u) same sooner.2 in
-      (u, mine, inr (before_later_send c p s t u told earlier mine.sent))
+      (u, mine, inr (before_later_send c p s t u informed earlier mine.sent))
   | inr le ↦
       elim (cases_lt l i) [
         | inl past ↦
@@ -39,7 +39,7 @@ last_heard c s p low high q l u mine last (i, t, above, up, on, b, told) = elim 
             absurd (false≢true (sym (last.last i from.0 past up from.1) ∙ from.2))
         | inr ge ↦
             let here : i ≡ l = omega arith in
-            (t, subst (λ x. BelongsTo c t (at p x)) here b, told)
+            (t, subst (λ x. BelongsTo c t (at p x)) here b, informed)
       ]
 ]
 
@@ -53,13 +53,13 @@ heard_before c s p low high i other none up before =
 
 -- and what was heard of comes before
 pub before_heard : (c : Chart) (s : Place) (p low high q : ℕ) → IsHeardFrom c s p low high q → (i : ℕ) × (i ≤ high) × Before c s (at p i)
-before_heard c s p low high q (i, t, above, up, on, b, told) = (i, up, before_its_receive c s t (at p i) told b)
+before_heard c s p low high q (i, t, above, up, on, b, informed) = (i, up, before_its_receive c s t (at p i) informed b)
 
 -- what was asked of the last receive from q tells of all of them
-pub tells_from : (c : Chart) (s : Place) (p low high q l : ℕ) (heard : Bool) → IsLastIn (is_receive_from q) (c p) low high l → TellsHeard c s (at p l) heard → IsTrue heard ↔ IsHeardFrom c s p low high q
-tells_from c s p low high q l heard last tells = (
-  λ yes'. heard_last c s p low high q l last (tells.1.0 yes'),
-  λ from. tells.1.1 (last_heard c s p low high q l tells.0.0 tells.0.1 last from),
+pub informs_from : (c : Chart) (s : Place) (p low high q l : ℕ) (heard : Bool) → IsLastIn (is_receive_from q) (c p) low high l → InformsHeard c s (at p l) heard → IsTrue heard ↔ IsHeardFrom c s p low high q
+informs_from c s p low high q l heard last informs = (
+  λ yes'. heard_last c s p low high q l last (informs.1.0 yes'),
+  λ from. informs.1.1 (last_heard c s p low high q l informs.0.0 informs.0.1 last from),
 )
 
 -- a fact of what a call answered, of which another follows

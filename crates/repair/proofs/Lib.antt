@@ -6,7 +6,7 @@ pub mod Mended
 pub mod Moving
 pub mod Paths
 pub mod Possible
-pub mod TellLemmas
+pub mod InformLemmas
 pub mod AckLemmas
 pub mod BestLemmas
 pub mod NameLemmas

@@ -19,10 +19,10 @@ use Rattle.chart.proofs.Regions.{greatest_region-push, last_region-push}
 use Rattle.chart.proofs.InRegions.{region_of-in, none_in}
 use Rattle.chart.proofs.Growing.{HasSends}
 use Rattle.closure.specs.Faults.{IsFaulty}
-use Rattle.repair.specs.Messages.{NewMessage, IsWith, new_send, new_receive, keeping, moved, IsRace, EndsBehind, CanTell, telling}
+use Rattle.repair.specs.Messages.{NewMessage, IsWith, new_send, new_receive, keeping, moved, IsRace, EndsBehind, CanInform, informing}
 use Rattle.repair.proofs.Lines.{ith-insert_at, ith-insert_above, take-insert_above, moved_below, moved_above}
 use Rattle.repair.proofs.Moving.{keeping_sender, keeping_receiver, event_moved, send_moved, moved_receive, IsInTurn, turn_of, belongs_of, kept, before_moved}
-use Rattle.repair.proofs.Paths.{IsTold, IsHeard, up_up, one_of, was_before, no_cycle}
+use Rattle.repair.proofs.Paths.{IsInformed, IsHeard, up_up, one_of, was_before, no_cycle}
 use Rattle.repair.proofs.Possible as possible
 
 -- a step from a later event of a line
@@ -85,8 +85,8 @@ module _ (m : NewMessage) (c d : Chart) (w : IsWith m c d) (turn : IsInTurn m c 
           refl other
 
   -- the new send is behind each of its line's first events, and the new receive before each later send of its line
-  told_of : (i : ℕ) → 1 ≤ i → i ≤ m.sent → Before d (moved m c (at m.sender i)) (new_send m)
-  told_of i low high =
+  informed_of : (i : ℕ) → 1 ≤ i → i ≤ m.sent → Before d (moved m c (at m.sender i)) (new_send m)
+  informed_of i low high =
       let k = moved_below (keeping m c m.sender) i (omega (arith, high, keeping_sender m c)) in
       direct (to_send m.receiver (record { line = refl; begun = omega (arith, k, low); less = omega (arith, k, high) }) (belongs_of m c d w turn).sent)
 
@@ -96,8 +96,8 @@ module _ (m : NewMessage) (c d : Chart) (w : IsWith m c d) (turn : IsInTurn m c 
       direct (to_send q (record { line = refl; begun = omega arith; less = omega (arith, k, high) }) (send_moved m c d w q (at m.receiver i) sends))
 
   -- so the first ones are before such a send
-  pub tells : (q i j : ℕ) → 1 ≤ i → i ≤ m.sent → m.received < j → IsSendTo c q (at m.receiver j) → Before d (moved m c (at m.sender i)) (moved m c (at m.receiver j))
-  tells q i j low high later sends = through (told_of i low high) (through (direct (message (belongs_of m c d w turn))) (heard_by q j later sends))
+  pub informs : (q i j : ℕ) → 1 ≤ i → i ≤ m.sent → m.received < j → IsSendTo c q (at m.receiver j) → Before d (moved m c (at m.sender i)) (moved m c (at m.receiver j))
+  informs q i j low high later sends = through (informed_of i low high) (through (direct (message (belongs_of m c d w turn))) (heard_by q j later sends))
 
 -- one element more at the end of a list
 insert_end : (xs : List Event) (y : Event) → insert xs (length xs) y ≡ xs ++ y ∷ []
@@ -178,9 +178,9 @@ module _ (n : ℕ) (c : Chart) (old : IsPossible n c) (m : NewMessage) (d : Char
   turn = turn_of m c d w mine
 
   -- what p tells of has the event
-  has_told : IsTold m c (at m.sender i) → i ≤ m.sent
-  has_told (a, low, high, inl same) = let e = ap (λ x. x.index) same in omega (arith, e, high)
-  has_told (a, low, high, inr before) = elim (cases_lt a i) [
+  has_informed : IsInformed m c (at m.sender i) → i ≤ m.sent
+  has_informed (a, low, high, inl same) = let e = ap (λ x. x.index) same in omega (arith, e, high)
+  has_informed (a, low, high, inr before) = elim (cases_lt a i) [
     | inr le ↦ omega (arith, high, le)
     | inl less ↦
         elim (later_before (chain_of before) (at m.sender a) (record { line = refl; begun = low; less = less })) [
@@ -207,26 +207,26 @@ module _ (n : ℕ) (c : Chart) (old : IsPossible n c) (m : NewMessage) (d : Char
 
   -- p sends it behind the event's coregion
   has_ended : i ≤ m.sent → k ≤ m.sent
-  has_ended told = elim (cases_lt m.sent k) [
+  has_ended informed = elim (cases_lt m.sent k) [
     | inr le ↦ le
     | inl less ↦
         let within = ends.within in
-        let x = ith_at (c m.sender) i race.earlier.begun (omega (arith, told, less, within)) in
+        let x = ith_at (c m.sender) i race.earlier.begun (omega (arith, informed, less, within)) in
         let y = ith_at (c m.sender) (m.sent + 1) (omega arith) (omega (arith, less, within)) in
-        let inside = subst (λ o. is_in (region_of_event o) y.0 ≡ true) x.1 (ends.inside (m.sent + 1) y.0 (omega (arith, told)) (omega (arith, less)) y.1) in
+        let inside = subst (λ o. is_in (region_of_event o) y.0 ≡ true) x.1 (ends.inside (m.sent + 1) y.0 (omega (arith, informed)) (omega (arith, less)) y.1) in
         let there : slice_get (d m.sender) (m.sent + 1) ≡ Some y.0 =
         ap (λ xs. slice_get xs (m.sent + 1)) w.send
         ∙ sym (ap (ith (insert (c m.sender) m.sent (send_event m.receiver m.name))) (add-one (m.sent + 1)))
         ∙ ith-insert_above (c m.sender) m.sent (send_event m.receiver m.name) (m.sent + 1) w.sent_within (omega arith) ∙ y.1 in
         let may = possible.has_regions n d new m.sender (m.sent + 1) y.0 there in
-        absurd (no_cut (c m.sender) m.sent i x.0 y.0 m.receiver m.name w.sent_within told x.1 inside (subst (λ xs. MayHaveRegion (take (m.sent + 1) xs) (region_of y.0)) w.send may))
+        absurd (no_cut (c m.sender) m.sent i x.0 y.0 m.receiver m.name w.sent_within informed x.1 inside (subst (λ xs. MayHaveRegion (take (m.sent + 1) xs) (region_of y.0)) w.send may))
   ]
 
   -- the send of the receive is before none of what p tells of
   not_crossed : k ≤ m.sent → m.received < j → (a : ℕ) → a ≤ k → Before c (at m.receiver j) (at m.sender a) → ⊥
-  not_crossed told heard a high before =
+  not_crossed informed heard a high before =
       let low = (before_events before).1.0 in
-      let back = tells m c d w turn m.sender a j low (omega (arith, high, told)) heard b.sent in
+      let back = informs m c d w turn m.sender a j low (omega (arith, high, informed)) heard b.sent in
       possible.no_cycle n d new (moved m c (at m.receiver j), through (before_moved m c d w turn before) back)
 
   -- and no message from p to q is on its way
@@ -239,36 +239,36 @@ module _ (n : ℕ) (c : Chart) (old : IsPossible n c) (m : NewMessage) (d : Char
   none_later : sends_to k < receives_to j → ⊥
   none_later fewer = none_unsent n c (at m.sender i) (at m.sender l) (at m.receiver j) k old race b ends fewer
 
-  can_tell_so : Before d (moved m c (at m.sender i)) (moved m c (at m.sender l)) → CanTell c m.sender k (at m.receiver j)
-  can_tell_so before = elim (was_before m c d w turn (possible.has_sends n c old) (at m.sender i) (at m.sender l) before) [
+  can_inform_so : Before d (moved m c (at m.sender i)) (moved m c (at m.sender l)) → CanInform c m.sender k (at m.receiver j)
+  can_inform_so before = elim (was_before m c d w turn (possible.has_sends n c old) (at m.sender i) (at m.sender l) before) [
     | inl was ↦ absurd (race.free was)
     | inr v ↦
-        let told = has_ended (has_told v.0) in
+        let informed = has_ended (has_informed v.0) in
         let heard = has_heard v.1 in
         record {
-          uncrossed = not_crossed told heard;
+          uncrossed = not_crossed informed heard;
           in_turn =
-              let a = tally-le (is_send_to m.receiver) (c m.sender) k m.sent told in
+              let a = tally-le (is_send_to m.receiver) (c m.sender) k m.sent informed in
               let e = tally-le (is_receive_from m.sender) (c m.receiver) m.received j (omega (arith, heard)) in
               elim (cases_lt (sends_to k) (receives_to j)) [ inl fewer ↦ absurd (none_later fewer) | inr le ↦ omega (arith, a, e, turn, le) ];
         }
   ]
 
 -- so where a message more makes the pair enforced it can be told of
-pub can_tell : (n : ℕ) (c : Chart) (e r s : Place) (k : ℕ) → IsPossible n c → IsRace c e r → BelongsTo c s r → EndsBehind (c e.instance) e.index k → (m : NewMessage) (d : Chart) → m.sender ≡ e.instance → m.receiver ≡ s.instance → IsWith m c d → IsPossible n d
-    → BelongsTo d (new_send m) (new_receive m) → Before d (moved m c e) (moved m c r) → CanTell c e.instance k s
-can_tell n c e r s k old race b ends m d from to w new mine before =
-    subst (λ (p : ℕ). (q : ℕ) → s.instance ≡ q → IsRace c (at p e.index) (at p r.index) → BelongsTo c (at q s.index) (at p r.index) → EndsBehind (c p) e.index k → Before d (moved m c (at p e.index)) (moved m c (at p r.index)) → CanTell c p k (at q s.index)) from at_sender
+pub can_inform : (n : ℕ) (c : Chart) (e r s : Place) (k : ℕ) → IsPossible n c → IsRace c e r → BelongsTo c s r → EndsBehind (c e.instance) e.index k → (m : NewMessage) (d : Chart) → m.sender ≡ e.instance → m.receiver ≡ s.instance → IsWith m c d → IsPossible n d
+    → BelongsTo d (new_send m) (new_receive m) → Before d (moved m c e) (moved m c r) → CanInform c e.instance k s
+can_inform n c e r s k old race b ends m d from to w new mine before =
+    subst (λ (p : ℕ). (q : ℕ) → s.instance ≡ q → IsRace c (at p e.index) (at p r.index) → BelongsTo c (at q s.index) (at p r.index) → EndsBehind (c p) e.index k → Before d (moved m c (at p e.index)) (moved m c (at p r.index)) → CanInform c p k (at q s.index)) from at_sender
     s.instance refl
     (subst (λ x. IsRace c e x) r_is race) (subst (BelongsTo c s) r_is b) ends (subst (λ x. Before d (moved m c e) (moved m c x)) r_is before)
   where
     r_is : r ≡ at e.instance r.index
     r_is = same_place r (at e.instance r.index) (sym race.earlier.line) refl
 
-    at_sender : (q : ℕ) → s.instance ≡ q → IsRace c (at m.sender e.index) (at m.sender r.index) → BelongsTo c (at q s.index) (at m.sender r.index) → EndsBehind (c m.sender) e.index k → Before d (moved m c (at m.sender e.index)) (moved m c (at m.sender r.index)) → CanTell c m.sender k (at q s.index)
+    at_sender : (q : ℕ) → s.instance ≡ q → IsRace c (at m.sender e.index) (at m.sender r.index) → BelongsTo c (at q s.index) (at m.sender r.index) → EndsBehind (c m.sender) e.index k → Before d (moved m c (at m.sender e.index)) (moved m c (at m.sender r.index)) → CanInform c m.sender k (at q s.index)
     at_sender q is =
-        subst (λ p. IsRace c (at m.sender e.index) (at m.sender r.index) → BelongsTo c (at p s.index) (at m.sender r.index) → EndsBehind (c m.sender) e.index k → Before d (moved m c (at m.sender e.index)) (moved m c (at m.sender r.index)) → CanTell c m.sender k (at p s.index)) (to ∙ is)
-        (λ race b ends before. can_tell_so n c old m d w new mine k e.index r.index s.index race b ends before)
+        subst (λ p. IsRace c (at m.sender e.index) (at m.sender r.index) → BelongsTo c (at p s.index) (at m.sender r.index) → EndsBehind (c m.sender) e.index k → Before d (moved m c (at m.sender e.index)) (moved m c (at m.sender r.index)) → CanInform c m.sender k (at p s.index)) (to ∙ is)
+        (λ race b ends before. can_inform_so n c old m d w new mine k e.index r.index s.index race b ends before)
 
 -- a send is no receive: up to it as many are received as before it
 pub up_to_send : (c : Chart) (p q : ℕ) (s : Place) → IsSendTo c q s → 1 ≤ s.index → tally (is_receive_from p) (c s.instance) s.index ≡ tally (is_receive_from p) (c s.instance) (s.index - 1)
@@ -280,39 +280,39 @@ up_to_send c p q s sends low =
     ]
 
 -- Of a race of a possible chart whose earlier event can be told of, and the chart with the message that tells.
-module _ (n : ℕ) (c d : Chart) (e r s : Place) (k : ℕ) (name : List ℕ) (old : IsPossible n c) (race : IsRace c e r) (b : BelongsTo c s r) (ends : EndsBehind (c e.instance) e.index k) (can : CanTell c e.instance k s)
-    (w : IsWith (telling e.instance k s name) c d) where
+module _ (n : ℕ) (c d : Chart) (e r s : Place) (k : ℕ) (name : List ℕ) (old : IsPossible n c) (race : IsRace c e r) (b : BelongsTo c s r) (ends : EndsBehind (c e.instance) e.index k) (can : CanInform c e.instance k s)
+    (w : IsWith (informing e.instance k s name) c d) where
   low_send : 1 ≤ s.index
   low_send = (IsEvent-from_passes c (is_send_to r.instance) s b.sent).0
 
-  pub told_turn : IsInTurn (telling e.instance k s name) c d w
-  told_turn = can.in_turn ∙ up_to_send c e.instance r.instance s b.sent low_send
+  pub informed_turn : IsInTurn (informing e.instance k s name) c d w
+  informed_turn = can.in_turn ∙ up_to_send c e.instance r.instance s b.sent low_send
 
   -- what s is up to isn't told of
-  crosses_not : (x : Place) → IsTold (telling e.instance k s name) c x → IsHeard (telling e.instance k s name) c x → ⊥
-  crosses_not x (a, low, high, told) (i, q, later, sends, heard) =
+  crosses_not : (x : Place) → IsInformed (informing e.instance k s name) c x → IsHeard (informing e.instance k s name) c x → ⊥
+  crosses_not x (a, low, high, informed) (i, q, later, sends, heard) =
       let t = at s.instance i in
       let first = low_send in
       let up : IsUpTo c t s = elim (cases_lt s.index i) [
         | inl less ↦ inr (direct (to_send q (record { line = refl; begun = first; less = less }) sends))
         | inr le ↦ inl (same_place s t refl (omega (arith, later, le, first)))
       ] in
-      elim (up_up c x (at e.instance a) s told (up_up c t x s heard up)) [
+      elim (up_up c x (at e.instance a) s informed (up_up c t x s heard up)) [
         | inl same ↦ w.two (ap (λ z. z.instance) (sym same))
         | inr before ↦ can.uncrossed a high before
       ]
 
-  pub no_fault_told : (x : Place) → IsFaulty d x → ⊥
-  no_fault_told = faultless (telling e.instance k s name) c d w told_turn (possible.has_sends n c old) (possible.has_names n c old)
+  pub no_fault_informed : (x : Place) → IsFaulty d x → ⊥
+  no_fault_informed = faultless (informing e.instance k s name) c d w informed_turn (possible.has_sends n c old) (possible.has_names n c old)
 
-  pub no_cycle_told : IsCyclic d → ⊥
-  no_cycle_told = no_cycle (telling e.instance k s name) c d w told_turn (possible.has_sends n c old) (possible.no_cycle n c old) crosses_not
+  pub no_cycle_informed : IsCyclic d → ⊥
+  no_cycle_informed = no_cycle (informing e.instance k s name) c d w informed_turn (possible.has_sends n c old) (possible.no_cycle n c old) crosses_not
 
-  pub belongs_told : BelongsTo d (new_send (telling e.instance k s name)) (new_receive (telling e.instance k s name))
-  belongs_told = belongs_of (telling e.instance k s name) c d w told_turn
+  pub belongs_informed : BelongsTo d (new_send (informing e.instance k s name)) (new_receive (informing e.instance k s name))
+  belongs_informed = belongs_of (informing e.instance k s name) c d w informed_turn
 
-  pub before_told : Before d (moved (telling e.instance k s name) c e) (moved (telling e.instance k s name) c r)
-  before_told =
+  pub before_informed : Before d (moved (informing e.instance k s name) c e) (moved (informing e.instance k s name) c r)
+  before_informed =
       let first = low_send in
-      through (tells (telling e.instance k s name) c d w told_turn r.instance e.index s.index race.earlier.begun ends.has (omega (arith, first)) b.sent)
-      (direct (message (kept (telling e.instance k s name) c d w told_turn s r b)))
+      through (informs (informing e.instance k s name) c d w informed_turn r.instance e.index s.index race.earlier.begun ends.has (omega (arith, first)) b.sent)
+      (direct (message (kept (informing e.instance k s name) c d w informed_turn s r b)))

@@ -33,8 +33,8 @@ before_up c a b e (inl same) before = subst (λ x. Before c e x) same before
 before_up c a b e (inr later) before = through before later
 
 -- the event is up to one that the sender does before the new send
-abbrev pub IsTold : NewMessage → Chart → Place → Type 0
-IsTold m c x = (i : ℕ) × (1 ≤ i) × (i ≤ m.sent) × IsUpTo c (at m.sender i) x
+abbrev pub IsInformed : NewMessage → Chart → Place → Type 0
+IsInformed m c x = (i : ℕ) × (1 ≤ i) × (i ≤ m.sent) × IsUpTo c (at m.sender i) x
 
 -- a send that the receiver makes after the new receive is up to the event
 abbrev pub IsHeard : NewMessage → Chart → Place → Type 0
@@ -46,12 +46,12 @@ IsSooner m c x = (i : ℕ) × (1 ≤ i) × (i ≤ m.received) × IsReceiveFrom c
 
 -- z of the new chart is after the old event x only by what was enforced, or by the new message
 abbrev IsReached : NewMessage → Chart → Place → Place → Type 0
-IsReached m c x z = ((y : Place) × (z ≡ moved m c y) × (Before c x y ⊎ (IsTold m c x × IsHeard m c y)))
-    ⊎ ((z ≡ new_send m) × IsTold m c x) ⊎ ((z ≡ new_receive m) × (IsTold m c x ⊎ IsSooner m c x))
+IsReached m c x z = ((y : Place) × (z ≡ moved m c y) × (Before c x y ⊎ (IsInformed m c x × IsHeard m c y)))
+    ⊎ ((z ≡ new_send m) × IsInformed m c x) ⊎ ((z ≡ new_receive m) × (IsInformed m c x ⊎ IsSooner m c x))
 
 -- what is before one that was told, heard or received sooner
-told_before : (m : NewMessage) (c : Chart) (x y : Place) → Before c x y → IsTold m c y → IsTold m c x
-told_before m c x y before (i, low, high, up) = (i, low, high, inr (before_up c y (at m.sender i) x up before))
+informed_before : (m : NewMessage) (c : Chart) (x y : Place) → Before c x y → IsInformed m c y → IsInformed m c x
+informed_before m c x y before (i, low, high, up) = (i, low, high, inr (before_up c y (at m.sender i) x up before))
 
 heard_before : (m : NewMessage) (c : Chart) (x y : Place) → Before c x y → IsHeard m c x → IsHeard m c y
 heard_before m c x y before (i, q, high, sends, up) = (i, q, high, sends, inr (up_before c x y (at m.receiver i) before up))
@@ -59,15 +59,15 @@ heard_before m c x y before (i, q, high, sends, up) = (i, q, high, sends, inr (u
 sooner_before : (m : NewMessage) (c : Chart) (x y : Place) → Before c x y → IsSooner m c y → IsSooner m c x
 sooner_before m c x y before (i, low, high, from, up) = (i, low, high, from, inr (before_up c y (at m.receiver i) x up before))
 
-reached_by : (m : NewMessage) (c : Chart) (x y z : Place) → Before c x y ⊎ (IsTold m c x × IsHeard m c y) → IsReached m c y z → IsReached m c x z
+reached_by : (m : NewMessage) (c : Chart) (x y z : Place) → Before c x y ⊎ (IsInformed m c x × IsHeard m c y) → IsReached m c y z → IsReached m c x z
 reached_by m c x y z (inl before) (inl (t, is, inl on)) = inl (t, is, inl (through before on))
-reached_by m c x y z (inl before) (inl (t, is, inr (told, heard))) = inl (t, is, inr (told_before m c x y before told, heard))
-reached_by m c x y z (inl before) (inr (inl (is, told))) = inr (inl (is, told_before m c x y before told))
-reached_by m c x y z (inl before) (inr (inr (is, inl told))) = inr (inr (is, inl (told_before m c x y before told)))
+reached_by m c x y z (inl before) (inl (t, is, inr (informed, heard))) = inl (t, is, inr (informed_before m c x y before informed, heard))
+reached_by m c x y z (inl before) (inr (inl (is, informed))) = inr (inl (is, informed_before m c x y before informed))
+reached_by m c x y z (inl before) (inr (inr (is, inl informed))) = inr (inr (is, inl (informed_before m c x y before informed)))
 reached_by m c x y z (inl before) (inr (inr (is, inr sooner))) = inr (inr (is, inr (sooner_before m c x y before sooner)))
 reached_by m c x y z (inr both) (inl (t, is, inl on)) = inl (t, is, inr (both.0, heard_before m c y t on both.1))
-reached_by m c x y z (inr both) (inl (t, is, inr (told, heard))) = inl (t, is, inr (both.0, heard))
-reached_by m c x y z (inr both) (inr (inl (is, told))) = inr (inl (is, both.0))
+reached_by m c x y z (inr both) (inl (t, is, inr (informed, heard))) = inl (t, is, inr (both.0, heard))
+reached_by m c x y z (inr both) (inr (inl (is, informed))) = inr (inl (is, both.0))
 reached_by m c x y z (inr both) (inr (inr (is, more))) = inr (inr (is, inl both.0))
 
 module _ (m : NewMessage) (c d : Chart) (w : IsWith m c d) (turn : IsInTurn m c d w) where
@@ -176,44 +176,44 @@ module _ (m : NewMessage) (c d : Chart) (w : IsWith m c d) (turn : IsInTurn m c 
       inr (inr (is, inr (x.index, v.0, v.2, from, inl here)))
 
   -- a step from the new send
-  from_send : (x z : Place) → IsOneOf z → IsTold m c x → Direct d (new_send m) z → IsReached m c x z
-  from_send x z (inl (t, low, is)) told (message b) = absurd (moved_no_receive t (same_receive d (new_send m) (moved m c t) (new_receive m) (subst (BelongsTo d (new_send m)) is b) new_belongs))
-  from_send x z (inl (t, low, is)) told (to_send q l s) =
+  from_send : (x z : Place) → IsOneOf z → IsInformed m c x → Direct d (new_send m) z → IsReached m c x z
+  from_send x z (inl (t, low, is)) informed (message b) = absurd (moved_no_receive t (same_receive d (new_send m) (moved m c t) (new_receive m) (subst (BelongsTo d (new_send m)) is b) new_belongs))
+  from_send x z (inl (t, low, is)) informed (to_send q l s) =
       let v = after_new_send t (subst (IsEarlier (new_send m)) is l) in
       let sends = moved_send m c d w q t (subst (IsSendTo d q) is s) in
-      inl (t, is, inl (before_later_send c q x (at m.sender told.0) t told.3 (record { line = v.0; begun = told.1; less = omega (arith, told.2, v.1) }) sends))
-  from_send x z (inr (inl is)) told (message b) = absurd (send_receives_not m.sender (subst (IsReceiveFrom d m.sender) is b.received))
-  from_send x z (inr (inl is)) told (to_send q l s) = let same = ap (λ y. y.index) is in let less = l.less in absurd (omega (arith, less, same))
-  from_send x z (inr (inr is)) told (message b) = inr (inr (is, inl told))
-  from_send x z (inr (inr is)) told (to_send q l s) = absurd (receive_sends_not q (subst (IsSendTo d q) is s))
-  from_send x z one told (same_sender q l a b) = absurd (send_receives_not q a)
+      inl (t, is, inl (before_later_send c q x (at m.sender informed.0) t informed.3 (record { line = v.0; begun = informed.1; less = omega (arith, informed.2, v.1) }) sends))
+  from_send x z (inr (inl is)) informed (message b) = absurd (send_receives_not m.sender (subst (IsReceiveFrom d m.sender) is b.received))
+  from_send x z (inr (inl is)) informed (to_send q l s) = let same = ap (λ y. y.index) is in let less = l.less in absurd (omega (arith, less, same))
+  from_send x z (inr (inr is)) informed (message b) = inr (inr (is, inl informed))
+  from_send x z (inr (inr is)) informed (to_send q l s) = absurd (receive_sends_not q (subst (IsSendTo d q) is s))
+  from_send x z one informed (same_sender q l a b) = absurd (send_receives_not q a)
 
   -- each old receive has a send
   module _ (sent : (q : ℕ) (r : Place) → IsReceiveFrom c q r → (s : Place) × BelongsTo c s r) where
     -- what was told is before an old receive of the lane after the new one
-    told_receives : (x t : Place) → IsTold m c x → m.receiver ≡ t.instance → m.received < t.index → IsReceiveFrom c m.sender t → Before c x t
-    told_receives x t told line later from =
+    informed_receives : (x t : Place) → IsInformed m c x → m.receiver ≡ t.instance → m.received < t.index → IsReceiveFrom c m.sender t → Before c x t
+    informed_receives x t informed line later from =
         let s = sent m.sender t from in
         let on = one_sender c s.0.instance m.sender t s.1.received from in
         let here = same_place t (at m.receiver t.index) (sym line) refl in
         let b = subst₂ (λ p y. BelongsTo c (at p s.0.index) y) on here s.1 in
         let more = tally-lt (is_receive_from m.sender) (c m.receiver) m.received t.index later b.received in
         let beyond : m.sent < s.0.index = after s.0.index (omega (arith, more, b.turn, turn)) in
-        let up = before_later_send c m.receiver x (at m.sender told.0) (at m.sender s.0.index) told.3 (record { line = refl; begun = told.1; less = omega (arith, told.2, beyond) }) b.sent in
+        let up = before_later_send c m.receiver x (at m.sender informed.0) (at m.sender s.0.index) informed.3 (record { line = refl; begun = informed.1; less = omega (arith, informed.2, beyond) }) b.sent in
         subst (Before c x) (sym here) (through up (direct (message b)))
       where
         after : (i : ℕ) → tally (is_send_to m.receiver) (c m.sender) m.sent < tally (is_send_to m.receiver) (c m.sender) i → m.sent < i
         after i more = elim (cases_lt m.sent i) [ inl less ↦ less | inr le ↦ let l = tally-le (is_send_to m.receiver) (c m.sender) i m.sent le in absurd (omega arith) ]
 
     -- a step from the new receive
-    from_receive : (x z : Place) → IsOneOf z → IsTold m c x ⊎ IsSooner m c x → Direct d (new_receive m) z → IsReached m c x z
+    from_receive : (x z : Place) → IsOneOf z → IsInformed m c x ⊎ IsSooner m c x → Direct d (new_receive m) z → IsReached m c x z
     from_receive x z one so (message b) = absurd (receive_sends_not z.instance b.sent)
     from_receive x z (inl (t, low, is)) so (to_send q l s) =
         let v = after_new_receive t (subst (IsEarlier (new_receive m)) is l) in
         let sends = moved_send m c d w q t (subst (IsSendTo d q) is s) in
         let here = same_place t (at m.receiver t.index) (sym v.0) refl in
         elim so [
-          | inl told ↦ inl (t, is, inr (told, (t.index, q, v.1, subst (IsSendTo c q) here sends, inl (sym here))))
+          | inl informed ↦ inl (t, is, inr (informed, (t.index, q, v.1, subst (IsSendTo c q) here sends, inl (sym here))))
           | inr sooner ↦ inl (t, is, inl (before_later_send c q x (at m.receiver sooner.0) t sooner.4 (record { line = v.0; begun = sooner.1; less = omega (arith, sooner.2, v.1) }) sends))
         ]
     from_receive x z (inl (t, low, is)) so (same_sender q l a b) =
@@ -221,7 +221,7 @@ module _ (m : NewMessage) (c d : Chart) (w : IsWith m c d) (turn : IsInTurn m c 
         let q_is = one_sender d q m.sender (new_receive m) a new_belongs.received in
         let from = subst (λ p. IsReceiveFrom c p t) q_is (moved_receive m c d w q t (subst (IsReceiveFrom d q) is b)) in
         elim so [
-          | inl told ↦ inl (t, is, inl (told_receives x t told v.0 v.1 from))
+          | inl informed ↦ inl (t, is, inl (informed_receives x t informed v.0 v.1 from))
           | inr sooner ↦ inl (t, is, inl (up_before c (at m.receiver sooner.0) t x (direct (same_sender m.sender (record { line = v.0; begun = sooner.1; less = omega (arith, sooner.2, v.1) }) sooner.3 from)) sooner.4))
         ]
     from_receive x z (inr (inl is)) so (to_send q l s) = absurd (w.two (sym (l.line ∙ ap (λ y. y.instance) is)))
@@ -232,7 +232,7 @@ module _ (m : NewMessage) (c d : Chart) (w : IsWith m c d) (turn : IsInTurn m c 
     -- what is after what was reached
     step_on : (x y z : Place) → IsReached m c x y → IsEvent d z → Direct d y z → IsReached m c x z
     step_on x y z (inl (t, is, so)) here step = reached_by m c x t z so (from_old t z (one_of z here) (subst (λ a. Direct d a z) is step))
-    step_on x y z (inr (inl (is, told))) here step = from_send x z (one_of z here) told (subst (λ a. Direct d a z) is step)
+    step_on x y z (inr (inl (is, informed))) here step = from_send x z (one_of z here) informed (subst (λ a. Direct d a z) is step)
     step_on x y z (inr (inr (is, so))) here step = from_receive x z (one_of z here) so (subst (λ a. Direct d a z) is step)
 
     reached_on : {y z : Place} → Before d y z → (x : Place) → IsReached m c x y → IsReached m c x z
@@ -244,15 +244,15 @@ module _ (m : NewMessage) (c d : Chart) (w : IsWith m c d) (turn : IsInTurn m c 
     reached_from (through a b) x is = reached_on b x (reached_from a x is)
 
     -- of old events is enforced what was, and what the message adds
-    pub was_before : (x y : Place) → Before d (moved m c x) (moved m c y) → Before c x y ⊎ (IsTold m c x × IsHeard m c y)
+    pub was_before : (x y : Place) → Before d (moved m c x) (moved m c y) → Before c x y ⊎ (IsInformed m c x × IsHeard m c y)
     was_before x y before = elim (reached_from before x refl) [
-      | inl v ↦ subst (λ t. Before c x t ⊎ (IsTold m c x × IsHeard m c t)) (sym (moved_apart y v.0 v.1)) v.2
+      | inl v ↦ subst (λ t. Before c x t ⊎ (IsInformed m c x × IsHeard m c t)) (sym (moved_apart y v.0 v.1)) v.2
       | inr (inl v) ↦ absurd (moved_no_send y v.0)
       | inr (inr v) ↦ absurd (moved_no_receive y v.0)
     ]
 
     -- Where no event is told of and heard, and nothing was before itself, nothing is.
-    module _ (free : IsCyclic c → ⊥) (uncrossed : (x : Place) → IsTold m c x → IsHeard m c x → ⊥) where
+    module _ (free : IsCyclic c → ⊥) (uncrossed : (x : Place) → IsInformed m c x → IsHeard m c x → ⊥) where
       no_old_cycle : (x z : Place) → z ≡ moved m c x → Before d z z → ⊥
       no_old_cycle x z is before = elim (was_before x x (subst (λ a. Before d a a) is before)) [
         | inl old ↦ free (x, old)

@@ -12,9 +12,9 @@ use Rattle.chart.proofs.Belongs.{same_send}
 use Rattle.chart.proofs.Tally.{ith_at}
 use Rattle.closure.specs.Faults.{place_of}
 use Rattle.closure.proofs.ReadLemmas.{line_short, empty_line}
-use Rattle.repair.specs.Messages.{NewMessage, IsWith, new_send, moved, EndsBehind, IsRace, telling, NoMessage}
+use Rattle.repair.specs.Messages.{NewMessage, IsWith, new_send, moved, EndsBehind, IsRace, informing, NoMessage}
 use Rattle.repair.specs.Growing.{message_of, line_with}
-use Rattle.repair.specs.Mends.{IsAsked, IsMended, Tells, Crosses, Waits, IsFull}
+use Rattle.repair.specs.Mends.{IsAsked, IsMended, Informs, Crosses, Waits, IsFull}
 use Rattle.repair.specs.declared.message.Message.{Message}
 use Rattle.repair.specs.declared.pairs.RacePair.{RacePair}
 use Rattle.repair.specs.Repairs.{with_message, HasRoom, IsRepair, Leaves, ArePairs}
@@ -44,7 +44,7 @@ one_repair lines pair name m n a b =
     let e = place_of pair.earlier in
     let send = same_send (chart_lines lines) a.send b.send (place_of pair.receive) a.asked.belongs b.asked.belongs in
     let many = one_end (chart_lines lines e.instance) e.index a.many b.many a.asked.ends b.asked.ends in
-    a.message ∙ ap (λ (s : Place). telling e.instance a.many s name) send ∙ ap (λ k. telling e.instance k b.send name) many ∙ sym b.message
+    a.message ∙ ap (λ (s : Place). informing e.instance a.many s name) send ∙ ap (λ k. informing e.instance k b.send name) many ∙ sym b.message
 
 -- so it leaves one number of race pairs
 pub one_left : (lines : List LineView) (pair : RacePair) (name : List ℕ) (m : NewMessage) (left : ℕ) → IsRepair lines pair name m → HasPairs (with_message m lines) left → (k : ℕ) → Leaves lines name pair k → k ≡ left
@@ -67,20 +67,20 @@ line_shorts lines (suc p) is = elim (cases_lt p (length lines)) [
 ]
 
 -- the message that mends a pair in a chart
-pub repair_of : (lines chart : List LineView) (pair : RacePair) (name : List ℕ) (m : Message) → IsChart chart → Tells (length lines) (chart_lines lines) (place_of pair.earlier) (place_of pair.receive) name m chart → chart ≡ with_message (message_of m) lines → IsRepair lines pair name (message_of m)
-repair_of lines chart pair name m is_chart tells is =
+pub repair_of : (lines chart : List LineView) (pair : RacePair) (name : List ℕ) (m : Message) → IsChart chart → Informs (length lines) (chart_lines lines) (place_of pair.earlier) (place_of pair.receive) name m chart → chart ≡ with_message (message_of m) lines → IsRepair lines pair name (message_of m)
+repair_of lines chart pair name m is_chart informs is =
     let n = message_of m in
-    let with = tells.mended.added in
+    let with = informs.mended.added in
     record {
-      send = tells.send;
-      many = tells.many;
-      asked = tells.asked;
-      message = tells.message;
+      send = informs.send;
+      many = informs.many;
+      asked = informs.asked;
+      message = informs.message;
       room = (
         room_in (chart_lines lines n.sender) (chart_lines chart n.sender) n.sent (send_event n.receiver n.name) with.sent_within with.send (line_shorts chart n.sender is_chart),
         room_in (chart_lines lines n.receiver) (chart_lines chart n.receiver) n.received (receive_event n.sender n.name n.region) with.received_within with.receive (line_shorts chart n.receiver is_chart),
       );
-      mended = subst (λ (l : List LineView). IsMended (length lines) (chart_lines lines) (place_of pair.earlier) (place_of pair.receive) (message_of m) (chart_lines l)) is tells.mended;
+      mended = subst (λ (l : List LineView). IsMended (length lines) (chart_lines lines) (place_of pair.earlier) (place_of pair.receive) (message_of m) (chart_lines l)) is informs.mended;
     }
 
 module _ (lines : List LineView) (name : List ℕ) (pair : RacePair) where

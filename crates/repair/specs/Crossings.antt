@@ -22,8 +22,8 @@ abbrev pub IsHeardAt : Chart → Place → Place → Type 0
 IsHeardAt c s r = (t : Place) × BelongsTo c t r × IsUpTo c t s
 
 -- the receive has a send, and this tells whether it is so
-abbrev pub TellsHeard : Chart → Place → Place → Bool → Type 0
-TellsHeard c s r heard = ((t : Place) × BelongsTo c t r) × (IsTrue heard ↔ IsHeardAt c s r)
+abbrev pub InformsHeard : Chart → Place → Place → Bool → Type 0
+InformsHeard c s r heard = ((t : Place) × BelongsTo c t r) × (IsTrue heard ↔ IsHeardAt c s r)
 
 -- of the events of p's line behind the first `low`, up to that of number `high`, a receive from q is so
 abbrev pub IsHeardFrom : Chart → Place → ℕ → ℕ → ℕ → ℕ → Type 0

@@ -3,7 +3,7 @@ use Rattle.std.specs.Prelude.{ℕ, ◌↔◌, List}
 use Rattle.chart.specs.Charts.{Chart, Place, BelongsTo, IsPossible}
 use Rattle.chart.specs.Order.{Before, IsCyclic}
 use Rattle.closure.specs.Faults.{IsFaulty}
-use Rattle.repair.specs.Messages.{NewMessage, IsWith, new_send, new_receive, moved, IsRace, EndsBehind, CanTell, telling, NoMessage}
+use Rattle.repair.specs.Messages.{NewMessage, IsWith, new_send, new_receive, moved, IsRace, EndsBehind, CanInform, informing, NoMessage}
 
 -- Where the new message's receive is of its send:
 
@@ -25,15 +25,15 @@ NoNewRaceLaw = (m : NewMessage) (c d : Chart) → IsWith m c d → BelongsTo d (
 -- Of a race of a possible chart, whose receive r has the send s, and whose earlier event's coregion ends behind k events:
 
 -- the message that tells of them leaves no receive without its send, makes no cycle, and makes the pair enforced
-abbrev pub TellingLaw : Type 0
-TellingLaw = (n : ℕ) (c d : Chart) (e r s : Place) (k : ℕ) (name : List ℕ) → IsPossible n c → IsRace c e r
-    → BelongsTo c s r → EndsBehind (c e.instance) e.index k → CanTell c e.instance k s
-    → IsWith (telling e.instance k s name) c d
+abbrev pub InformingLaw : Type 0
+InformingLaw = (n : ℕ) (c d : Chart) (e r s : Place) (k : ℕ) (name : List ℕ) → IsPossible n c → IsRace c e r
+    → BelongsTo c s r → EndsBehind (c e.instance) e.index k → CanInform c e.instance k s
+    → IsWith (informing e.instance k s name) c d
     → ((x : Place) → IsFaulty d x → ⊥) × (IsCyclic d → ⊥)
-    × BelongsTo d (new_send (telling e.instance k s name)) (new_receive (telling e.instance k s name))
-    × Before d (moved (telling e.instance k s name) c e) (moved (telling e.instance k s name) c r)
+    × BelongsTo d (new_send (informing e.instance k s name)) (new_receive (informing e.instance k s name))
+    × Before d (moved (informing e.instance k s name) c e) (moved (informing e.instance k s name) c r)
 
 -- where it can't be told of them no message from e's line to s's makes the pair enforced
 abbrev pub NoMessageLaw : Type 0
 NoMessageLaw = (n : ℕ) (c : Chart) (e r s : Place) (k : ℕ) → IsPossible n c → IsRace c e r → BelongsTo c s r
-    → EndsBehind (c e.instance) e.index k → (CanTell c e.instance k s → ⊥) → NoMessage n c e.instance s.instance e r
+    → EndsBehind (c e.instance) e.index k → (CanInform c e.instance k s → ⊥) → NoMessage n c e.instance s.instance e r

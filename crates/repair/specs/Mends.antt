@@ -10,7 +10,7 @@ use Rattle.chart.specs.Places.{IsSendAfter}
 use Rattle.chart.specs.Reports.{AreReports}
 use Rattle.closure.specs.Faults.{place_of}
 use Rattle.closure.specs.Chain.Chains.{IsShortestChain}
-use Rattle.repair.specs.Messages.{NewMessage, IsWith, new_send, new_receive, moved, IsRace, EndsBehind, CanTell, telling, NoMessage}
+use Rattle.repair.specs.Messages.{NewMessage, IsWith, new_send, new_receive, moved, IsRace, EndsBehind, CanInform, informing, NoMessage}
 use Rattle.repair.specs.Crossings.{IsFirstAfter, IsBeforeNone}
 use Rattle.repair.specs.Growing.{message_of, line_with}
 use Rattle.repair.specs.declared.error.MendError.{MendError}
@@ -59,11 +59,11 @@ pub record Waits (n : ℕ) (c : Chart) (e r x : Place) : Type 0 where
   pub none : NoMessage n c e.instance send.instance e r
 
 -- the chart with the message of this name that tells of them
-pub record Tells (n : ℕ) (c : Chart) (e r : Place) (name : List ℕ) (m : Message) (lines : List LineView) : Type 0 where
+pub record Informs (n : ℕ) (c : Chart) (e r : Place) (name : List ℕ) (m : Message) (lines : List LineView) : Type 0 where
   pub send : Place
   pub many : ℕ
   pub asked : IsAsked c e r send many
-  pub message : message_of m ≡ telling e.instance many send name
+  pub message : message_of m ≡ informing e.instance many send name
   pub whole : length lines ≡ n
   pub mended : IsMended n c e r (message_of m) (chart_lines lines)
 
@@ -74,7 +74,7 @@ Mends n c e r name Hidden = (Before c e r → ⊥)
     × ((m : Event) × (chart_event c e ≡ Some m) × (is_in (region_of_event (chart_event c r)) m ≡ true))
 Mends n c e r name (Crossed x) = Crosses n c e r (place_of x)
 Mends n c e r name (OnItsWay x) = Waits n c e r (place_of x)
-Mends n c e r name (Mended m chart reports) = Tells n c e r name m chart
+Mends n c e r name (Mended m chart reports) = Informs n c e r name m chart
 
 -- the chart that is answered has the lines of the old one, with the message's send and its receive, and nothing else; its
 -- reports are answered too
@@ -91,7 +91,7 @@ pub record IsFull (c : Chart) (e r : Place) (p : ℕ) : Type 0 where
   pub send : Place
   pub many : ℕ
   pub asked : IsAsked c e r send many
-  pub can : CanTell c e.instance many send
+  pub can : CanInform c e.instance many send
   pub full : ((p ≡ e.instance) × (length (c e.instance) ≡ MAX_EVENTS))
       ⊎ ((p ≡ send.instance) × (length (c e.instance) ≢ MAX_EVENTS) × (length (c send.instance) ≡ MAX_EVENTS))
 

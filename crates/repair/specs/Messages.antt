@@ -61,13 +61,13 @@ pub record EndsBehind (line : List Event) (index k : ℕ) : Type 0 where
 
 -- p can tell of its first k events before the send s: s is before none of them, and as many messages were sent to s's
 -- line among them as were received there before s
-pub record CanTell (c : Chart) (p k : ℕ) (s : Place) : Type 0 where
+pub record CanInform (c : Chart) (p k : ℕ) (s : Place) : Type 0 where
   pub uncrossed : (i : ℕ) → i ≤ k → Before c s (at p i) → ⊥
   pub in_turn : tally (is_send_to s.instance) (c p) k ≡ tally (is_receive_from p) (c s.instance) s.index
 
 -- the message that tells of them: sent behind them, and received directly before s
-abbrev pub telling : ℕ → ℕ → Place → List ℕ → NewMessage
-telling p k s name = record {
+abbrev pub informing : ℕ → ℕ → Place → List ℕ → NewMessage
+informing p k s name = record {
   sender = p;
   sent = k;
   receiver = s.instance;

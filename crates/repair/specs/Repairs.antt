@@ -6,7 +6,7 @@ use Rattle.chart.specs.declared.line.TheConstants.{MAX_EVENTS}
 use Rattle.chart.specs.Charts.{Place, LineView, chart_lines}
 use Rattle.chart.specs.Reports.{ReportView, AreReports}
 use Rattle.closure.specs.Faults.{place_of}
-use Rattle.repair.specs.Messages.{NewMessage, telling}
+use Rattle.repair.specs.Messages.{NewMessage, informing}
 use Rattle.repair.specs.Growing.{message_of, line_with}
 use Rattle.repair.specs.Mends.{IsAsked, IsMended}
 use Rattle.repair.specs.declared.best.Addition.{Addition}
@@ -38,7 +38,7 @@ pub record IsRepair (lines : List LineView) (pair : RacePair) (name : List ℕ) 
   pub send : Place
   pub many : ℕ
   pub asked : IsAsked (chart_lines lines) (place_of pair.earlier) (place_of pair.receive) send many
-  pub message : m ≡ telling pair.earlier.instance many send name
+  pub message : m ≡ informing pair.earlier.instance many send name
   pub room : HasRoom lines m
   pub mended : IsMended (length lines) (chart_lines lines) (place_of pair.earlier) (place_of pair.receive) m
       (chart_lines (with_message m lines))

@@ -5,7 +5,7 @@ ghost use Rattle.chart.specs.Charts.{at, chart_lines, IsReceiveFrom};
 ghost use Rattle.chart.specs.Order.{Before};
 ghost use Rattle.closure.specs.Faults.{place_of};
 ghost use Rattle.closure.specs.Searches.{IsSend};
-ghost use Rattle.repair.specs.Crossings.{IsLastIn, HasNoneIn, TellsHeard, IsHeardFrom, IsFirstAfter, IsBeforeNone};
+ghost use Rattle.repair.specs.Crossings.{IsLastIn, HasNoneIn, InformsHeard, IsHeardFrom, IsFirstAfter, IsBeforeNone};
 
 use chart::line_events::events_of;
 use chart::{Event, EventNo, InstanceNo};
@@ -41,7 +41,7 @@ fn is_heard_at(closure: &Closure<'_>, send: &EventNo, receive: &EventNo) -> Resu
     requires send { IsSend (chart_lines closure.now) (place_of send.now) }
     requires receive { (q : ℕ) × IsReceiveFrom (chart_lines closure.now) q (place_of receive.now) }
     ensures { IfOk result
-        (TellsHeard (chart_lines closure.now) (place_of send.now) (place_of receive.now)) }
+        (InformsHeard (chart_lines closure.now) (place_of send.now) (place_of receive.now)) }
 {
     let Some(its) = closure.send_of(receive) else {
         unreachable!()

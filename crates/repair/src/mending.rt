@@ -8,9 +8,9 @@ ghost use Rattle.chart.specs.Order.{IsEarlier, Before, IsCyclic, region_of_event
 ghost use Rattle.chart.specs.Reports.{AreReports};
 ghost use Rattle.closure.specs.Closures.{IsPossibleChart};
 ghost use Rattle.closure.specs.Faults.{place_of, IsFaulty};
-ghost use Rattle.repair.specs.Messages.{IsRace, CanTell, telling};
+ghost use Rattle.repair.specs.Messages.{IsRace, CanInform, informing};
 ghost use Rattle.repair.specs.Growing.{message_of, line_with};
-ghost use Rattle.repair.specs.Mends.{IsAsked, Tells, Mends, IsMadeOf, Fails};
+ghost use Rattle.repair.specs.Mends.{IsAsked, Informs, Mends, IsMadeOf, Fails};
 
 use crate::asking::first_after;
 use crate::error::MendError;
@@ -71,7 +71,7 @@ fn reports_of(alloc: Global, chart: &Chart) -> Result<Vec<Report>, MendError>
 }
 
 /// The chart with the message that tells of the earlier event, and its reports.
-fn told(
+fn informed(
     alloc: Global,
     closure: &Closure<'_>,
     earlier: &EventNo,
@@ -80,12 +80,12 @@ fn told(
 ) -> Result<(Chart, Vec<Report>), MendError>
     requires possible { IsPossibleChart closure.now }
     requires asked { (s : Place) × (k : ℕ) × IsAsked (chart_lines closure.now) (place_of earlier.now)
-        (place_of receive.now) s k × CanTell (chart_lines closure.now) earlier.now.instance k s
-        × (message_of message.now ≡ telling earlier.now.instance k s message.now.name) }
-    ensures ok { IfOk result (λ told. Tells (length closure.now) (chart_lines closure.now) (place_of earlier.now)
-        (place_of receive.now) message.now.name message.now told.0) }
-    ensures made { IfOk result (λ told. told.0 ≡ map (line_with (message_of message.now)) closure.now) }
-    ensures reports { IfOk result (λ told. AreReports told.0 told.1.items) }
+        (place_of receive.now) s k × CanInform (chart_lines closure.now) earlier.now.instance k s
+        × (message_of message.now ≡ informing earlier.now.instance k s message.now.name) }
+    ensures ok { IfOk result (λ informed. Informs (length closure.now) (chart_lines closure.now) (place_of earlier.now)
+        (place_of receive.now) message.now.name message.now informed.0) }
+    ensures made { IfOk result (λ informed. informed.0 ≡ map (line_with (message_of message.now)) closure.now) }
+    ensures reports { IfOk result (λ informed. AreReports informed.0 informed.1.items) }
     ensures err { IfErr result (Fails (chart_lines closure.now) (place_of earlier.now) (place_of receive.now)) }
 {
     let lines = closure.lines();
@@ -156,7 +156,7 @@ pub fn mend_race(
         received: send.index as usize - 1,
         name: *name,
     };
-    match told(alloc, closure, earlier, receive, &message) {
+    match informed(alloc, closure, earlier, receive, &message) {
         Ok((chart, reports)) => Ok(Mending::Mended(message, chart, reports)),
         Err(error) => Err(error),
     }

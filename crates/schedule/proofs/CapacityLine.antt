@@ -60,21 +60,21 @@ say_two a b k low high low' high' e =
     same_digits p q = cc
 
 -- a number that is read is spelled in decimal
-slots_said : (digits : List ℕ) (k : ℕ) → is_number digits ≡ true → slots_of digits ≡ Ok k → SaySlots digits k
+slots_sound : (digits : List ℕ) (k : ℕ) → is_number digits ≡ true → slots_of digits ≡ Ok k → SaySlots digits k
 unfolding is_number slots_of
-slots_said [] k number e = absurd cc
-slots_said (a ∷ []) k number e =
+slots_sound [] k number e = absurd cc
+slots_sound (a ∷ []) k number e =
     let front = and_parts (is_ascii_digit a && true) (true || not (eqb a 48)) number in
     let bounds = digit_bounds a (and_parts (is_ascii_digit a) true front.0).0 in
     say_one a k bounds.0 bounds.1 e
-slots_said (a ∷ b ∷ []) k number e =
+slots_sound (a ∷ b ∷ []) k number e =
     let front = and_parts (is_ascii_digit a && (is_ascii_digit b && true)) (eqb 1 0 || not (eqb a 48)) number in
     let digits = and_parts (is_ascii_digit a) (is_ascii_digit b && true) front.0 in
     let first = digit_bounds a digits.0 in
     let second = digit_bounds b (and_parts (is_ascii_digit b) true digits.1).0 in
     let low : 49 ≤ a = above_zero a 1 (is_ascii_digit a) (is_ascii_digit b && true) number refl (omega arith) in
     say_two a b k low first.1 second.0 second.1 e
-slots_said (a ∷ b ∷ c ∷ ds) k number e = absurd (let long = long_number (a ∷ b ∷ c ∷ ds) number (omega arith) in cc)
+slots_sound (a ∷ b ∷ c ∷ ds) k number e = absurd (let long = long_number (a ∷ b ∷ c ∷ ds) number (omega arith) in cc)
 
 -- ---- a number that is spelled in decimal is read
 
@@ -131,27 +131,27 @@ digits_again k first last = elim (cases_lt k 10) [
 -- ---- the line
 
 -- line 2 says so many slots
-pub record AreSaidPlaces (line : List ℕ) (k : ℕ) : Type 0 where
+pub record IsCapacityLine (line : List ℕ) (k : ℕ) : Type 0 where
   pub first : 1 ≤ k
   pub last : k ≤ MAX_CAPACITY
   pub is : line ≡ capacity_line k
 
-capacity_by-said : (line : List ℕ) (words : List (List ℕ)) (k : ℕ) → line ≡ spaced words → capacity_by words ≡ Ok k → AreSaidPlaces line k
+capacity_by-sound : (line : List ℕ) (words : List (List ℕ)) (k : ℕ) → line ≡ spaced words → capacity_by words ≡ Ok k → IsCapacityLine line k
 unfolding is_written
-capacity_by-said line [] k is e = absurd cc
-capacity_by-said line (keyword ∷ []) k is e = absurd cc
-capacity_by-said line (keyword ∷ digits ∷ []) k is e =
+capacity_by-sound line [] k is e = absurd cc
+capacity_by-sound line (keyword ∷ []) k is e = absurd cc
+capacity_by-sound line (keyword ∷ digits ∷ []) k is e =
     let a = when_ok (is_written keywords.Capacity keyword && is_number digits) Syntax (slots_of digits) k e in
     let both = and_parts (is_written keywords.Capacity keyword) (is_number digits) a.0 in
     let same : keyword ≡ written keywords.Capacity = same_bytes keyword (written keywords.Capacity) both.0 in
-    let say = slots_said digits k both.1 a.1 in
+    let say = slots_sound digits k both.1 a.1 in
     record { first = say.first; last = say.last; is = is ∙ ap (λ w. spaced (w ∷ digits ∷ [])) same ∙ ap (λ w. spaced (written keywords.Capacity ∷ w ∷ [])) say.are }
-capacity_by-said line (keyword ∷ digits ∷ word ∷ words) k is e = absurd cc
+capacity_by-sound line (keyword ∷ digits ∷ word ∷ words) k is e = absurd cc
 
 -- what is read
-pub capacity_said : (line : List ℕ) (k : ℕ) → capacity_of line ≡ Ok k → AreSaidPlaces line k
+pub capacity_sound : (line : List ℕ) (k : ℕ) → capacity_of line ≡ Ok k → IsCapacityLine line k
 unfolding capacity_of
-capacity_said line k e = capacity_by-said line (words_of line) k (is_spaced line) e
+capacity_sound line k e = capacity_by-sound line (words_of line) k (is_spaced line) e
 
 plain_line : (k : ℕ) → 1 ≤ k → k ≤ MAX_CAPACITY → ArePlain (written keywords.Capacity ∷ decimal k ∷ [])
 plain_line k first last = (plain_written keywords.Capacity, ((digits_again k first last).plain, tt))

@@ -181,37 +181,37 @@ action_by-says names (x ∷ k ∷ y ∷ m ∷ []) acting e = by_four-says names 
 action_by-says names (x ∷ k ∷ y ∷ m ∷ z ∷ words) acting e = absurd cc
 
 -- the commands are of the instances, can be spelled, and are numbered from n, and the lines say them
-pub record AreSaid (names : List (List ℕ)) (n : ℕ) (lines : List (List ℕ)) (commands : List Command) : Type 0 where
+pub record AreCommandLines (names : List (List ℕ)) (n : ℕ) (lines : List (List ℕ)) (commands : List Command) : Type 0 where
   pub among : AllByRecursion (IsAmong (length names)) commands
   pub spelled : AllByRecursion CanBeSpelled commands
   pub numbered : AreNumbered n commands
   pub are : lines ≡ map (command_line names) commands
 
 -- one command
-record IsSaid (names : List (List ℕ)) (n : ℕ) (line : List ℕ) (command : Command) : Type 0 where
+record IsCommandLine (names : List (List ℕ)) (n : ℕ) (line : List ℕ) (command : Command) : Type 0 where
   pub among : IsAmong (length names) command
   pub spelled : CanBeSpelled command
   pub numbered : command.line ≡ n
   pub is : line ≡ command_line names command
 
-command_at-said : (names : List (List ℕ)) (n : ℕ) (line : List ℕ) (command : Command) → command_at names n line ≡ Ok command → IsSaid names n line command
+command_at-sound : (names : List (List ℕ)) (n : ℕ) (line : List ℕ) (command : Command) → command_at names n line ≡ Ok command → IsCommandLine names n line command
 unfolding command_at action_of
-command_at-said names n line command e =
+command_at-sound names n line command e =
     let a = bind_ok (in_line n (action_of names line)) (λ acting. Ok (record { line = n; actor = acting.0; action = acting.1 })) command e in
     let says = action_by-says names (words_of line) a.0 (in_line_ok n (action_of names line) a.0 a.1) in
-    subst (IsSaid names n line) (ok_is (record { line = n; actor = a.0.0; action = a.0.1 }) command a.2)
+    subst (IsCommandLine names n line) (ok_is (record { line = n; actor = a.0.0; action = a.0.1 }) command a.2)
     (record { among = says.among; spelled = says.spelled; numbered = refl; is = is_spaced line ∙ ap spaced says.are })
 
 -- line after line
-pub commands_from-said : (names : List (List ℕ)) (n : ℕ) (lines : List (List ℕ)) (commands : List Command) → commands_from names n lines ≡ Ok commands → AreSaid names n lines commands
+pub commands_from-sound : (names : List (List ℕ)) (n : ℕ) (lines : List (List ℕ)) (commands : List Command) → commands_from names n lines ≡ Ok commands → AreCommandLines names n lines commands
 unfolding commands_from
-commands_from-said names n [] commands e = subst (AreSaid names n []) (ok_is [] commands e) (record { among = tt; spelled = tt; numbered = tt; are = refl })
-commands_from-said names n (line ∷ lines) commands e =
+commands_from-sound names n [] commands e = subst (AreCommandLines names n []) (ok_is [] commands e) (record { among = tt; spelled = tt; numbered = tt; are = refl })
+commands_from-sound names n (line ∷ lines) commands e =
     let a = bind_ok (command_at names n line) (λ command. commands_from names (n + 1) lines >>= λ others. Ok (command ∷ others)) commands e in
     let b = bind_ok (commands_from names (n + 1) lines) (λ others. Ok (a.0 ∷ others)) commands a.2 in
-    let one = command_at-said names n line a.0 a.1 in
-    let more = commands_from-said names (n + 1) lines b.0 b.1 in
-    subst (AreSaid names n (line ∷ lines)) (ok_is (a.0 ∷ b.0) commands b.2) (record {
+    let one = command_at-sound names n line a.0 a.1 in
+    let more = commands_from-sound names (n + 1) lines b.0 b.1 in
+    subst (AreCommandLines names n (line ∷ lines)) (ok_is (a.0 ∷ b.0) commands b.2) (record {
       among = (one.among, more.among);
       spelled = (one.spelled, more.spelled);
       numbered = (one.numbered, more.numbered);

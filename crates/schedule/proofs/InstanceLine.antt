@@ -72,10 +72,10 @@ instances_of-given words names e =
     subst P (ok_is a.0 names b.1) (ltb-false (length a.0) 2 b.0, with_words-given [] words a.0 no_names a.1)
 
 -- the same with the keyword
-instances_by-said : (line : List ℕ) (words names : List (List ℕ)) → line ≡ spaced words → instances_by words ≡ Ok names → AreInstances line names
+instances_by-sound : (line : List ℕ) (words names : List (List ℕ)) → line ≡ spaced words → instances_by words ≡ Ok names → AreInstances line names
 unfolding is_written
-instances_by-said line [] names is e = absurd cc
-instances_by-said line (keyword ∷ words) names is e =
+instances_by-sound line [] names is e = absurd cc
+instances_by-sound line (keyword ∷ words) names is e =
     let a = when_ok (is_written keywords.Instances keyword && are_words words) Syntax (instances_of words) names e in
     let given = instances_of-given words names a.1 in
     let same : keyword ≡ written keywords.Instances = same_bytes keyword (written keywords.Instances) (and_parts (is_written keywords.Instances keyword) (are_words words) a.0).0 in
@@ -88,9 +88,9 @@ instances_by-said line (keyword ∷ words) names is e =
     }
 
 -- the same by the line
-pub names_said : (line : List ℕ) (names : List (List ℕ)) → names_of line ≡ Ok names → AreInstances line names
+pub names_sound : (line : List ℕ) (names : List (List ℕ)) → names_of line ≡ Ok names → AreInstances line names
 unfolding names_of
-names_said line names e = instances_by-said line (words_of line) names (is_spaced line) e
+names_sound line names e = instances_by-sound line (words_of line) names (is_spaced line) e
 
 -- ---- what is spelled so is read
 

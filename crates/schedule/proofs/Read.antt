@@ -15,10 +15,10 @@ use Rattle.schedule.specs.Plans.{Plan, IsAmong}
 use Rattle.schedule.specs.Reading.{next_of, commands_from, commands_of, with_end, schedule_of}
 use Rattle.schedule.specs.ScheduleText.{plan_lines, schedule_text, CanBeSpelled, HasText}
 use Rattle.schedule.specs.declared.command.Command.{Command}
-use Rattle.schedule.proofs.CapacityLine.{capacity_said, capacity_again, capacity_lacks}
-use Rattle.schedule.proofs.CommandLines.{commands_from-said}
+use Rattle.schedule.proofs.CapacityLine.{capacity_sound, capacity_again, capacity_lacks}
+use Rattle.schedule.proofs.CommandLines.{commands_from-sound}
 use Rattle.schedule.proofs.CommandsAgain.{commands_again, commands_lack}
-use Rattle.schedule.proofs.InstanceLine.{names_said, names_again, instances_lack}
+use Rattle.schedule.proofs.InstanceLine.{names_sound, names_again, instances_lack}
 
 -- ---- the lines that a plan is read from
 
@@ -94,9 +94,9 @@ pub read_spelled : (bytes : List ℕ) (plan : Plan) → schedule_of bytes ≡ Ok
 unfolding schedule_text
 read_spelled bytes plan e =
     let from = read_from bytes plan e in
-    let names = names_said from.first plan.names from.names in
-    let capacity = capacity_said from.second plan.capacity from.capacity in
-    let commands = commands_from-said plan.names 3 from.others plan.commands from.commands in
+    let names = names_sound from.first plan.names from.names in
+    let capacity = capacity_sound from.second plan.capacity from.capacity in
+    let commands = commands_from-sound plan.names 3 from.others plan.commands from.commands in
     let lines : lines_of bytes ≡ plan_lines plan = from.lines ∙ same_three names.is capacity.is commands.are in (
       record {
         keeps = record { several = names.several; names = names.are; commands = All-from_recursion (IsAmong (length plan.names)) plan.commands commands.among };

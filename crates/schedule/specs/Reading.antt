@@ -18,8 +18,8 @@ next_of (line ∷ lines) = Ok (line, lines)
 -- the command of line n
 unfoldable pub command_at : List (List ℕ) → ℕ → List ℕ → Result Command Fault
 command_at names n line = do
-  said ← in_line n (action_of names line)
-  Ok (record { line = n; actor = said.0; action = said.1 })
+  sound ← in_line n (action_of names line)
+  Ok (record { line = n; actor = sound.0; action = sound.1 })
 
 -- the commands of line n and of those after it
 unfoldable pub commands_from : List (List ℕ) → ℕ → List (List ℕ) → Result (List Command) Fault

@@ -6,4 +6,4 @@ pub mod Partners
 pub mod Slots
 pub mod StepsMade
 pub mod Stopping
-pub mod TurnLemmas
+pub mod ReorderingLemmas

@@ -1,4 +1,4 @@
 pub mod Runs
 pub mod Schedules
 pub mod Showing
-pub mod Turns
+pub mod Reorderings

@@ -1,7 +1,8 @@
 //! Runs that turn a race round, with as few slots as may be.
 //!
-//! `witness` finds, for a run and its number of slots, another run in which a receive overtakes an event. Here are
-//! the runs that it begins with, the search for the least number of slots, and the schedule of what is found.
+//! `reordering::witness` finds, for a run and its number of slots, another run in which a receive overtakes an
+//! event. Here are the runs that it begins with, the search for the least number of slots, and the schedule of what
+//! is found.
 //!
 //! What is promised, unless an allocation is refused:
 //!
@@ -15,16 +16,16 @@
 //! - A schedule shows that run: it means just this, and leaves no note ([`show`]).
 
 mod going;
+mod overtaking;
 mod running;
 mod scheduling;
 mod showing;
 mod steps;
 mod tries;
-mod turning;
 
 pub use crate::recorded_run;
+pub use overtaking::{Reordered, overtake_of_chart, overtake_of_run, overtake_of_schedule};
 pub use running::{LeastRun, least_run, run_within};
 pub use scheduling::schedule_of;
 pub use showing::{Shown, show};
 pub use steps::{event_of, has_event, is_receive, step_of};
-pub use turning::{Turned, overtake_of_chart, overtake_of_run, overtake_of_schedule};

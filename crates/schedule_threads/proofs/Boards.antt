@@ -9,14 +9,14 @@ use Rattle.board.specs.Meeting.{AreOfOneBoard, AreNotAll}
 use Rattle.board.specs.Views.{BoardView, PostView}
 use Rattle.chart.specs.Charts.{LineView}
 use Rattle.chart.specs.Reports.{AreReports}
-use Rattle.instances.specs.Whole.{Drives, AreRuns, IsFit, IsUnfit}
+use Rattle.instances.specs.Whole.{Drives, AreRuns, IsFit, IsInvalidInput}
 use Rattle.instances.specs.declared.outcome.Run.{Run}
 use Rattle.std.specs.List.{range_with_len}
 use Rattle.std.proofs.lemmas.List.{length-map}
 use Rattle.std.proofs.lemmas.List.FromFn.{length-range_with_len}
 use Rattle.schedule.specs.Plans.{Plan, IsPlan}
 use Rattle.schedule_threads.specs.Scripts.InstanceScripts.{scripts_of, script_of}
-use Rattle.schedule_threads.specs.OwnBoards.{AreFitFor, AreUnfitFor}
+use Rattle.schedule_threads.specs.OwnBoards.{AreFitFor, AreInvalidFor}
 use Rattle.schedule_threads.specs.OwnScripts.{IsTurns}
 use Rattle.schedule_threads.specs.RunOutcomes.{IsRunOf}
 
@@ -55,14 +55,14 @@ all-new board (post ∷ posts) new some (number, low, high, none) =
     none place it at (ap (λ (post : PostView). post.number) (new.each place it at) ∙ numbered)
 
 -- what is unfit for a run of a board that is as large as the schedule, and what is fit for it
-pub unfit_for : (plan : Plan) (posts : List PostView) (board : BoardView) (behaviours turns : ℕ)
-    → AreNewPosts board posts → board.size ≡ length plan.names → IsPlan plan → IsUnfit posts behaviours turns
-    → AreUnfitFor plan behaviours turns
-unfit_for plan posts board behaviours turns new size keeps (inl lacking) =
+pub invalid_for : (plan : Plan) (posts : List PostView) (board : BoardView) (behaviours turns : ℕ)
+    → AreNewPosts board posts → board.size ≡ length plan.names → IsPlan plan → IsInvalidInput posts behaviours turns
+    → AreInvalidFor plan behaviours turns
+invalid_for plan posts board behaviours turns new size keeps (inl lacking) =
     absurd (all-new board posts new (omega (arith, size, keeps.several)) lacking)
-unfit_for plan posts board behaviours turns new size keeps (inr (inl other)) =
+invalid_for plan posts board behaviours turns new size keeps (inr (inl other)) =
     inl (λ same. other (same ∙ sym (new.as_many ∙ size)))
-unfit_for plan posts board behaviours turns new size keeps (inr (inr odd)) = inr odd
+invalid_for plan posts board behaviours turns new size keeps (inr (inr odd)) = inr odd
 
 pub fit_for : (plan : Plan) (posts : List PostView) (board : BoardView) (behaviours turns : ℕ)
     → AreNewPosts board posts → board.size ≡ length plan.names → IsFit posts behaviours turns → AreFitFor plan behaviours turns
@@ -71,7 +71,7 @@ fit_for plan posts board behaviours turns new size fit =
 
 -- what is fit for it is not unfit
 pub fit_alone : (plan : Plan) (behaviours turns : ℕ) → behaviours ≡ length plan.names → IsTurns turns
-    → AreUnfitFor plan behaviours turns → ⊥
+    → AreInvalidFor plan behaviours turns → ⊥
 fit_alone plan behaviours turns same some (inl other) = other same
 fit_alone plan behaviours turns same some (inr (inl none)) = omega (arith, some.0, none)
 fit_alone plan behaviours turns same some (inr (inr many)) = omega (arith, some.1, many)

@@ -23,5 +23,5 @@ pub record AreFitFor (plan : Plan) (behaviours turns : ℕ) : Type 0 where
   pub some : (1 ≤ turns) × (turns ≤ MAX_TURNS)
 
 -- one of this isn't so
-abbrev pub AreUnfitFor : Plan → ℕ → ℕ → Type 0
-AreUnfitFor plan behaviours turns = (behaviours ≢ length plan.names) ⊎ ((turns ≡ 0) ⊎ (MAX_TURNS < turns))
+abbrev pub AreInvalidFor : Plan → ℕ → ℕ → Type 0
+AreInvalidFor plan behaviours turns = (behaviours ≢ length plan.names) ⊎ ((turns ≡ 0) ⊎ (MAX_TURNS < turns))

@@ -31,15 +31,15 @@ fn run_own_scripts<R: Threads + Sync>(
     match run_schedule(rt, alloc, schedule, behaviours, turns) {
         Ok(run) => Ok(run),
         Err(RunError::Memory) => Err(AllocError),
-        Err(RunError::Unfit(..)) => unreachable!(),
+        Err(RunError::InvalidInput(..)) => unreachable!(),
     }
 }
 
-/// Lets each instance of a schedule do its own commands, in their order, on a board of its own, each in a thread, or one
-/// after the other where no thread can be made, for so many turns at most.
+/// Lets each instance of a schedule do its own commands, in their order, on a board of its own, each in a thread, or
+/// one after the other where no thread can be made, for so many turns at most.
 ///
-/// F25: the turns are none or more than [`instances::MAX_TURNS`]. Nothing was started then. F6: a growth was refused, of
-/// the scripts, of the board or of its run.
+/// F25: the turns are none or more than [`instances::MAX_TURNS`]. Nothing was started then. F6: a growth was refused,
+/// of the scripts, of the board or of its run.
 pub fn run_scripts<R: Threads + Sync>(
     rt: &R,
     alloc: Global,
@@ -52,7 +52,7 @@ pub fn run_scripts<R: Threads + Sync>(
     ensures err { IfErr result (IsUnrun tt tt (IsTurns turns) (IsNoTurns turns)) }
 {
     if turns == 0 || MAX_TURNS < turns {
-        return Err(RunError::Unfit((), ()));
+        return Err(RunError::InvalidInput((), ()));
     }
     match run_own_scripts(rt, alloc, schedule, turns) {
         Ok(run) => Ok(run),

@@ -3,7 +3,7 @@ ghost use Rattle.std.specs.Prelude.{◌≡◌, IfOk, IfErr, length, false};
 ghost use Rattle.board.specs.Boards.{IsNewBoard, AreNewPosts};
 ghost use Rattle.instances.specs.Driving.{meaning};
 ghost use Rattle.instances.specs.Whole.{DrivenBy, IsUnrun};
-ghost use Rattle.schedule_threads.specs.OwnBoards.{AreRunsOf, AreFitFor, AreUnfitFor};
+ghost use Rattle.schedule_threads.specs.OwnBoards.{AreRunsOf, AreFitFor, AreInvalidFor};
 ghost use Rattle.schedule_threads.specs.RunOutcomes.{IsRunOf};
 
 use behaviour::Behaviour;
@@ -13,8 +13,8 @@ use schedule::Schedule;
 use std::alloc::{AllocError, Global};
 use std::thread::Threads;
 
-/// A board for the schedule's instances, with lanes of its capacity: no schedule has a count of instances, or a capacity,
-/// that a board refuses.
+/// A board for the schedule's instances, with lanes of its capacity: no schedule has a count of instances, or a
+/// capacity, that a board refuses.
 fn board_for(alloc: Global, schedule: &Schedule) -> Result<Board, AllocError>
     ensures { IfOk result (IsNewBoard (length schedule.now.names) schedule.now.capacity) }
 {
@@ -58,10 +58,10 @@ pub fn run_schedule<R: Threads + Sync>(
     ensures fit { IfOk result (λ run. AreFitFor schedule.now (length behaviours.items) turns) }
     ensures err { IfErr result
         (IsUnrun tt behaviours (AreFitFor schedule.now (length behaviours.items) turns)
-        (AreUnfitFor schedule.now (length behaviours.items) turns)) }
+        (AreInvalidFor schedule.now (length behaviours.items) turns)) }
 {
     if behaviours.len() != schedule.names().len() || turns == 0 || MAX_TURNS < turns {
-        return Err(RunError::Unfit((), behaviours));
+        return Err(RunError::InvalidInput((), behaviours));
     }
     let Ok(mut board) = board_for(alloc, schedule) else {
         return Err(RunError::Memory);
@@ -71,7 +71,7 @@ pub fn run_schedule<R: Threads + Sync>(
     };
     match run(rt, posts, behaviours, turns, &Open) {
         Ok(run) => Ok(run),
-        Err(RunError::Unfit(..)) => unreachable!(),
+        Err(RunError::InvalidInput(..)) => unreachable!(),
         Err(RunError::Memory) => Err(RunError::Memory),
     }
 }

@@ -6,7 +6,7 @@ ghost use Rattle.board.specs.Meeting.{AreOfOneBoard};
 use crate::calls::{are, every_growth_was_refused, holds, instance, is_got, is_left, message};
 use crate::gathered::{gathers, sends};
 use crate::tables::{Missed, why_nothing};
-use board::{BoardError, Gathered, Parked, Post, Words, open_parked, park_all, wake_all};
+use board::{BoardError, Gathered, Parked, Post, SharedTable, open_parked, park_all, wake_all};
 use std::alloc::Global;
 use std::process::Abort;
 use std::test::Fail;
@@ -30,7 +30,12 @@ fn sends_last(rt: &impl Abort, alloc: Global, posts: &mut [Post])
 }
 
 /// These parked posts, woken, once more where memory was refused.
-fn woken<'a>(rt: &impl Abort, alloc: Global, words: &'a Words, parked: Vec<Parked>) -> Vec<Post<'a>>
+fn woken<'a>(
+    rt: &impl Abort,
+    alloc: Global,
+    words: &'a SharedTable,
+    parked: Vec<Parked>,
+) -> Vec<Post<'a>>
     requires { AreAtBoard words.now.key words.now.table_id parked.items }
     ensures { result.items ≡ parked.items }
 {
@@ -92,7 +97,7 @@ fn parked_and_woken(rt: HostRuntime) -> Result<(), Fail> {
 
 /// A parked post sends a message to the second one, and closes the lane.
 #[tactic(auto, using(board::proofs::AtBoard::stays_at))]
-fn sends_parked(rt: &impl Abort, alloc: Global, words: &Words, post: &mut Parked)
+fn sends_parked(rt: &impl Abort, alloc: Global, words: &SharedTable, post: &mut Parked)
     requires { IsAtBoard words.now.key words.now.table_id post.old }
     ensures { IsAtBoard words.now.key words.now.table_id post.new }
 {
@@ -105,7 +110,7 @@ fn sends_parked(rt: &impl Abort, alloc: Global, words: &Words, post: &mut Parked
 
 /// A parked post receives this message from the first one, and then the lane's end.
 #[tactic(auto, using(board::proofs::AtBoard::stays_at))]
-fn gets_parked(rt: &impl Abort, words: &Words, post: &mut Parked)
+fn gets_parked(rt: &impl Abort, words: &SharedTable, post: &mut Parked)
     requires { IsAtBoard words.now.key words.now.table_id post.old }
 {
     let taken = post.receive(words, instance(rt, 1));
@@ -120,7 +125,7 @@ fn gets_parked(rt: &impl Abort, words: &Words, post: &mut Parked)
 }
 
 /// One parked post sends, and the other one receives.
-fn exchange(rt: &impl Abort, alloc: Global, words: &Words, parked: &mut [Parked])
+fn exchange(rt: &impl Abort, alloc: Global, words: &SharedTable, parked: &mut [Parked])
     requires { AreAtBoard words.now.key words.now.table_id parked.old }
 {
     assert!(rt; parked.len() == 2);

@@ -15,8 +15,8 @@ type Races = (u32, &'static [u32]);
 
 static RIGHT: [Races; 3] = [(1, &[]), (2, &[1]), (3, &[2])];
 
-/// Reports that are not those of the turns, and the first receive whose report is wrong: a race is left out, a report is
-/// missing at either end, and there is one too many.
+/// Reports that are not those of the turns, and the first receive whose report is wrong: a race is left out, a report
+/// is missing at either end, and there is one too many.
 static WRONG: [(&[Races], u32); 4] = [
     (&[(1, &[]), (2, &[1]), (3, &[])], 3),
     (&[(1, &[]), (2, &[1])], 3),
@@ -37,9 +37,9 @@ fn report(rt: &impl Abort, alloc: Global, receive: u32, earlier: &[u32]) -> Repo
     Report::of(alloc, b(rt, receive), events.as_slice()).expect(rt, "a report")
 }
 
-fn reports_of(rt: &impl Abort, alloc: Global, told: &[Races]) -> Vec<Report> {
+fn reports_of(rt: &impl Abort, alloc: Global, expected: &[Races]) -> Vec<Report> {
     let mut reports = Vec::new(alloc);
-    for (receive, earlier) in told {
+    for (receive, earlier) in expected {
         put(rt, &mut reports, report(rt, alloc, *receive, earlier));
     }
     reports
@@ -50,10 +50,10 @@ fn answers(
     rt: &impl Abort,
     alloc: Global,
     chart: &Chart,
-    told: &[Races],
+    expected: &[Races],
     answer: Result<(), AuditError>,
 ) {
-    let reports = reports_of(rt, alloc, told);
+    let reports = reports_of(rt, alloc, expected);
     assert_eq!(rt; audit(alloc, chart, reports.as_slice()), answer);
 }
 
@@ -61,9 +61,9 @@ fn answers(
 fn wrong_reports(rt: HostRuntime) {
     let alloc = rt.alloc();
     let (_, chart) = read(alloc, TURNS).expect(&rt, "a chart");
-    for (told, receive) in &WRONG {
+    for (expected, receive) in &WRONG {
         let wrong = AuditError::WrongReport(b(&rt, *receive));
-        answers(&rt, alloc, &chart, told, Err(wrong));
+        answers(&rt, alloc, &chart, expected, Err(wrong));
     }
     answers(&rt, alloc, &chart, &RIGHT, Ok(()));
 }

@@ -2,7 +2,7 @@
 
 use crate::calls::{holds, put};
 use crate::recorded::{event_no, found, steps_of};
-use crate::runs::{Moved, Told, as_other_run, events_of, is_witness, overtakes};
+use crate::runs::{LaneEvent, Moved, as_other_run, events_of, is_witness, overtakes};
 use chart::run_steps::Step;
 use chart::{Chart, EventNo, MAX_CAPACITY, Report};
 use closure::Closure;
@@ -28,7 +28,12 @@ fn orders(many: usize) -> usize {
 
 /// Puts one of the events that are left behind the run, the one that an order's number says. What is left of the number
 /// is answered.
-fn take_one(rt: &impl Abort, left: &mut Vec<Told>, run: &mut Vec<Told>, order: usize) -> usize {
+fn take_one(
+    rt: &impl Abort,
+    left: &mut Vec<LaneEvent>,
+    run: &mut Vec<LaneEvent>,
+    order: usize,
+) -> usize {
     let many = left.len();
     if many == 0 {
         return order;
@@ -38,7 +43,7 @@ fn take_one(rt: &impl Abort, left: &mut Vec<Told>, run: &mut Vec<Told>, order: u
 }
 
 /// The events in the order of this number.
-fn ordered(rt: &impl Abort, alloc: Global, events: &[Told], order: usize) -> Vec<Told> {
+fn ordered(rt: &impl Abort, alloc: Global, events: &[LaneEvent], order: usize) -> Vec<LaneEvent> {
     let mut left = Vec::new(alloc);
     left.extend_from_slice(events).expect(rt, "memory");
     let mut run = Vec::new(alloc);
@@ -50,7 +55,12 @@ fn ordered(rt: &impl Abort, alloc: Global, events: &[Told], order: usize) -> Vec
 }
 
 /// All runs with the same events and causes within so many slots.
-fn other_runs(rt: &impl Abort, alloc: Global, events: &[Told], slots: usize) -> Vec<Vec<Moved>> {
+fn other_runs(
+    rt: &impl Abort,
+    alloc: Global,
+    events: &[LaneEvent],
+    slots: usize,
+) -> Vec<Vec<Moved>> {
     let mut runs = Vec::new(alloc);
     for order in 0..orders(events.len()) {
         let run = ordered(rt, alloc, events, order);

@@ -19,8 +19,8 @@ const B: usize = 2;
 
 const C: usize = 3;
 
-/// What is done in a schedule, and what has to come of it. A clock is told by its place: messages are counted from 0 on as
-/// they are sent.
+/// What is done in a schedule, and what has to come of it. A clock is told by its place: messages are counted from 0 on
+/// as they are sent.
 #[derive(Clone, Copy)]
 enum Step {
     /// A send of one instance to another: the letter of its name, and the entries of its clock.

@@ -8,24 +8,24 @@ use std::process::Abort;
 
 /// An event, told by its lane and its turn there, from 1.
 #[derive(Clone, Copy, PartialEq, Eq)]
-pub struct Told {
+pub struct LaneEvent {
     from: InstanceNo,
     to: InstanceNo,
     receives: bool,
     turn: usize,
 }
 
-impl Told {
+impl LaneEvent {
     /// The step as the first of its lane.
-    fn first(step: &Step) -> Told {
+    fn first(step: &Step) -> LaneEvent {
         match step {
-            Step::Send { from, to, .. } => Told {
+            Step::Send { from, to, .. } => LaneEvent {
                 from: *from,
                 to: *to,
                 receives: false,
                 turn: 1,
             },
-            Step::Receive { at, from, .. } => Told {
+            Step::Receive { at, from, .. } => LaneEvent {
                 from: *from,
                 to: *at,
                 receives: true,
@@ -38,12 +38,12 @@ impl Told {
         if self.receives { self.to } else { self.from }
     }
 
-    fn has_lane_of(&self, other: &Told) -> bool {
+    fn has_lane_of(&self, other: &LaneEvent) -> bool {
         self.from == other.from && self.to == other.to
     }
 
     /// Whether a recorded run has this event directly before a later one by more than luck.
-    fn causes(&self, later: &Told) -> bool {
+    fn causes(&self, later: &LaneEvent) -> bool {
         if later.receives {
             self.has_lane_of(later) && (self.receives || self.turn == later.turn)
         } else {
@@ -53,10 +53,10 @@ impl Told {
 }
 
 /// The events of these steps.
-pub fn events_of(rt: &impl Abort, alloc: Global, steps: &[Step]) -> Vec<Told> {
+pub fn events_of(rt: &impl Abort, alloc: Global, steps: &[Step]) -> Vec<LaneEvent> {
     let mut events = Vec::new(alloc);
     for step in steps {
-        let mut event = Told::first(step);
+        let mut event = LaneEvent::first(step);
         event.turn = count(events.as_slice(), &event, event.receives).saturating_add(1);
         put(rt, &mut events, event);
     }
@@ -64,7 +64,7 @@ pub fn events_of(rt: &impl Abort, alloc: Global, steps: &[Step]) -> Vec<Told> {
 }
 
 /// How many events there are of the lane of this one, receives or sends.
-fn count(events: &[Told], event: &Told, receives: bool) -> usize {
+fn count(events: &[LaneEvent], event: &LaneEvent, receives: bool) -> usize {
     let mut many = 0usize;
     for other in events {
         if other.has_lane_of(event) && other.receives == receives {
@@ -77,7 +77,7 @@ fn count(events: &[Told], event: &Told, receives: bool) -> usize {
 /// An event of a recorded run, and where it stands in another one.
 #[derive(Clone, Copy)]
 pub struct Moved {
-    event: Told,
+    event: LaneEvent,
     place: usize,
 }
 
@@ -85,8 +85,8 @@ pub struct Moved {
 fn events_in(
     rt: &impl Abort,
     alloc: Global,
-    recorded: &[Told],
-    run: &[Told],
+    recorded: &[LaneEvent],
+    run: &[LaneEvent],
 ) -> Option<Vec<Moved>> {
     let mut all = Vec::new(alloc);
     for event in recorded {
@@ -97,7 +97,7 @@ fn events_in(
     Some(all)
 }
 
-fn place_of(run: &[Told], event: &Told) -> Option<usize> {
+fn place_of(run: &[LaneEvent], event: &LaneEvent) -> Option<usize> {
     for place in 0..run.len() {
         if run[place] == *event {
             return Some(place);
@@ -120,7 +120,7 @@ fn keep_causes(all: &[Moved]) -> bool {
 }
 
 /// Whether each message is received after it was sent, and no more wait on a lane than there are slots.
-fn is_within(run: &[Told], slots: usize) -> bool {
+fn is_within(run: &[LaneEvent], slots: usize) -> bool {
     for place in 0..run.len() {
         let event = &run[place];
         let others = count(&run[..place], event, !event.receives);
@@ -138,8 +138,8 @@ fn is_within(run: &[Told], slots: usize) -> bool {
 pub fn as_other_run(
     rt: &impl Abort,
     alloc: Global,
-    recorded: &[Told],
-    run: &[Told],
+    recorded: &[LaneEvent],
+    run: &[LaneEvent],
     slots: usize,
 ) -> Option<Vec<Moved>> {
     if run.len() != recorded.len() || !is_within(run, slots) {

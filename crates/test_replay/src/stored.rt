@@ -1,10 +1,10 @@
 //! What the plain model in Python says that schedules come to. `tools/model/stored_replays.py` prints this file.
 
 /// A schedule, and what it comes to: its chart, its races and its notes.
-pub type Told = (&'static [u8], &'static [u8]);
+pub type StoredReplay = (&'static [u8], &'static [u8]);
 
 /// Schedules of `cases/`, and one more.
-pub static WORKED: [Told; 24] = [
+pub static WORKED: [StoredReplay; 24] = [
     (
         b"instances a b\ncapacity 1\na send b ping\nb receive a\n",
         b"msc run;\ninstance a;\nout ping to b;\nendinstance;\ninstance b;\nin ping from a;\nendinstance;\nendmsc;\n",

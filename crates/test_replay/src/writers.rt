@@ -65,7 +65,7 @@ fn interrupted_writes_are_tried_again(rt: HostRuntime) {
 }
 
 #[test]
-fn tells_a_fault(rt: HostRuntime) {
+fn prints_a_fault(rt: HostRuntime) {
     let fault = Fault::Line(3, Cause::ToItself);
     let text = format!(in rt.alloc(); "{fault}").expect(&rt, "a text");
     let words = b"line 3: an instance sends to itself";

@@ -1,6 +1,4 @@
 //! Tests of behaviours that drive instances, by what is public of them.
-//!
-//! They are in a crate of their own, since a crate with tests is proved twice.
 
 #[cfg(test)]
 mod before_acts;

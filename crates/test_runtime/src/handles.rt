@@ -1,7 +1,5 @@
 //! Tests of posts in the memory of another language, by what is public: messages both ways, calls on what keeps no
 //! post, and each growth refused.
-//!
-//! They are in a crate of their own, since a crate with tests is proved twice.
 
 #[cfg(test)]
 mod calls;

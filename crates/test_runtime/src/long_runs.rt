@@ -1,7 +1,5 @@
 //! Tests of boards that carry on where others ended, by what is public: three worked ones, and a hundred
 //! wild boards one after another.
-//!
-//! They are in a crate of their own, since a crate with tests is proved twice.
 
 #[cfg(test)]
 mod boards;

@@ -1,7 +1,7 @@
 //! The bytes of other tools' texts: their kinds, words in any letters, and where they stand.
 //!
-//! What is promised: each function of bytes answers what its definition says (`specs/Classes`, `specs/Words`,
-//! `specs/Lines`, `specs/Places`), for any bytes. Nothing here takes memory.
+//! What is promised: each function of bytes answers what its definition says (`specs/Bytes/Classes`,
+//! `specs/Bytes/Words`, `specs/Bytes/Lines`, `specs/Bytes/Places`), for any bytes. Nothing here takes memory.
 
 mod classes;
 mod lines;

@@ -120,7 +120,7 @@ all_there (y ∷ posts) x at all number low high = all number low (subst (λ (z 
 -- what they are then.
 module _ (old now met new : List PostView) (x : PostView) (left : List LeftView) (closed : List LaneEnds) (sends : List ℕ)
     (at : slice_get old 0 ≡ Some x) (one : AreOfOneBoard old) (all : AreAll old) (may : MayAllCarry left closed old)
-    (told : sends ≡ map (λ p. sent_again_by p left) (range_with_len 1 x.board.size)) (reserved : HaveReserved sends old now) where
+    (counted : sends ≡ map (λ p. sent_again_by p left) (range_with_len 1 x.board.size)) (reserved : HaveReserved sends old now) where
   abbrev n : ℕ
   n = x.board.size
 
@@ -171,7 +171,7 @@ module _ (old now met new : List PostView) (x : PostView) (left : List LeftView)
   place_room i z at_z =
       let o = origin i z at_z in
       let number : z.number ≡ o.from.number = ap (λ (post : PostView). post.number) o.its.rest in
-      let many : o.its.many ≡ sent_again_by (1 + o.its.place) left = at_number (λ p. sent_again_by p left) 1 n o.its.place o.its.many (ap (λ xs. slice_get xs o.its.place) (sym told) ∙ o.its.at) in
+      let many : o.its.many ≡ sent_again_by (1 + o.its.place) left = at_number (λ p. sent_again_by p left) 1 n o.its.place o.its.many (ap (λ xs. slice_get xs o.its.place) (sym counted) ∙ o.its.at) in
       let place : 1 + o.its.place ≡ z.number = omega (arith, number, o.its.number) in
       let line = were_line n k left closed were z.number in
       omega (arith, line, many, ap (λ p. sent_again_by p left) place, o.its.room)
@@ -242,7 +242,7 @@ module _ (old now met new : List PostView) (x : PostView) (left : List LeftView)
           let its = reserved.each i y z at_y at_z in
           let carried = on.each i z w at_z at_w in
           let number : z.number ≡ y.number = ap (λ (post : PostView). post.number) its.rest in
-          let many : its.many ≡ sent_again_by (1 + its.place) left = at_number (λ p. sent_again_by p left) 1 n its.place its.many (ap (λ xs. slice_get xs its.place) (sym told) ∙ its.at) in
+          let many : its.many ≡ sent_again_by (1 + its.place) left = at_number (λ p. sent_again_by p left) 1 n its.place its.many (ap (λ xs. slice_get xs its.place) (sym counted) ∙ its.at) in
           let place : 1 + its.place ≡ w.number = omega (arith, number, its.number, carried.same.number) in
           let line = were_line n k left closed were w.number in
           record {

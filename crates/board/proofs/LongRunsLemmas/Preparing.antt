@@ -35,7 +35,7 @@ pub none_reserved : (sends : List ℕ) (posts : List PostView) → AreReserved s
 none_reserved sends posts = record { as_many = refl; each = λ i x y lt at_x at_y. absurd (omega (arith, lt)); others = λ i le. refl }
 
 pub reserved_next : (sends : List ℕ) (old now : List PostView) (i : ℕ) (r y : PostView) (place many : ℕ) → AreReserved sends i old now → slice_get now i ≡ Some r → r.number ≡ suc place → slice_get sends place ≡ Some many → y ≡ record r { room = max r.room many } → AreReserved sends (i + 1) old (set now i y)
-reserved_next sends old now i r y place many so at number told is = record {
+reserved_next sends old now i r y place many so at number counted is = record {
   as_many = length-set now i y ∙ so.as_many;
   each = λ j a b lt at_a at_b. each j a b lt at_a (at_set now i j y b at_b);
   others = λ j le. set_apart now i j y (λ same. absurd (omega (arith, same, le))) ∙ so.others j (omega (arith, le));
@@ -49,7 +49,7 @@ reserved_next sends old now i r y place many so at number told is = record {
       place = place;
       many = many;
       number = number;
-      at = told;
+      at = counted;
       rest = subst (λ (z : PostView). z ≡ record r { room = z.room }) (sym is) refl;
       room = ap (λ (z : PostView). z.room) is;
     }

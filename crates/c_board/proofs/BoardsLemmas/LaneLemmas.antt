@@ -2,7 +2,7 @@
 use Rattle.std.proofs.Common.{◌≡◌, ℕ, ◌+◌, ◌≤◌, List, [], length, drop, ap, ◌∙◌}
 use Rattle.std.specs.Prelude.{slice_get, Bool, true, false, Some, if◌then◌else◌}
 use Rattle.board.specs.declared.gathering.Left.{Left}
-use Rattle.c_board.specs.Boards.BoardTelling.{messages_on, is_on}
+use Rattle.c_board.specs.Boards.BoardCopies.{messages_on, is_on}
 use Rattle.c_board.proofs.ChairLemmas.{drop_at, drop_all}
 
 pub lane_found : (left : List Left) (n q p : ℕ) (lane : Left) → slice_get left n ≡ Some lane → is_on lane q p ≡ true → messages_on left q p ≡ messages_on (drop n left) q p → messages_on left q p ≡ lane.messages.items

@@ -17,7 +17,7 @@ pub record IsWritten (chart : List LineView) (names : List (List ℕ)) (room : L
   pub each : length names ≡ length chart
   pub distinct : AreNames names
   pub are_names : (i : ℕ) (name : List ℕ) → slice_get names i ≡ Some name → IsName name
-  pub told : many ≡ length (chart_text names chart)
+  pub output : many ≡ length (chart_text names chart)
   pub copied : out ≡ put_over (chart_text names chart) room
 
 -- the text by these names; a refusal is one of the names, and comes of as many names as instances
@@ -33,7 +33,7 @@ WritesText chart names room (Err _) out = ⊥
 
 abbrev pub KeptWritesText : Kept → List (List ℕ) → List ℕ → Result ℕ Refusal → List ℕ → Type 0
 KeptWritesText (Board it) names room result out = WritesText it.chart names room result out
-KeptWritesText (Post seat) names room result out = (result ≡ Err why.Misuse) × (out ≡ room)
+KeptWritesText (Post state) names room result out = (result ≡ Err why.Misuse) × (out ≡ room)
 KeptWritesText Away names room result out = (result ≡ Err why.Misuse) × (out ≡ room)
 
 abbrev pub HandleWritesText : Option Kept → List (List ℕ) → List ℕ → Result ℕ Refusal → List ℕ → Type 0

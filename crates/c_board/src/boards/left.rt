@@ -2,8 +2,8 @@
 ghost use Rattle.std.specs.Prelude.{◌≡◌, IfSome, IfNone, slice_get, Some, [], ℕ};
 ghost use Rattle.board.specs.declared.gathering.Left.{Left};
 ghost use Rattle.c_board.specs.Copying.{put_over};
-ghost use Rattle.c_board.specs.Boards.BoardTelling.{messages_on, is_on, waiting_of, TellsWaiting, KeptWaits};
-ghost use Rattle.c_board.specs.Boards.BoardTelling.{HandleWaits, message_at};
+ghost use Rattle.c_board.specs.Boards.BoardCopies.{messages_on, is_on, waiting_of, CopiesWaiting, KeptWaits};
+ghost use Rattle.c_board.specs.Boards.BoardCopies.{HandleWaits, message_at};
 
 use crate::{Handle, Kept, Refusal, copy_out};
 use board::Left;
@@ -53,8 +53,8 @@ fn place_of_lane(left: &[Left], from: u32, to: u32) -> Option<usize>
 }
 
 /// What is told of a message; its name and its body are copied out, as much as there is room for.
-fn tell_message(message: &Message, name: &mut [u8], body: &mut [u8]) -> Waiting
-    ensures told { result ≡ waiting_of message.now }
+fn copy_message(message: &Message, name: &mut [u8], body: &mut [u8]) -> Waiting
+    ensures output { result ≡ waiting_of message.now }
     ensures names { name.new ≡ put_over message.now.name name.old }
     ensures bodies { body.new ≡ put_over message.now.body body.old }
 {
@@ -66,8 +66,8 @@ fn tell_message(message: &Message, name: &mut [u8], body: &mut [u8]) -> Waiting
 }
 
 /// Tells of the message at the place, if one waits there.
-fn tell_nth(left: &[Left], place: &Place, name: &mut [u8], body: &mut [u8]) -> Option<Waiting>
-    ensures { TellsWaiting (message_at left.now place.now) (record { name = name.old; body = body.old }) result
+fn copy_nth(left: &[Left], place: &Place, name: &mut [u8], body: &mut [u8]) -> Option<Waiting>
+    ensures { CopiesWaiting (message_at left.now place.now) (record { name = name.old; body = body.old }) result
         (record { name = name.new; body = body.new }) }
 {
     let Some(lane) = place_of_lane(left, place.from, place.to) else {
@@ -78,11 +78,11 @@ fn tell_nth(left: &[Left], place: &Place, name: &mut [u8], body: &mut [u8]) -> O
     if number == 0 || number > messages.len() {
         return None;
     }
-    Some(tell_message(&messages[number - 1], name, body))
+    Some(copy_message(&messages[number - 1], name, body))
 }
 
 /// The same where a board is kept.
-fn tell_kept(
+fn copy_kept(
     kept: &Kept,
     place: &Place,
     name: &mut [u8],
@@ -92,14 +92,14 @@ fn tell_kept(
         (record { name = name.new; body = body.new }) }
 {
     match kept {
-        Kept::Board(it) => Ok(tell_nth(it.left.as_slice(), place, name, body)),
+        Kept::Board(it) => Ok(copy_nth(it.left.as_slice(), place, name, body)),
         _ => Err(Refusal::Misuse),
     }
 }
 
-/// Tells of the message at the place, if one waits there. Its name and its body are copied out, as much as there is room
-/// for.
-pub fn tell_waiting(
+/// Tells of the message at the place, if one waits there. Its name and its body are copied out, as much as there is
+/// room for.
+pub fn waiting_at(
     alloc: Global,
     board: &mut Handle,
     place: &Place,
@@ -113,7 +113,7 @@ pub fn tell_waiting(
     let Some(kept) = board.take(alloc) else {
         return Err(Refusal::Misuse);
     };
-    let result = tell_kept(&*kept, place, name, body);
+    let result = copy_kept(&*kept, place, name, body);
     board.put(kept);
     result
 }

@@ -2,7 +2,7 @@
 ghost use Rattle.std.specs.Prelude.{◌≡◌};
 ghost use Rattle.chart.specs.Events.{ith};
 ghost use Rattle.c_board.specs.Copying.{put_over, indices};
-ghost use Rattle.c_board.specs.Boards.BoardTelling.{reported_of, TellsReport, KeptReports, HandleReports};
+ghost use Rattle.c_board.specs.Boards.BoardCopies.{reported_of, CopiesReport, KeptReports, HandleReports};
 
 use crate::{Handle, Kept, Refusal, copy_events};
 use chart::Report;
@@ -21,7 +21,7 @@ pub struct Reported {
 
 /// What is told of a report; the numbers of its earlier events are copied out, as many as there is room for.
 fn copy_report(report: &Report, out: &mut [u32]) -> Reported
-    ensures told { result ≡ reported_of report.now }
+    ensures output { result ≡ reported_of report.now }
     ensures copied { out.new ≡ put_over (indices report.now.earlier) out.old }
 {
     let receive = report.receive();
@@ -33,8 +33,8 @@ fn copy_report(report: &Report, out: &mut [u32]) -> Reported
 }
 
 /// Tells of the report of this number, from 1.
-fn tell_nth(reports: &[Report], number: usize, out: &mut [u32]) -> Result<Reported, Refusal>
-    ensures { TellsReport (ith reports.now number) out.old result out.new }
+fn copy_nth(reports: &[Report], number: usize, out: &mut [u32]) -> Result<Reported, Refusal>
+    ensures { CopiesReport (ith reports.now number) out.old result out.new }
 {
     if number == 0 || number > reports.len() {
         return Err(Refusal::NoEvent);
@@ -43,11 +43,11 @@ fn tell_nth(reports: &[Report], number: usize, out: &mut [u32]) -> Result<Report
 }
 
 /// Tells of the report of this number, from 1, where a board is kept.
-fn tell_kept(kept: &Kept, number: usize, out: &mut [u32]) -> Result<Reported, Refusal>
+fn copy_kept(kept: &Kept, number: usize, out: &mut [u32]) -> Result<Reported, Refusal>
     ensures { KeptReports kept.now number out.old result out.new }
 {
     match kept {
-        Kept::Board(it) => tell_nth(it.reports.as_slice(), number, out),
+        Kept::Board(it) => copy_nth(it.reports.as_slice(), number, out),
         _ => Err(Refusal::Misuse),
     }
 }
@@ -55,7 +55,7 @@ fn tell_kept(kept: &Kept, number: usize, out: &mut [u32]) -> Result<Reported, Re
 /// Tells of the report of this number, from 1, of the board, whose receives have one each, by instance and index; and
 /// copies its races out, the numbers of the earlier events, as many as there is room for. F31: the board has fewer
 /// receives.
-pub fn tell_report(
+pub fn report_at(
     alloc: Global,
     board: &mut Handle,
     number: usize,
@@ -67,7 +67,7 @@ pub fn tell_report(
     let Some(kept) = board.take(alloc) else {
         return Err(Refusal::Misuse);
     };
-    let result = tell_kept(&*kept, number, out);
+    let result = copy_kept(&*kept, number, out);
     board.put(kept);
     result
 }

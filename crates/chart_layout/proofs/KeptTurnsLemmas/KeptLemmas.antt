@@ -12,10 +12,10 @@ use Rattle.chart.proofs.Belongs.{IsEvent-from_passes}
 use Rattle.closure.specs.Faults.{place_of}
 use Rattle.chart_layout.specs.declared.row.Row.{Row}
 use Rattle.chart_layout.specs.declared.row.Row.TheVariants.{Message, Event}
-use Rattle.chart_layout.specs.Layouts.{number_on, row_on, drawn, AreInOrder}
+use Rattle.chart_layout.specs.Layouts.{number_on, row_on, laid_out, AreInOrder}
 use Rattle.chart_layout.specs.Picking.{IsPicked, IsTurn, Comes, actors_of, actors, IsLayout}
 use Rattle.chart_layout.specs.Ways.{IsNextEvent, IsNextAlone}
-use Rattle.chart_layout.proofs.BegunLemmas.{row_of_drawn}
+use Rattle.chart_layout.proofs.BegunLemmas.{row_of_laid_out}
 use Rattle.chart_layout.specs.KeptTurns.Runs.{times, IsRun}
 
 -- Turns, counted.
@@ -44,14 +44,14 @@ times-row p (Message s r) =
     ∙ (let first = times-event p s in let second = times-event p r in let both = length-append (number_on p s) (number_on p r) in omega arith)
 
 -- as many turns as events that are drawn
-times-rows : (p : ℕ) (rows : List Row) → times p (actors rows) ≡ length (drawn rows p)
+times-rows : (p : ℕ) (rows : List Row) → times p (actors rows) ≡ length (laid_out rows p)
 unfolding times
 times-rows p [] = refl
 times-rows p (row ∷ rows) =
     let first = times-row p row in
     let rest = times-rows p rows in
     let both = times-append p (actors_of row) (actors rows) in
-    let all = length-append (row_on p row) (drawn rows p) in
+    let all = length-append (row_on p row) (laid_out rows p) in
     omega arith
 
 -- Rows that are the first ones of a drawing.
@@ -67,9 +67,9 @@ front_range a (suc n) (x ∷ xs) ys is =
     head_or d [] = d
     head_or d (y ∷ l) = y
 
-drawn-append : (above rest : List Row) (p : ℕ) → drawn (above ++ rest) p ≡ drawn above p ++ drawn rest p
-drawn-append [] rest p = refl
-drawn-append (row ∷ above) rest p = ap (λ l. row_on p row ++ l) (drawn-append above rest p) ∙ sym (append_assoc (row_on p row) (drawn above p) (drawn rest p))
+laid_out-append : (above rest : List Row) (p : ℕ) → laid_out (above ++ rest) p ≡ laid_out above p ++ laid_out rest p
+laid_out-append [] rest p = refl
+laid_out-append (row ∷ above) rest p = ap (λ l. row_on p row ++ l) (laid_out-append above rest p) ∙ sym (append_assoc (row_on p row) (laid_out above p) (laid_out rest p))
 
 slice_get_seam : {A : Type 0} (xs : List A) (x : A) (ys : List A) → slice_get (xs ++ x ∷ ys) (length xs) ≡ Some x
 slice_get_seam [] x ys = refl
@@ -90,30 +90,30 @@ module _ (lines : List LineView) (turns : List ℕ) (run : IsRun (chart_lines li
   c = chart_lines lines
 
   -- where all turns were had, each event is drawn
-  all_drawn : (rows : List Row) → actors rows ++ [] ≡ turns → (p : ℕ) → length (drawn rows p) ≡ length (c p)
-  all_drawn rows had p = sym (times-rows p rows) ∙ ap (times p) (sym (append-nil (actors rows)) ∙ had) ∙ run.all p
+  all_laid_out : (rows : List Row) → actors rows ++ [] ≡ turns → (p : ℕ) → length (laid_out rows p) ≡ length (c p)
+  all_laid_out rows had p = sym (times-rows p rows) ∙ ap (times p) (sym (append-nil (actors rows)) ∙ had) ∙ run.all p
 
   -- where one is left, its event may come next
-  alone : (above : List Row) (p : ℕ) (left : List ℕ) → AreInOrder above → actors above ++ p ∷ left ≡ turns → IsNextAlone c above (at p (length (drawn above p) + 1))
+  alone : (above : List Row) (p : ℕ) (left : List ℕ) → AreInOrder above → actors above ++ p ∷ left ≡ turns → IsNextAlone c above (at p (length (laid_out above p) + 1))
   alone above p left order had = record {
     next = record { event = (omega arith, short); next = refl };
     after = λ s belongs.
         let event = IsEvent-from_passes c (is_send_to p) s belongs.sent in
         let sent = run.after (length (actors above)) p s here (subst (λ k. BelongsTo c s (at p (k + 1))) (sym (so_far p)) belongs) in
-        let row = row_of_drawn above order s event.0 (omega (arith, sent, so_far s.instance)) in
+        let row = row_of_laid_out above order s event.0 (omega (arith, sent, so_far s.instance)) in
         (row.0, row.1);
   }
     where
       first : take (length (actors above)) turns ≡ actors above
       first = ap (take (length (actors above))) (sym had) ∙ take-append_seam (actors above) (p ∷ left)
 
-      so_far : (q : ℕ) → times q (take (length (actors above)) turns) ≡ length (drawn above q)
+      so_far : (q : ℕ) → times q (take (length (actors above)) turns) ≡ length (laid_out above q)
       so_far q = ap (times q) first ∙ times-rows q above
 
       here : slice_get turns (length (actors above)) ≡ Some p
       here = ap (λ l. slice_get l (length (actors above))) (sym had) ∙ slice_get_seam (actors above) p left
 
-      short : length (drawn above p) + 1 ≤ length (c p)
+      short : length (laid_out above p) + 1 ≤ length (c p)
       short =
           let all = ap (times p) had ∙ run.all p in
           let both = times-append p (actors above) (p ∷ left) in
@@ -126,9 +126,9 @@ module _ (lines : List LineView) (turns : List ℕ) (run : IsRun (chart_lines li
       → ((x : Row) → IsTurn c above left x → ⊥) → IsPicked c (length lines) above row → ⊥
   picked_not above row [] order had none picked =
       let next = picked_next c (length lines) above row picked in
-      omega (arith, next.1.next, next.1.event.1, all_drawn above had next.0.instance)
+      omega (arith, next.1.next, next.1.event.1, all_laid_out above had next.0.instance)
   picked_not above row (p ∷ left) order had none picked =
-      let e : EventNo = record { instance = p; index = length (drawn above p) + 1 } in
+      let e : EventNo = record { instance = p; index = length (laid_out above p) + 1 } in
       none (Event e) (refl, alone above p left order had, λ r has way. none (Message e r) (refl, has, way))
 
   -- the turns of one row more
@@ -143,7 +143,7 @@ module _ (lines : List LineView) (turns : List ℕ) (run : IsRun (chart_lines li
   kept : (above rest : List Row) (left : List ℕ) → IsLayout lines turns (above ++ rest) → actors above ++ left ≡ turns → actors rest ≡ left
   kept above [] [] is had = refl
   kept above [] (p ∷ left) is had =
-      let drawn_all = ap length (ap (λ rows. drawn rows p) (sym (append-nil above)) ∙ is.drawing.order p) ∙ length-range_with_len 1 (length (c p)) in
+      let laid_out_all = ap length (ap (λ rows. laid_out rows p) (sym (append-nil above)) ∙ is.drawing.order p) ∙ length-range_with_len 1 (length (c p)) in
       let all = ap (times p) had ∙ run.all p in
       let both = times-append p (actors above) (p ∷ left) in
       let own = times-own p left in
@@ -152,7 +152,7 @@ module _ (lines : List LineView) (turns : List ℕ) (run : IsRun (chart_lines li
   kept above (row ∷ rest) left is had = go (λ l e. kept (above ++ row ∷ []) rest l (subst (IsLayout lines turns) (sym (append_assoc above (row ∷ []) rest)) is) e) comes
     where
       order : AreInOrder above
-      order p = front_range 1 (length (c p)) (drawn above p) (drawn (row ∷ rest) p) (sym (drawn-append above (row ∷ rest) p) ∙ is.drawing.order p)
+      order p = front_range 1 (length (c p)) (laid_out above p) (laid_out (row ∷ rest) p) (sym (laid_out-append above (row ∷ rest) p) ∙ is.drawing.order p)
 
       comes : Comes c (length lines) above left row
       comes = subst (λ ts. Comes c (length lines) above ts row) (ap (drop (length (actors above))) (sym had) ∙ drop_seam (actors above) left)

@@ -183,8 +183,8 @@ pub enum Mend<'a> {
 pub enum Request<'a> {
     /// `why` and `witness`, which ask about two events.
     Pair(Pair<'a>),
-    /// `draw [--only NAME,NAME..] [--events A..B] [--rows A..B | --around INSTANCE N] [--numbers] [--title TEXT] [FILE]`,
-    /// and with `--from TOOL` the options of `import`.
+    /// `draw [--only NAME,NAME..] [--events A..B] [--rows A..B | --around INSTANCE N] [--numbers] [--title TEXT]
+    /// [FILE]`, and with `--from TOOL` the options of `import`.
     Draw(Draw<'a>),
     /// `draw --witness INSTANCE EARLIER RECEIVE [--only NAME,NAME..] [--numbers] [--title TEXT] [FILE]`.
     DrawWitness(DrawWitness<'a>),

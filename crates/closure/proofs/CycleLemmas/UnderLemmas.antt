@@ -1,4 +1,4 @@
--- A circle of links has a round in it, with two links at least for each message.
+-- A cycle of links has a round in it, with two links at least for each message.
 use Rattle.std.proofs.Common.{◌≡◌, ℕ, zero, suc, ◌+◌, ◌*◌, ◌<◌, ◌≤◌, ◌⊎◌, inl, inr, true, List, [], ◌∷◌, length, Option, None, Some, refl, sym, ◌∙◌, subst, arith, eq-eqb}
 use Rattle.std.proofs.lemmas.Option.{same_Some, none-some}
 use Rattle.std.proofs.lemmas.Bool.{false≢true}
@@ -15,7 +15,7 @@ use Rattle.closure.specs.declared.chain.link.Rule.TheVariants.{Message, BeforeSe
 use Rattle.closure.specs.declared.chain.link.Link.{Link}
 use Rattle.closure.specs.Chain.Chains.{IsStepBy, Lead}
 use Rattle.closure.proofs.ChainLemmas.ChainLemmas.{links_of}
-use Rattle.closure.specs.Cycle.Circles.{IsCircle}
+use Rattle.closure.specs.Cycle.Cycles.{IsCycle}
 use Rattle.closure.specs.Cycle.Rounds.{Leads, IsRound}
 use Rattle.closure.proofs.CycleLemmas.LeadLemmas.{leads_later}
 
@@ -130,12 +130,12 @@ module _ (c : Chart) (f g : Place) (x : ℕ) (root : IsRoot c f g x) where
                 (suc many, u.send, (omega arith, leads_later c g u.send u.send many (root.0 ∙ u.line) (omega (arith, root.1, w.0)) leads), omega (arith, w.1))
           ]
 
--- a circle of links has a round with half as many messages at most
-pub round_in : (c : Chart) (links : List Link) → IsCircle c links → (many : ℕ) × (s : Place) × IsRound c many s × (2 * many ≤ length links)
-round_in c links circle =
-    let f = circle.lead.0 in
+-- a cycle of links has a round with half as many messages at most
+pub round_in : (c : Chart) (links : List Link) → IsCycle c links → (many : ℕ) × (s : Place) × IsRound c many s × (2 * many ≤ length links)
+round_in c links cycle =
+    let f = cycle.lead.0 in
     let root = has_root c f in
-    under_itself c f root.0 root.1 root.2 (length links) circle.some (under_links c f root.0 root.1 root.2 f links circle.lead.1)
+    under_itself c f root.0 root.1 root.2 (length links) cycle.some (under_links c f root.0 root.1 root.2 f links cycle.lead.1)
 
 -- where some event is before itself messages lead around
 pub round_from_cyclic : (c : Chart) → IsCyclic c → (many : ℕ) × (s : Place) × IsRound c many s

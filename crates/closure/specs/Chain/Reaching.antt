@@ -72,9 +72,9 @@ abbrev pub AreSteps : Reached → Place → ℕ → Type 0
 AreSteps x e k = ((e.index ≡ x.send.index) × (k ≡ 2 * x.depth + 1)) ⊎ ((e.index < x.send.index) × (k ≡ 2 * x.depth + 2))
 
 -- what is answered of one that was reached
-abbrev pub TellsSteps : Reached → Place → Option ℕ → Type 0
-TellsSteps x e None = IsUnder x e → ⊥
-TellsSteps x e (Some k) = IsUnder x e × AreSteps x e k
+abbrev pub GivesSteps : Reached → Place → Option ℕ → Type 0
+GivesSteps x e None = IsUnder x e → ⊥
+GivesSteps x e (Some k) = IsUnder x e × AreSteps x e k
 
 -- of the first so many that were found none has e above it, or this one does with the fewest steps
 abbrev pub IsNearest : List Reached → Place → ℕ → Option (ℕ × ℕ) → Type 0

@@ -1,4 +1,4 @@
--- Messages that lead on to each other, and around: a shortest circle is one of these (over the order of Alur, Holzmann
+-- Messages that lead on to each other, and around: a shortest cycle is one of these (over the order of Alur, Holzmann
 -- and Peled 1996, in this project's profile).
 use Rattle.std.specs.Prelude.{◌≡◌, ℕ, zero, suc, ◌+◌, ◌*◌, ◌<◌, ◌≤◌, List, length, Option, None, Some}
 use Rattle.chart.specs.Charts.{Chart, Place, BelongsTo}

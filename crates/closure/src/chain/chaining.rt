@@ -6,7 +6,7 @@ ghost use Rattle.chart.specs.Order.{Before};
 ghost use Rattle.closure.specs.Faults.{place_of};
 ghost use Rattle.closure.specs.Searches.{IsEarlierReceive};
 ghost use Rattle.closure.specs.Chain.Chains.{IsShortestChain, Lead};
-ghost use Rattle.closure.specs.Chain.Reaching.{IsTrail, IsSomeTrail, IsUnder, AreSteps, TellsSteps, IsNearest, IsChainBy};
+ghost use Rattle.closure.specs.Chain.Reaching.{IsTrail, IsSomeTrail, IsUnder, AreSteps, GivesSteps, IsNearest, IsChainBy};
 ghost use Rattle.closure.specs.declared.chain.reaching.Reached.{Reached};
 
 use crate::Closure;
@@ -19,7 +19,7 @@ use std::alloc::{AllocError, Global};
 /// it.
 fn steps_by(reached: &Reached, event: &EventNo) -> Option<usize>
     requires { reached.now.depth + 1 < 2 ^ 63 }
-    ensures { TellsSteps reached.now (place_of event.now) result }
+    ensures { GivesSteps reached.now (place_of event.now) result }
 {
     if event.instance != reached.send.instance {
         return None;
@@ -42,7 +42,7 @@ fn better(
     number: usize,
     steps: Option<usize>,
 ) -> Option<(usize, usize)>
-    ensures { (found : List Reached) (x : Reached) (e : Place) → slice_get found number ≡ Some x → TellsSteps x e steps
+    ensures { (found : List Reached) (x : Reached) (e : Place) → slice_get found number ≡ Some x → GivesSteps x e steps
         → IsNearest found e number best → IsNearest found e (number + 1) result }
 {
     match steps {

@@ -1,4 +1,5 @@
-//! Along a line, of each other line the send of the last receive so far: the n-th receive on a lane is of the n-th send.
+//! Along a line, of each other line the send of the last receive so far: the n-th receive on a lane is of the n-th
+//! send.
 ghost use Rattle.std.specs.Prelude.{◌≡◌, ◌+◌, ◌<◌, ◌≤◌, suc, length, count_by, MatchOption, IfSome};
 ghost use Rattle.chart.specs.Events.{is_send_to, tally};
 ghost use Rattle.chart.specs.Charts.{Place, at, chart_lines, IsChart, HasNoSend};

@@ -1,7 +1,7 @@
 //! Messages that lead around.
 //!
-//! Of what leads on to an event by so many messages each line's last send is enough to know: what leads on to an earlier
-//! send of a line leads on to a later one too.
+//! Of what leads on to an event by so many messages each line's last send is enough to know: what leads on to an
+//! earlier send of a line leads on to a later one too.
 ghost use Rattle.std.specs.Prelude.{◌≡◌, ℕ, suc, ◌+◌, ◌<◌, ◌≤◌, length, IfOk, MatchOption};
 ghost use Rattle.chart.specs.Charts.{Place, at, chart_lines};
 ghost use Rattle.chart.specs.Places.{IsEvent};

@@ -14,7 +14,7 @@ use Rattle.cmd_base.specs.declared.error.ProgramError.TheVariants.{Usage, File, 
 use Rattle.cmd_base.specs.declared.columns.error.FormatError.{FormatError}
 use Rattle.cmd_base.specs.declared.columns.error.FormatError.TheVariants.{Program, NoSuchName}
 use Rattle.cmd_base.specs.Columns.Columns.{AreNamed, IsNext, IsNone, RefusesNext, RefusesNamed}
-use Rattle.cmd_base.specs.Named.Asked.{named_so, instance_said}
+use Rattle.cmd_base.specs.Named.Asked.{named_so, instance_named}
 
 -- the first of the words name these columns, and the rest are still to be read
 pub record AreSoFar (names all rest : List (List ℕ)) (columns : List ℕ) : Type 0 where
@@ -35,7 +35,7 @@ one_more names all word rest old new so_far next = record {
   passed = so_far.passed ++ word ∷ [];
   are = so_far.are ∙ sym (append_assoc so_far.passed (word ∷ []) rest);
   so_far = record {
-    each = map-append (instance_said names) so_far.passed (word ∷ []) ∙ ap (λ l. l ++ instance_said names word ∷ []) so_far.so_far.each
+    each = map-append (instance_named names) so_far.passed (word ∷ []) ∙ ap (λ l. l ++ instance_named names word ∷ []) so_far.so_far.each
         ∙ ap (λ o. map Some old ++ o ∷ []) next.said ∙ sym (map-append (λ (p : ℕ). Some p) old (next.instance ∷ [])) ∙ ap (map Some) (sym next.is);
     once = subst (IsDistinct nat_eq) (sym next.is) (IsDistinct-push nat_eq_equiv old next.instance so_far.so_far.once next.once);
   };
@@ -93,10 +93,10 @@ refused (Some p) old columns on none once =
     let same : on.instance ≡ p = cc in
     twice p old on.others none (subst (IsDistinct nat_eq) (on.are ∙ ap (λ x. old ++ x ∷ on.others) same) once)
 
-pub none_else : (names all : List (List ℕ)) (word : List ℕ) (rest : List (List ℕ)) (old columns : List ℕ) → AreSoFar names all (word ∷ rest) old → IsNone (instance_said names word) old → AreNamed names all columns → ⊥
+pub none_else : (names all : List (List ℕ)) (word : List ℕ) (rest : List (List ℕ)) (old columns : List ℕ) → AreSoFar names all (word ∷ rest) old → IsNone (instance_named names word) old → AreNamed names all columns → ⊥
 none_else names all word rest old columns so_far none are =
-    refused (instance_said names word) old columns
-    (onward (instance_said names) so_far.passed word rest old columns so_far.so_far.each (sym (ap (map (instance_said names)) so_far.are) ∙ are.each))
+    refused (instance_named names word) old columns
+    (onward (instance_named names) so_far.passed word rest old columns so_far.so_far.each (sym (ap (map (instance_named names)) so_far.are) ∙ are.each))
     none are.once
 
 -- so what refuses the next word refuses them all
@@ -123,27 +123,27 @@ range_next a (suc n) =
     let same : (a + 1) + n ≡ a + suc n = omega arith in
     ap (λ l. a ∷ l) (range_next (a + 1) n) ∙ ap (λ x. a ∷ (range_with_len (a + 1) n ++ x ∷ [])) same
 
-said_so : (names : List (List ℕ)) (r : Result (List ℕ) Cause) (p : ℕ) → named_so names r ≡ Some p → (1 ≤ p) × (p ≤ length names)
-said_so names (Ok name) p e = let named = instance_is names name p e in (named.first, named.last)
-said_so names (Err cause) p e = cc
+exits_so : (names : List (List ℕ)) (r : Result (List ℕ) Cause) (p : ℕ) → named_so names r ≡ Some p → (1 ≤ p) × (p ≤ length names)
+exits_so names (Ok name) p e = let named = instance_is names name p e in (named.first, named.last)
+exits_so names (Err cause) p e = cc
 
-within : (names words : List (List ℕ)) (columns : List ℕ) → map (instance_said names) words ≡ map Some columns → (q : ℕ) → list_any (nat_eq q) columns ≡ true → q ≤ length names
+within : (names words : List (List ℕ)) (columns : List ℕ) → map (instance_named names) words ≡ map Some columns → (q : ℕ) → list_any (nat_eq q) columns ≡ true → q ≤ length names
 within names words [] each q there = absurd (false≢true there)
 within names [] (p ∷ columns) each q there = cc
 within names (word ∷ words) (p ∷ columns) each q there =
-    let said : instance_said names word ≡ Some p = cc in
-    let others : map (instance_said names) words ≡ map Some columns = cc in
+    let said : instance_named names word ≡ Some p = cc in
+    let others : map (instance_named names) words ≡ map Some columns = cc in
     either (q ≤ length names) (nat_eq q p) (list_any (nat_eq q) columns) there
-    (λ same. let is = equal q p same in let last = (said_so names (name_or_cause word) p said).1 in omega arith)
+    (λ same. let is = equal q p same in let last = (exits_so names (name_or_cause word) p said).1 in omega arith)
     (λ later. within names words columns others q later)
 
-none_is_zero : (names words : List (List ℕ)) (columns : List ℕ) → map (instance_said names) words ≡ map Some columns → AllByRecursion (λ y. nat_eq 0 y ≡ false) columns
+none_is_zero : (names words : List (List ℕ)) (columns : List ℕ) → map (instance_named names) words ≡ map Some columns → AllByRecursion (λ y. nat_eq 0 y ≡ false) columns
 none_is_zero names words [] each = tt
 none_is_zero names [] (p ∷ columns) each = cc
 none_is_zero names (word ∷ words) (p ∷ columns) each =
-    let said : instance_said names word ≡ Some p = cc in
-    let others : map (instance_said names) words ≡ map Some columns = cc in
-    let first = (said_so names (name_or_cause word) p said).0 in
+    let said : instance_named names word ≡ Some p = cc in
+    let others : map (instance_named names) words ≡ map Some columns = cc in
+    let first = (exits_so names (name_or_cause word) p said).0 in
     (ne_eqb 0 p (λ e. omega arith), none_is_zero names words columns others)
 
 -- there are at most as many columns as names

@@ -12,8 +12,8 @@ use Rattle.cmd_base.specs.declared.pairs.error.ViewError.TheVariants.{NoSuchEven
 use Rattle.cmd_base.specs.declared.pairs.pair.Asked.{Asked}
 use Rattle.cmd_base.specs.declared.pairs.pair.Pair.{Pair}
 use Rattle.cmd_base.specs.Pairs.Pairs.{pair_on, pair_at, pair_of, IsPair}
-use Rattle.cmd_base.specs.Named.Asked.{instance_said, has_event}
-use Rattle.schedule_replay.specs.ReorderedRuns.Turns.{receives}
+use Rattle.cmd_base.specs.Named.Asked.{instance_named, has_event}
+use Rattle.schedule_replay.specs.ReorderedRuns.Reorderings.{receives}
 
 -- a test that was passed
 passed : (b : Bool) (x : Result Pair ViewError) (error : ViewError) (pair : Pair) → cond b x (Err error) ≡ Ok pair → (b ≡ true) × (x ≡ Ok pair)
@@ -43,7 +43,7 @@ on_line names c p e r pair is =
 
 -- of a chart
 pub IsPair-from_words : (names : List (List ℕ)) (lines : List LineView) (asked : Asked) (pair : Pair) → pair_of names lines asked ≡ Ok pair → IsPair (chart_lines lines) pair
-IsPair-from_words names lines asked pair is = by_instance (instance_said names asked.instance.now) is
+IsPair-from_words names lines asked pair is = by_instance (instance_named names asked.instance.now) is
   where
     by_instance : (found : Option ℕ) → pair_at names found lines asked.earlier asked.receive ≡ Ok pair → IsPair (chart_lines lines) pair
     by_instance None h = cc

@@ -1,6 +1,6 @@
 -- What is printed on standard error.
 use Rattle.std.specs.Prelude.{ℕ, List, None, codes}
-use Rattle.cmd_base.specs.Answers.{Said, refusal}
+use Rattle.cmd_base.specs.Answers.{Exit, refusal}
 use Rattle.cmd_base.specs.Refusals as refusals
 use Rattle.cmd_base.specs.declared.columns.error.FormatError.{FormatError}
 use Rattle.cmd_base.specs.declared.columns.error.FormatError.TheVariants.{Program, NoSuchName}
@@ -11,5 +11,5 @@ refusal_text (Program cause) = refusals.refusal_text cause
 refusal_text NoSuchName = refusals.labelled_text (codes "F34 NoSuchName") None
 
 -- what is said of a refusal
-abbrev pub error_said : FormatError → Said
-error_said error = refusal (refusal_text error)
+abbrev pub error_exit : FormatError → Exit
+error_exit error = refusal (refusal_text error)

@@ -4,13 +4,13 @@ use Rattle.std.specs.Borrow.{Bor}
 use Rattle.std.specs.List.{list_any, IsDistinct, range_with_len}
 use Rattle.texts.specs.Lines.{parts}
 use Rattle.cmd_base.specs.declared.error.ProgramError.TheVariants as errors
-use Rattle.cmd_base.specs.Named.Asked.{instance_said}
+use Rattle.cmd_base.specs.Named.Asked.{instance_named}
 use Rattle.cmd_base.specs.declared.columns.error.FormatError.{FormatError}
 use Rattle.cmd_base.specs.declared.columns.error.FormatError.TheVariants.{Program, NoSuchName}
 
 -- these are the instances that the words name, in this order, and none is named twice
 pub record AreNamed (names words : List (List ℕ)) (columns : List ℕ) : Type 0 where
-  pub each : map (instance_said names) words ≡ map Some columns
+  pub each : map (instance_named names) words ≡ map Some columns
   pub once : IsDistinct nat_eq columns
 
 -- the bytes that name the columns, if there are some
@@ -25,7 +25,7 @@ AreColumns names (Some bytes) columns = AreNamed names (parts 44 bytes) columns
 -- the word names an instance that has no column yet, and its column is put behind the others
 pub record IsNext (names : List (List ℕ)) (word : List ℕ) (old new : List ℕ) : Type 0 where
   pub instance : ℕ
-  pub said : instance_said names word ≡ Some instance
+  pub said : instance_named names word ≡ Some instance
   pub once : list_any (nat_eq instance) old ≡ false
   pub is : new ≡ old ++ instance ∷ []
 
@@ -36,7 +36,7 @@ IsNone (Some instance) old = list_any (nat_eq instance) old ≡ true
 
 -- what refuses the next column
 abbrev pub RefusesNext : List (List ℕ) → List ℕ → List ℕ → FormatError → Type 0
-RefusesNext names word old NoSuchName = IsNone (instance_said names word) old
+RefusesNext names word old NoSuchName = IsNone (instance_named names word) old
 RefusesNext names word old (Program errors.Memory) = Unit {0}
 RefusesNext names word old (Program _) = ⊥
 

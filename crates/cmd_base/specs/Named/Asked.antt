@@ -11,8 +11,8 @@ named_so names (Ok name) = instance_of names name
 named_so names (Err cause) = None
 
 -- the instance that has these bytes as its name
-abbrev pub instance_said : List (List ℕ) → List ℕ → Option ℕ
-instance_said names word = named_so names (name_or_cause word)
+abbrev pub instance_named : List (List ℕ) → List ℕ → Option ℕ
+instance_named names word = named_so names (name_or_cause word)
 
 -- the line has an event of this number
 abbrev pub has_event : List Event → ℕ → Bool

@@ -1,6 +1,6 @@
 -- What is printed on standard error.
 use Rattle.std.specs.Prelude.{ℕ, List, None, Some, codes}
-use Rattle.cmd_base.specs.Answers.{Said, refusal}
+use Rattle.cmd_base.specs.Answers.{Exit, refusal}
 use Rattle.cmd_base.specs.Refusals as refusals
 use Rattle.cmd_base.specs.Named.NamedRefusals.{missing_text}
 use Rattle.cmd_base.specs.declared.pairs.error.ViewError.{ViewError}
@@ -15,5 +15,5 @@ refusal_text (NotAReceive receive) = refusals.labelled_text (codes "F32 NotAPair
 refusal_text (ManySlots slots) = refusals.labelled_text (codes "F33 ManySlots") (Some slots)
 
 -- what is said of a refusal
-abbrev pub error_said : ViewError → Said
-error_said error = refusal (refusal_text error)
+abbrev pub error_exit : ViewError → Exit
+error_exit error = refusal (refusal_text error)

@@ -7,8 +7,8 @@ use Rattle.chart.specs.Order.{IsEarlier}
 use Rattle.closure.specs.Faults.{place_of}
 use Rattle.cmd_base.specs.declared.named.missing.Missing.TheVariants.{Instance}
 use Rattle.cmd_base.specs.Named.NamedRefusals.{missing_on}
-use Rattle.cmd_base.specs.Named.Asked.{instance_said, has_event}
-use Rattle.schedule_replay.specs.ReorderedRuns.Turns.{receives}
+use Rattle.cmd_base.specs.Named.Asked.{instance_named, has_event}
+use Rattle.schedule_replay.specs.ReorderedRuns.Reorderings.{receives}
 use Rattle.cmd_base.specs.declared.pairs.error.ViewError.{ViewError}
 use Rattle.cmd_base.specs.declared.pairs.error.ViewError.TheVariants.{NoSuchEvent, NotEarlier, NotAReceive}
 use Rattle.cmd_base.specs.declared.pairs.pair.Asked.{Asked}
@@ -29,7 +29,7 @@ pair_at names (Some p) lines e r = pair_on names p (chart_lines lines p) e r
 
 -- the two events that are asked about, by an instance's name and two numbers
 abbrev pub pair_of : List (List ℕ) → List LineView → Asked → Result Pair ViewError
-pair_of names lines asked = pair_at names (instance_said names asked.instance.now) lines asked.earlier asked.receive
+pair_of names lines asked = pair_at names (instance_named names asked.instance.now) lines asked.earlier asked.receive
 
 -- a receive of the chart, and an earlier event of its line
 pub record IsPair (c : Chart) (pair : Pair) : Type 0 where

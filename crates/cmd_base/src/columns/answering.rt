@@ -1,7 +1,7 @@
 //! Refusals, as text on standard error.
 ghost use Rattle.std.specs.Prelude.{◌≡◌};
 ghost use Rattle.cmd_base.specs.Refusals.{Tried};
-ghost use Rattle.cmd_base.specs.Columns.Answers.{refusal_text, error_said};
+ghost use Rattle.cmd_base.specs.Columns.Answers.{refusal_text, error_exit};
 
 use crate::columns::error::FormatError;
 use crate::{Answer, refused_by};
@@ -19,13 +19,13 @@ pub fn refused<V: Out>(error: &FormatError, err: &mut V) -> u8
 }
 
 impl Answer for FormatError {
-    ghost said = { error_said };
+    ghost exit = { error_exit };
 
     fn status(&self) -> u8 {
         2
     }
 
-    fn tell<V: Out>(&self, err: &mut V) {
+    fn print_diagnostics<V: Out>(&self, err: &mut V) {
         let _ = refused(self, err);
     }
 }

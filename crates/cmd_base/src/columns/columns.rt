@@ -5,11 +5,11 @@ ghost use Rattle.std.specs.List.{list_any, range_with_len};
 ghost use Rattle.chart.specs.declared.instance.TheConstants.{MAX_INSTANCES};
 ghost use Rattle.texts.specs.Lines.{parts};
 ghost use Rattle.cmd_base.specs.Columns.Columns.{IsNext, RefusesNext, AreNamed, RefusesNamed, AreColumns, RefusesColumns};
-ghost use Rattle.cmd_base.specs.Named.Asked.{instance_said};
+ghost use Rattle.cmd_base.specs.Named.Asked.{instance_named};
 
 use crate::ProgramError;
 use crate::columns::error::FormatError;
-use crate::named::instance_said;
+use crate::named::instance_named;
 use chart::{InstanceNo, MAX_INSTANCES, Names};
 use std::alloc::{AllocError, Global};
 
@@ -44,7 +44,7 @@ fn add_column(columns: &mut Vec<InstanceNo>, names: &Names, name: &[u8]) -> Resu
     ensures ok { OnOk result (IsNext names.now name.now columns.old.items columns.new.items) }
     ensures err { IfErr result (RefusesNext names.now name.now columns.old.items) }
 {
-    let Some(instance) = instance_said(names, name) else {
+    let Some(instance) = instance_named(names, name) else {
         return Err(FormatError::NoSuchName);
     };
     if has_column(columns.as_slice(), instance) {

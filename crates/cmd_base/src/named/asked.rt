@@ -1,13 +1,13 @@
 //! What is asked for by an instance's name and an event's number.
 ghost use Rattle.std.specs.Prelude.{◌≡◌};
-ghost use Rattle.cmd_base.specs.Named.Asked.{instance_said, has_event};
+ghost use Rattle.cmd_base.specs.Named.Asked.{instance_named, has_event};
 
 use chart::{Event, InstanceNo, Names};
 use texts::name_in;
 
 /// The instance that has these bytes as its name.
-pub fn instance_said(names: &Names, name: &[u8]) -> Option<InstanceNo>
-    ensures { result ≡ instance_said names.now name.now }
+pub fn instance_named(names: &Names, name: &[u8]) -> Option<InstanceNo>
+    ensures { result ≡ instance_named names.now name.now }
 {
     match name_in(name) {
         Ok(name) => names.instance(name),

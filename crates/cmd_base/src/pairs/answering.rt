@@ -1,7 +1,7 @@
 //! Refusals, as text on standard error.
 ghost use Rattle.std.specs.Prelude.{◌≡◌};
 ghost use Rattle.cmd_base.specs.Refusals.{Tried};
-ghost use Rattle.cmd_base.specs.Pairs.Answers.{error_said, refusal_text};
+ghost use Rattle.cmd_base.specs.Pairs.Answers.{error_exit, refusal_text};
 
 use crate::named::refused_missing;
 use crate::pairs::error::ViewError;
@@ -23,13 +23,13 @@ pub fn refused<V: Out>(error: &ViewError, err: &mut V) -> u8
 }
 
 impl Answer for ViewError {
-    ghost said = { error_said };
+    ghost exit = { error_exit };
 
     fn status(&self) -> u8 {
         2
     }
 
-    fn tell<V: Out>(&self, err: &mut V) {
+    fn print_diagnostics<V: Out>(&self, err: &mut V) {
         let _ = refused(self, err);
     }
 }

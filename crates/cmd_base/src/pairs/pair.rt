@@ -2,10 +2,10 @@
 ghost use Rattle.std.specs.Prelude.{◌≡◌, ◌≤◌, ◌<◌, length};
 ghost use Rattle.chart.specs.declared.line.TheConstants.{MAX_EVENTS};
 ghost use Rattle.cmd_base.specs.Pairs.Pairs.{pair_on, pair_of};
-ghost use Rattle.cmd_base.specs.Named.Asked.{instance_said, has_event};
+ghost use Rattle.cmd_base.specs.Named.Asked.{instance_named, has_event};
 ghost use Rattle.chart.specs.Events.{is_receive};
 
-use crate::named::{Missing, has_event, instance_said, missing_on};
+use crate::named::{Missing, has_event, instance_named, missing_on};
 use crate::pairs::error::ViewError;
 use chart::line_events::events_of;
 use chart::{Event, EventNo, InstanceNo, Line, Names};
@@ -76,7 +76,7 @@ fn pair_on(
 pub fn pair_in(names: &Names, lines: &[Line], asked: &Asked<'_>) -> Result<Pair, ViewError>
     ensures { result ≡ pair_of names.now lines.now asked.now }
 {
-    match instance_said(names, asked.instance) {
+    match instance_named(names, asked.instance) {
         None => Err(ViewError::NoSuchEvent(Missing::Instance)),
         Some(instance) => pair_on(
             names,

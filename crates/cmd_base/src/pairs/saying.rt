@@ -285,8 +285,8 @@ fn add_steps<W: Out>(
     Ok(())
 }
 
-/// Writes a chain of direct steps, a line for each. It takes no memory. Where a put fails (F24), a beginning of the text
-/// was written, and no other put is tried.
+/// Writes a chain of direct steps, a line for each. It takes no memory. Where a put fails (F24), a beginning of the
+/// text was written, and no other put is tried.
 #[tactic(auto, using(texts::proofs::Writes::joining))]
 pub fn write_chain<W: Out>(names: &Names, links: &[Link], out: &mut W) -> Result<(), WriteError>
     ensures { Wrote W.sink out.old out.new result (flat_map (step_text names.now) links.now) }

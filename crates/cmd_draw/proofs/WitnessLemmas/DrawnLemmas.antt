@@ -33,11 +33,11 @@ use Rattle.cmd_explain_race.specs.declared.verdict.Witnessed.{Witnessed}
 use Rattle.cmd_explain_race.specs.Finding.{origin_of, IsFound, IsJudged, Judges}
 use Rattle.schedule_replay.specs.declared.reordered_runs.showing.Shown.{Shown}
 use Rattle.schedule_replay.specs.declared.reordered_runs.showing.Shown.TheVariants as founds
-use Rattle.cmd_explain_race.specs.Turning.{Origin, IsWitness}
-use Rattle.cmd_explain_race.proofs.TurningLemmas.{no_slots}
+use Rattle.cmd_explain_race.specs.Reordering.{Origin, IsWitness}
+use Rattle.cmd_explain_race.proofs.ReorderingLemmas.{no_slots}
 use Rattle.cmd_draw.specs.declared.witness.drawing.Subject.{Subject}
 use Rattle.cmd_draw.specs.declared.witness.drawing.Wanted.{Wanted}
-use Rattle.cmd_draw.specs.declared.witness.error.Undrawn.TheVariants as undrawn
+use Rattle.cmd_draw.specs.declared.witness.error.PictureError.TheVariants as picture_left_out
 use Rattle.cmd_draw.specs.declared.witness.stage.Stage.{Stage}
 use Rattle.cmd_draw.specs.Witness.Beside.{beside_text}
 use Rattle.cmd_draw.specs.Witness.Drawing.{other_title, IsPictured, AreDrawn, IsSubject, AreStaged, WritesOne, DrawsSo, DrawsShown, DrawsWitness}
@@ -117,7 +117,7 @@ witness_names (names, lines) origin pair plan o is it = it.names ∙ is.0
 
 -- what is refused of the two events writes nothing
 pub not_found : {S : Type 0} (sink : S → Sink) (old : S) (asked : Asked) (wanted : Wanted) (source : Source) (columns : List ℕ) (error : ViewError) → AreColumns (named_of source).0 (only_of wanted.only) columns
-    → IsFound (named_of source) (origin_of source) asked (Err error) → DrawsWitness sink old old asked wanted source (Err (undrawn.Pair error))
+    → IsFound (named_of source) (origin_of source) asked (Err error) → DrawsWitness sink old old asked wanted source (Err (picture_left_out.Pair error))
 not_found sink old asked wanted source columns (pairs.Program Memory) are is = refl
 not_found sink old asked wanted source columns (pairs.Program Write) are is = absurd is
 not_found sink old asked wanted source columns (pairs.Program Usage) are is = (columns, are, is, refl)
@@ -132,7 +132,7 @@ not_found sink old asked wanted source columns (pairs.NotAReceive receive) are i
 not_found sink old asked wanted source columns (pairs.ManySlots k) are is = absurd (no_slots (named_of source).0 (named_of source).1 asked k is.0)
 
 -- there are no such columns
-pub no_columns : {S : Type 0} (sink : S → Sink) (old : S) (asked : Asked) (wanted : Wanted) (source : Source) (error : FormatError) → RefusesColumns (named_of source).0 (only_of wanted.only) error → DrawsWitness sink old old asked wanted source (Err (undrawn.Columns error))
+pub no_columns : {S : Type 0} (sink : S → Sink) (old : S) (asked : Asked) (wanted : Wanted) (source : Source) (error : FormatError) → RefusesColumns (named_of source).0 (only_of wanted.only) error → DrawsWitness sink old old asked wanted source (Err (picture_left_out.Columns error))
 no_columns sink old asked wanted source columns.NoSuchName none = (none, refl)
 no_columns sink old asked wanted source (columns.Program Memory) why = refl
 no_columns sink old asked wanted source (columns.Program Usage) why = absurd why
@@ -145,17 +145,17 @@ no_columns sink old asked wanted source (columns.Program Write) why = absurd why
 
 -- where a witness isn't drawn whole, memory ran out or a put failed
 pub not_drawn : {S : Type 0} (sink : S → Sink) (old new : S) (asked : Asked) (wanted : Wanted) (source : Source) (columns : List ℕ) (found : Found) (witnessed : Witnessed) (error : ProgramError) → AreColumns (named_of source).0 (only_of wanted.only) columns
-    → IsFound (named_of source) (origin_of source) asked (Ok found) → Judges source found (Ok witnessed) → DrawsShown sink old new asked wanted source found (Err error) → DrawsWitness sink old new asked wanted source (Err (undrawn.Pair (pairs.Program error)))
+    → IsFound (named_of source) (origin_of source) asked (Ok found) → Judges source found (Ok witnessed) → DrawsShown sink old new asked wanted source found (Err error) → DrawsWitness sink old new asked wanted source (Err (picture_left_out.Pair (pairs.Program error)))
 not_drawn sink old new asked wanted source columns found witnessed error are is judges draws = by_shown error found.shown refl draws
   where
-    so : DrawsShown sink old new asked wanted source found (Err Write) → DrawsWitness sink old new asked wanted source (Err (undrawn.Pair (pairs.Program Write)))
+    so : DrawsShown sink old new asked wanted source found (Err Write) → DrawsWitness sink old new asked wanted source (Err (picture_left_out.Pair (pairs.Program Write)))
     so drawn = (witnessed, record { columns = columns; found = found; are = are; is_found = is; judges = judges; draws = drawn })
 
-    by_shown : (error : ProgramError) (shown : Shown) → shown ≡ found.shown → DrawsSo sink old new asked wanted source found.pair found.shown (Err error) → DrawsWitness sink old new asked wanted source (Err (undrawn.Pair (pairs.Program error)))
+    by_shown : (error : ProgramError) (shown : Shown) → shown ≡ found.shown → DrawsSo sink old new asked wanted source found.pair found.shown (Err error) → DrawsWitness sink old new asked wanted source (Err (picture_left_out.Pair (pairs.Program error)))
     by_shown Write shown same drawn = so drawn
     by_shown error (founds.Replay plan) same drawn = replayed error (subst (λ (s : Shown). DrawsSo sink old new asked wanted source found.pair s (Err error)) (sym same) drawn)
       where
-        replayed : (error : ProgramError) → DrawsSo sink old new asked wanted source found.pair (founds.Replay plan) (Err error) → DrawsWitness sink old new asked wanted source (Err (undrawn.Pair (pairs.Program error)))
+        replayed : (error : ProgramError) → DrawsSo sink old new asked wanted source found.pair (founds.Replay plan) (Err error) → DrawsWitness sink old new asked wanted source (Err (picture_left_out.Pair (pairs.Program error)))
         replayed Memory wrote = wrote
         replayed Write wrote = so (subst (λ (s : Shown). DrawsSo sink old new asked wanted source found.pair s (Err Write)) same wrote)
         replayed Usage wrote = absurd wrote
@@ -169,14 +169,14 @@ not_drawn sink old new asked wanted source columns found witnessed error are is 
 
 -- of each witness that needs too many slots nothing is drawn
 pub too_many : {S : Type 0} (sink : S → Sink) (old : S) (asked : Asked) (wanted : Wanted) (source : Source) (columns : List ℕ) (found : Found) (error : ViewError) → AreColumns (named_of source).0 (only_of wanted.only) columns
-    → IsFound (named_of source) (origin_of source) asked (Ok found) → Judges source found (Err error) → DrawsWitness sink old old asked wanted source (Err (undrawn.Pair error))
+    → IsFound (named_of source) (origin_of source) asked (Ok found) → Judges source found (Err error) → DrawsWitness sink old old asked wanted source (Err (picture_left_out.Pair error))
 too_many sink old asked wanted source columns found error are is judges = by_shown found.shown refl
   where
-    by_shown : (shown : Shown) → shown ≡ found.shown → DrawsWitness sink old old asked wanted source (Err (undrawn.Pair error))
+    by_shown : (shown : Shown) → shown ≡ found.shown → DrawsWitness sink old old asked wanted source (Err (picture_left_out.Pair error))
     by_shown (founds.TooManySlots k) same =
         let many = subst (λ (s : Shown). IsJudged source found.pair s (Err error)) (sym same) judges in
         let its : error ≡ pairs.ManySlots k = cc in
-        subst (λ (e : ViewError). DrawsWitness sink old old asked wanted source (Err (undrawn.Pair e))) (sym its) (record {
+        subst (λ (e : ViewError). DrawsWitness sink old old asked wanted source (Err (picture_left_out.Pair e))) (sym its) (record {
           columns = columns;
           found = found;
           are = are;

@@ -1,18 +1,18 @@
 -- What is told of a witness's picture.
 use Rattle.std.specs.Prelude.{Result}
-use Rattle.cmd_base.specs.Answers.{Said, said_of}
+use Rattle.cmd_base.specs.Answers.{Exit, exit_of}
 use Rattle.cmd_base.specs.Columns.Answers as columns
-use Rattle.cmd_explain_race.specs.Answers.{witnessed_said}
+use Rattle.cmd_explain_race.specs.Answers.{witnessed_exit}
 use Rattle.cmd_base.specs.Pairs.Answers as pairs
 use Rattle.cmd_explain_race.specs.declared.verdict.Witnessed.{Witnessed}
-use Rattle.cmd_draw.specs.declared.witness.error.Undrawn.{Undrawn}
-use Rattle.cmd_draw.specs.declared.witness.error.Undrawn.TheVariants.{Columns, Pair}
+use Rattle.cmd_draw.specs.declared.witness.error.PictureError.{PictureError}
+use Rattle.cmd_draw.specs.declared.witness.error.PictureError.TheVariants.{Columns, Pair}
 
 -- of a refusal
-abbrev pub undrawn_said : Undrawn → Said
-undrawn_said (Columns error) = columns.error_said error
-undrawn_said (Pair error) = pairs.error_said error
+abbrev pub picture_error_exit : PictureError → Exit
+picture_error_exit (Columns error) = columns.error_exit error
+picture_error_exit (Pair error) = pairs.error_exit error
 
 -- of a pair for which a witness was drawn, or looked for: what `mscview witness` says of it
-abbrev pub picture_said : Result Witnessed Undrawn → Said
-picture_said = said_of witnessed_said undrawn_said
+abbrev pub picture_exit : Result Witnessed PictureError → Exit
+picture_exit = exit_of witnessed_exit picture_error_exit

@@ -26,8 +26,8 @@ use Rattle.cmd_explain_race.specs.declared.verdict.Witnessed.{Witnessed}
 use Rattle.cmd_explain_race.specs.Finding.{origin_of, IsFound, Judges}
 use Rattle.cmd_draw.specs.declared.witness.drawing.Subject.{Subject}
 use Rattle.cmd_draw.specs.declared.witness.drawing.Wanted.{Wanted}
-use Rattle.cmd_draw.specs.declared.witness.error.Undrawn.{Undrawn}
-use Rattle.cmd_draw.specs.declared.witness.error.Undrawn.TheVariants.{Columns, Pair}
+use Rattle.cmd_draw.specs.declared.witness.error.PictureError.{PictureError}
+use Rattle.cmd_draw.specs.declared.witness.error.PictureError.TheVariants.{Columns, Pair}
 use Rattle.cmd_draw.specs.declared.witness.stage.Stage.{Stage}
 use Rattle.cmd_draw.specs.Witness.Beside.{beside_text}
 use Rattle.cmd_draw.specs.Witness.Counterparts.{counterpart}
@@ -108,7 +108,7 @@ module _ {S : Type 0} (sink : S → Sink) where
   -- the chart was drawn beside its witness, or there is none; or nothing was written, where there are no such columns,
   -- where the chart is not possible, where there is no such pair, where each witness needs too many slots, or where
   -- memory ran out
-  abbrev pub DrawsWitness : S → S → Asked → Wanted → Source → Result Witnessed Undrawn → Type 0
+  abbrev pub DrawsWitness : S → S → Asked → Wanted → Source → Result Witnessed PictureError → Type 0
   DrawsWitness old new asked wanted source (Ok witnessed) =
       DrawsFound old new asked wanted source (Ok witnessed) (Ok tt)
   DrawsWitness old new asked wanted source (Err (Columns names.NoSuchName)) =
@@ -125,6 +125,6 @@ module _ {S : Type 0} (sink : S → Sink) where
       × IsFound (named_of source) (origin_of source) asked (Err error) × (new ≡ old)
 
   -- the same for the chart that the bytes say; or nothing was written, where the bytes have a fault
-  abbrev pub DrawsWitnessText : S → S → Asked → Wanted → List ℕ → Result Witnessed Undrawn → Type 0
+  abbrev pub DrawsWitnessText : S → S → Asked → Wanted → List ℕ → Result Witnessed PictureError → Type 0
   DrawsWitnessText old new asked wanted bytes =
       OfFile (λ error. Pair (Program error)) (λ source done. DrawsWitness old new asked wanted source done) old new bytes

@@ -245,8 +245,8 @@ fn add_beside<W: Out>(
 }
 
 /// Writes two pictures beside each other under this title, and nothing else. The pair of the instance with this name is
-/// marked on the left, and these events on the right. It takes no memory. Where a put fails (F24), a beginning of the text
-/// was written, and no other put is tried.
+/// marked on the left, and these events on the right. It takes no memory. Where a put fails (F24), a beginning of the
+/// text was written, and no other put is tried.
 #[tactic(auto, using(texts::proofs::Writes::joining))]
 pub(crate) fn write_beside<W: Out>(
     words: &[u8],

@@ -5,14 +5,14 @@ ghost use Rattle.cmd_base.specs.Answers.{Answers};
 ghost use Rattle.cmd_base.specs.Texts.{named_of, ComesFrom};
 ghost use Rattle.schedule_replay.specs.declared.reordered_runs.showing.Shown.TheVariants.{Replay};
 ghost use Rattle.cmd_explain_race.specs.Finding.{HasShown, origin_of};
-ghost use Rattle.cmd_explain_race.specs.Turning.{IsWitness};
-ghost use Rattle.cmd_draw.specs.Witness.Answers.{picture_said};
+ghost use Rattle.cmd_explain_race.specs.Reordering.{IsWitness};
+ghost use Rattle.cmd_draw.specs.Witness.Answers.{picture_exit};
 ghost use Rattle.cmd_draw.specs.Witness.Drawing.{other_title, IsSubject, AreStaged, AreDrawn, WritesOne, DrawsSo};
 ghost use Rattle.cmd_draw.specs.Witness.Drawing.{DrawsWitness, DrawsWitnessText};
 
 use crate::witness::beside::{Marked, write_beside};
 use crate::witness::counterparts::counterpart;
-use crate::witness::error::Undrawn;
+use crate::witness::error::PictureError;
 use crate::witness::stage::{Stage, picture_of, stage_of, whole};
 use chart::{Chart, InstanceNo};
 use closure::Closure;
@@ -47,8 +47,8 @@ struct Subject<'a> {
     pair: Pair,
 }
 
-/// What stands above the witness's picture. It is lent as long as the chart's own title, since both pictures are held at
-/// once.
+/// What stands above the witness's picture. It is lent as long as the chart's own title, since both pictures are held
+/// at once.
 #[tactic(auto, unfolding(crate::specs::Witness::Drawing::other_title))]
 fn other_title<'a>(_wanted: &'a Wanted<'a>) -> &'a [u8]
     ensures { result.now ≡ other_title }
@@ -171,13 +171,13 @@ fn draw_source<'a, W: Out>(
     asked: &'a Asked<'a>,
     wanted: &'a Wanted<'a>,
     out: &mut W,
-) -> Result<Witnessed, Undrawn>
+) -> Result<Witnessed, PictureError>
     requires { ComesFrom source.now }
     ensures { DrawsWitness W.sink out.old out.new asked.now wanted.now source.now result }
 {
     let columns = match columns_in(alloc, source.names(), wanted.only) {
         Ok(columns) => columns,
-        Err(error) => return Err(Undrawn::Columns(error)),
+        Err(error) => return Err(PictureError::Columns(error)),
     };
     let found = found_in(alloc, source, asked)?;
     let witnessed = judged(source, &found)?;
@@ -199,7 +199,7 @@ fn draw_text<W: Out>(
     asked: &Asked<'_>,
     wanted: &Wanted<'_>,
     out: &mut W,
-) -> Result<Witnessed, Undrawn>
+) -> Result<Witnessed, PictureError>
     ensures { DrawsWitnessText W.sink out.old out.new asked.now wanted.now bytes.now result }
 {
     let text = Text::read(alloc, bytes)?;
@@ -209,10 +209,10 @@ fn draw_text<W: Out>(
 
 /// Writes a picture, as SVG text, of the chart that the bytes of a file say, or of what the schedule comes to that they
 /// say, and beside it that of a run in which two events stand the other way round. Writes to `err` what
-/// [`cmd_explain_race::witness`] tells of the pair, or the line of a refusal. Answers the exit status, also as that does: 0 where the
-/// pair is enforced, 1 where both were drawn, 2 after a refusal. The text's faults are refused first, then F34, then what
-/// is refused of a witness. Nothing is written to `out` before a refusal, but where writing to it failed (F24). A failed
-/// write to `err` changes nothing.
+/// [`cmd_explain_race::witness`] tells of the pair, or the line of a refusal. Answers the exit status, also as that
+/// does: 0 where the pair is enforced, 1 where both were drawn, 2 after a refusal. The text's faults are refused first,
+/// then F34, then what is refused of a witness. Nothing is written to `out` before a refusal, but where writing to it
+/// failed (F24). A failed write to `err` changes nothing.
 pub fn draw_witness<W: Out, V: Out>(
     alloc: Global,
     bytes: &[u8],
@@ -221,7 +221,7 @@ pub fn draw_witness<W: Out, V: Out>(
     out: &mut W,
     err: &mut V,
 ) -> u8
-    ensures { Answers (DrawsWitnessText W.sink out.old out.new asked.now wanted.now bytes.now) picture_said
+    ensures { Answers (DrawsWitnessText W.sink out.old out.new asked.now wanted.now bytes.now) picture_exit
         V.sink err.old err.new result }
 {
     answered(&draw_text(alloc, bytes, asked, wanted, out), err)

@@ -1,5 +1,5 @@
 //! Why nothing was drawn.
-ghost use Rattle.cmd_draw.specs.Witness.Answers.{undrawn_said};
+ghost use Rattle.cmd_draw.specs.Witness.Answers.{picture_error_exit};
 
 use cmd_base::columns::FormatError;
 use cmd_base::pairs::ViewError;
@@ -8,48 +8,48 @@ use texts::Out;
 
 /// Why nothing was drawn: the first of these that applies.
 #[derive(Debug, Drop)]
-pub enum Undrawn {
+pub enum PictureError {
     /// An instance is named that the chart doesn't have, or one twice.
     Columns(FormatError),
     /// What is refused of a witness.
     Pair(ViewError),
 }
 
-impl From<ProgramError> for Undrawn {
+impl From<ProgramError> for PictureError {
     ghost use Rattle.std.specs.Prelude.{◌≡◌};
     ghost use Rattle.cmd_base.specs.declared.pairs.error.ViewError.TheVariants.{Program};
-    ghost use Rattle.cmd_draw.specs.declared.witness.error.Undrawn.TheVariants.{Pair};
+    ghost use Rattle.cmd_draw.specs.declared.witness.error.PictureError.TheVariants.{Pair};
 
     ghost from_gives = { λ cause e. e ≡ Pair (Program cause) };
 
-    fn from(cause: ProgramError) -> Undrawn {
-        Undrawn::Pair(ViewError::Program(cause))
+    fn from(cause: ProgramError) -> PictureError {
+        PictureError::Pair(ViewError::Program(cause))
     }
 }
 
-impl From<ViewError> for Undrawn {
+impl From<ViewError> for PictureError {
     ghost use Rattle.std.specs.Prelude.{◌≡◌};
-    ghost use Rattle.cmd_draw.specs.declared.witness.error.Undrawn.TheVariants.{Pair};
+    ghost use Rattle.cmd_draw.specs.declared.witness.error.PictureError.TheVariants.{Pair};
 
     ghost from_gives = { λ cause e. e ≡ Pair cause };
 
-    fn from(cause: ViewError) -> Undrawn {
-        Undrawn::Pair(cause)
+    fn from(cause: ViewError) -> PictureError {
+        PictureError::Pair(cause)
     }
 }
 
 /// A refusal's line, with status 2.
-impl Answer for Undrawn {
-    ghost said = { undrawn_said };
+impl Answer for PictureError {
+    ghost exit = { picture_error_exit };
 
     fn status(&self) -> u8 {
         2
     }
 
-    fn tell<V: Out>(&self, err: &mut V) {
+    fn print_diagnostics<V: Out>(&self, err: &mut V) {
         match self {
-            Undrawn::Columns(error) => error.tell(err),
-            Undrawn::Pair(error) => error.tell(err),
+            PictureError::Columns(error) => error.print_diagnostics(err),
+            PictureError::Pair(error) => error.print_diagnostics(err),
         }
     }
 }

@@ -1,10 +1,10 @@
 -- What `mscview why`, `mscview witness` and `mscview mend` leave, where they write into memory.
 use Rattle.std.specs.Prelude.{◌≡◌, ℕ, List, [], Some, None}
 use Rattle.cmd_base.specs.Answers.{Answers}
-use Rattle.cmd_mend.specs.Answers.{mend_said}
+use Rattle.cmd_mend.specs.Answers.{mend_exit}
 use Rattle.cmd_mend.specs.Showing.{ShowsText}
 use Rattle.texts.specs.Outs.{Sink, Stored}
-use Rattle.cmd_explain_race.specs.Answers.{why_said, witness_said}
+use Rattle.cmd_explain_race.specs.Answers.{why_exit, witness_exit}
 use Rattle.cmd_explain_race.specs.Views.{Whys}
 use Rattle.cmd_explain_race.specs.Witnessing.{Witnesses}
 use Rattle.cmd_base.specs.declared.pairs.pair.Asked.{Asked}
@@ -25,15 +25,15 @@ pub record IsWhole (left : Left) : Type 0 where
 
 -- `why` leaves this of two events
 pub record IsWhy (bytes : List ℕ) (asked : Asked) (left : Left) : Type 0 where
-  pub answers : Answers (Whys memory none left.out bytes asked) why_said memory none left.err left.status
+  pub answers : Answers (Whys memory none left.out bytes asked) why_exit memory none left.err left.status
   pub whole : IsWhole left
 
 -- `witness` does
 pub record IsWitness (bytes : List ℕ) (asked : Asked) (left : Left) : Type 0 where
-  pub answers : Answers (Witnesses memory none left.out bytes asked) witness_said memory none left.err left.status
+  pub answers : Answers (Witnesses memory none left.out bytes asked) witness_exit memory none left.err left.status
   pub whole : IsWhole left
 
 -- `mend` does, where no name is asked for
 pub record IsMend (bytes : List ℕ) (asked : Asked) (left : Left) : Type 0 where
-  pub answers : Answers (ShowsText memory none left.out (record { asked = asked; name = None }) bytes) mend_said memory none left.err left.status
+  pub answers : Answers (ShowsText memory none left.out (record { asked = asked; name = None }) bytes) mend_exit memory none left.err left.status
   pub whole : IsWhole left

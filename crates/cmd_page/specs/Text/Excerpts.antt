@@ -29,17 +29,17 @@ line_text x number line = word_text (start_of x number) ++ (escaped line ++ word
 
 -- what stands for lines that aren't, once for neighbours
 abbrev pub gap_text : Bool → List ℕ
-gap_text is_told = if is_told then [] else word_text words.Gap
+gap_text follows_gap = if follows_gap then [] else word_text words.Gap
 
 -- a line, or what stands for it
 abbrev pub next_text : Excerpt → ℕ → Bool → List ℕ → List ℕ
-next_text x number is_told line = if is_shown x number then line_text x number line else gap_text is_told
+next_text x number follows_gap line = if is_shown x number then line_text x number line else gap_text follows_gap
 
 -- the lines from one on; numbers stop at u64::MAX
 abbrev pub lines_text : Excerpt → ℕ → Bool → List (List ℕ) → List ℕ
-lines_text x number is_told [] = []
-lines_text x number is_told (line ∷ lines) =
-    next_text x number is_told line ++ lines_text x (one_more number) (not (is_shown x number)) lines
+lines_text x number follows_gap [] = []
+lines_text x number follows_gap (line ∷ lines) =
+    next_text x number follows_gap line ++ lines_text x (one_more number) (not (is_shown x number)) lines
 
 -- the lines that are shown
 abbrev pub excerpt_text : Excerpt → List ℕ

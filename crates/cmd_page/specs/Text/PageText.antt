@@ -31,21 +31,21 @@ abbrev pub race_word : ℕ → Word
 race_word n = if n == 1 then words.OneRace else words.Races
 
 -- how many of them are told in full
-unfoldable pub some_told : ℕ → List ℕ
-some_told told = word_text words.ToldStart ++ (decimal told ++ word_text words.ToldEnd)
+unfoldable pub some_explained : ℕ → List ℕ
+some_explained explained = word_text words.ExplainedStart ++ (decimal explained ++ word_text words.ExplainedEnd)
 
 -- the same where not all are
-abbrev pub told_text : ℕ → ℕ → List ℕ
-told_text races told = if nat_lt told races then some_told told else []
+abbrev pub explained_text : ℕ → ℕ → List ℕ
+explained_text races explained = if nat_lt explained races then some_explained explained else []
 
 -- how many races there are, and where not all are told in full, how many are
 unfoldable pub counts_text : ℕ → ℕ → List ℕ
-counts_text races told = word_text words.CountStart ++ (decimal races ++ (word_text (race_word races)
-    ++ (told_text races told ++ controls)))
+counts_text races explained = word_text words.CountStart ++ (decimal races ++ (word_text (race_word races)
+    ++ (explained_text races explained ++ controls)))
 
 -- the title, and the picture
 unfoldable pub top_text : Page → List ℕ
-top_text page = word_text words.HeadStart ++ (escaped page.title.now ++ (counts_text (length page.races.now) page.told
+top_text page = word_text words.HeadStart ++ (escaped page.title.now ++ (counts_text (length page.races.now) page.explained
     ++ (word_text words.PictureStart ++ (page.picture.now ++ word_text words.RacesStart))))
 
 -- all of it

@@ -24,8 +24,8 @@ numbers_text race = word_text words.Last ++ (decimal race.last ++ (word_text wor
     ++ (flat_map behind_space race.also.items ++ word_text words.NumbersEnd)))))
 
 -- its line and what is told of it
-unfoldable pub told_text : List ℕ → Answers → List ℕ
-told_text line answers = word_text words.SummaryStart ++ (escaped line ++ (word_text words.Why
+unfoldable pub explained_text : List ℕ → Answers → List ℕ
+explained_text line answers = word_text words.SummaryStart ++ (escaped line ++ (word_text words.Why
     ++ (excerpt_text answers.why ++ (word_text words.Witness ++ (excerpt_text answers.witness
     ++ (word_text words.Mend ++ (excerpt_text answers.mend ++ word_text words.SummaryEnd)))))))
 
@@ -35,7 +35,7 @@ short_text line = word_text words.ShortStart ++ (escaped line ++ word_text words
 
 abbrev pub answers_text : List ℕ → Option Answers → List ℕ
 answers_text line None = short_text line
-answers_text line (Some answers) = told_text line answers
+answers_text line (Some answers) = explained_text line answers
 
 -- all of it
 unfoldable pub race_text : Race → List ℕ

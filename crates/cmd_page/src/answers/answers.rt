@@ -1,6 +1,6 @@
 //! What a page tells of a race: why it is one, another order, and a message by which it goes.
 ghost use Rattle.std.specs.Prelude.{◌≡◌, ◌++◌, IfOk};
-ghost use Rattle.cmd_base.specs.Texts.{IsSaid};
+ghost use Rattle.cmd_base.specs.Texts.{IsReadAs};
 ghost use Rattle.cmd_page.specs.Answers.Answering.{plus, texts, IsWhyExcerpt, IsWitnessExcerpt, IsMendExcerpt, AreAnswers};
 
 use crate::answers::left::{Left, mend_left, why_left, witness_left};
@@ -45,7 +45,7 @@ fn texts(left: Left) -> Result<Vec<u8>, AllocError>
 
 /// Of why it is a race: what has to come before the receive, and the line's rows round the two events.
 fn why_of(alloc: Global, subject: &Subject<'_>) -> Result<Excerpt, AllocError>
-    requires { IsSaid subject.now.bytes.now subject.now.source.now }
+    requires { IsReadAs subject.now.bytes.now subject.now.source.now }
     ensures { IfOk result (IsWhyExcerpt subject.now) }
 {
     let left = why_left(alloc, subject.source, &subject.asked)?;
@@ -60,7 +60,7 @@ fn why_of(alloc: Global, subject: &Subject<'_>) -> Result<Excerpt, AllocError>
 
 /// Of the other order: the instances, the capacity, and the commands round the two events.
 fn witness_of(alloc: Global, subject: &Subject<'_>) -> Result<Excerpt, AllocError>
-    requires { IsSaid subject.now.bytes.now subject.now.source.now }
+    requires { IsReadAs subject.now.bytes.now subject.now.source.now }
     ensures { IfOk result (IsWitnessExcerpt subject.now) }
 {
     let left = witness_left(alloc, subject.source, &subject.asked)?;
@@ -91,7 +91,7 @@ fn witness_of(alloc: Global, subject: &Subject<'_>) -> Result<Excerpt, AllocErro
 
 /// Of the message by which it goes: the first lines of what is told.
 fn mend_of(alloc: Global, subject: &Subject<'_>) -> Result<Excerpt, AllocError>
-    requires { IsSaid subject.now.bytes.now subject.now.source.now }
+    requires { IsReadAs subject.now.bytes.now subject.now.source.now }
     ensures { IfOk result (IsMendExcerpt subject.now) }
 {
     let left = mend_left(alloc, subject.source, &subject.asked)?;
@@ -110,7 +110,7 @@ fn mend_of(alloc: Global, subject: &Subject<'_>) -> Result<Excerpt, AllocError>
 
 /// All of it. The file is read once for all of its races: the source is what its bytes say.
 pub fn answers_of(alloc: Global, subject: &Subject<'_>) -> Result<Answers, AllocError>
-    requires { IsSaid subject.now.bytes.now subject.now.source.now }
+    requires { IsReadAs subject.now.bytes.now subject.now.source.now }
     ensures { IfOk result (AreAnswers subject.now) }
 {
     Ok(Answers {

@@ -6,8 +6,8 @@ use std::alloc::Global;
 use std::marker::Model;
 use texts::{Out, OutFault};
 
-/// An [`Out`] over memory, which tells its bytes and whether a put failed. A put fails where there is no memory left for
-/// it.
+/// An [`Out`] over memory, which tells its bytes and whether a put failed. A put fails where there is no memory left
+/// for it.
 #[derive(Drop)]
 pub struct Collected {
     bytes: Vec<u8>,

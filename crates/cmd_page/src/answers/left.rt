@@ -1,6 +1,6 @@
 //! What the commands leave of two events: their output, what they tell, and their status.
 ghost use Rattle.std.specs.Prelude.{ℕ, List, IfOk, IsTrue};
-ghost use Rattle.cmd_base.specs.Texts.{ComesFrom, IsSaid};
+ghost use Rattle.cmd_base.specs.Texts.{ComesFrom, IsReadAs};
 ghost use Rattle.cmd_page.specs.Answers.Leaving.{IsWhole, IsWhy, IsWitness, IsMend};
 
 use crate::answers::collected::Collected;
@@ -34,7 +34,7 @@ pub(crate) fn why_left(
     source: &Source<'_>,
     asked: &Asked<'_>,
 ) -> Result<Left, AllocError>
-    ensures { IfOk result (λ left. (bytes : List ℕ) → IsSaid bytes source.now → IsWhy bytes asked.now left) }
+    ensures { IfOk result (λ left. (bytes : List ℕ) → IsReadAs bytes source.now → IsWhy bytes asked.now left) }
 {
     let mut out = Collected::new(alloc);
     let mut err = Collected::new(alloc);
@@ -53,7 +53,7 @@ pub(crate) fn witness_left(
     asked: &Asked<'_>,
 ) -> Result<Left, AllocError>
     requires { ComesFrom source.now }
-    ensures { IfOk result (λ left. (bytes : List ℕ) → IsSaid bytes source.now → IsWitness bytes asked.now left) }
+    ensures { IfOk result (λ left. (bytes : List ℕ) → IsReadAs bytes source.now → IsWitness bytes asked.now left) }
 {
     let mut out = Collected::new(alloc);
     let mut err = Collected::new(alloc);
@@ -71,7 +71,7 @@ pub(crate) fn mend_left(
     source: &Source<'_>,
     asked: &Asked<'_>,
 ) -> Result<Left, AllocError>
-    ensures { IfOk result (λ left. (bytes : List ℕ) → IsSaid bytes source.now → IsMend bytes asked.now left) }
+    ensures { IfOk result (λ left. (bytes : List ℕ) → IsReadAs bytes source.now → IsMend bytes asked.now left) }
 {
     let wanted = cmd_mend::Wanted {
         asked: *asked,

@@ -79,8 +79,8 @@ fn front_of(events: &[Event], index: usize) -> &[Event]
     }
 }
 
-/// The number, from 1, of the line of a schedule's text at which the event of this number of the instance's line is made,
-/// or 0 where there is none.
+/// The number, from 1, of the line of a schedule's text at which the event of this number of the instance's line is
+/// made, or 0 where there is none.
 pub(crate) fn row_in(
     alloc: Global,
     names: &Names,

@@ -2,14 +2,14 @@
 ghost use Rattle.std.specs.Prelude.{◌≡◌, Some};
 ghost use Rattle.diagram_import.specs.Importing.{options_view};
 ghost use Rattle.cmd_base.specs.Answers.{Answers};
-ghost use Rattle.cmd_page.specs.Imports.Drawings.{ShowsDrawing, unshown_said, page_said};
+ghost use Rattle.cmd_page.specs.Imports.Drawings.{ShowsDrawing, page_error_exit, page_exit};
 ghost use Rattle.cmd_page.specs.Showing.{heading_view};
 
 use crate::{Heading, show_drawn};
 use chart::InstanceNo;
 use cmd_base::{Answer, ProgramError, answered};
 use cmd_draw::imports::turns_of_text;
-use cmd_import_diagram::{Told, drawing_in, refused_drawing};
+use cmd_import_diagram::{Diagnostics, drawing_in, refused_drawing};
 use diagram_import::{ImportError, Options};
 use diagram_tool::Tool;
 use std::alloc::Global;
@@ -17,7 +17,7 @@ use texts::Out;
 
 /// Why no page was written.
 #[derive(Debug, Drop)]
-pub enum Unshown {
+pub enum PageError {
     /// The text isn't read or has no chart, or memory ran out.
     Drawing(ImportError),
     /// Memory ran out, or a write failed.
@@ -32,8 +32,8 @@ fn heading_of<'a>(title: &'a [u8], turns: &'a [InstanceNo]) -> Heading<'a>
     Heading { title, turns }
 }
 
-/// Reads the text and writes the page of its chart, with its picture in the rows of the diagram. All memory is taken before
-/// the first byte is written.
+/// Reads the text and writes the page of its chart, with its picture in the rows of the diagram. All memory is taken
+/// before the first byte is written.
 #[tactic(auto, unfolding(crate::specs::Imports::Drawings::ShowsDrawing))]
 fn show<W: Out>(
     alloc: Global,
@@ -42,46 +42,46 @@ fn show<W: Out>(
     options: Options<'_>,
     title: &[u8],
     out: &mut W,
-) -> Result<Told, Unshown>
+) -> Result<Diagnostics, PageError>
     ensures { ShowsDrawing W.sink out.old out.new tool text.now (options_view options.entry) title.now result }
 {
     let drawing = match drawing_in(alloc, tool, text, options) {
         Ok(drawing) => drawing,
-        Err(error) => return Err(Unshown::Drawing(error)),
+        Err(error) => return Err(PageError::Drawing(error)),
     };
     let Ok(turns) = turns_of_text(alloc, tool, text, &options) else {
-        return Err(Unshown::Drawing(ImportError::Memory));
+        return Err(PageError::Drawing(ImportError::Memory));
     };
     let heading = heading_of(title, turns.as_slice());
     match show_drawn(alloc, &drawing.names, &drawing.chart, &heading, out) {
-        Ok(()) => Ok(drawing.told),
-        Err(error) => Err(Unshown::Page(error)),
+        Ok(()) => Ok(drawing.diagnostics),
+        Err(error) => Err(PageError::Page(error)),
     }
 }
 
 /// A refusal's line, with status 2.
-impl Answer for Unshown {
-    ghost said = { unshown_said };
+impl Answer for PageError {
+    ghost exit = { page_error_exit };
 
     fn status(&self) -> u8 {
         2
     }
 
-    fn tell<V: Out>(&self, err: &mut V) {
+    fn print_diagnostics<V: Out>(&self, err: &mut V) {
         match self {
-            Unshown::Drawing(error) => {
+            PageError::Drawing(error) => {
                 let _ = refused_drawing(error, err);
             }
-            Unshown::Page(error) => error.tell(err),
+            PageError::Page(error) => error.print_diagnostics(err),
         }
     }
 }
 
-/// Writes the page of the chart that a tool's text says, of the tool that is named or that the text tells: that of the text
-/// which `mscview import` writes, with the events of its picture in the order of the diagram's rows. On `err` is told what an
-/// import tells of the chart. Writes the line of a refusal to `err`. Answers the exit status: 0 where it was written, 2 after
-/// a refusal. The refusals are those of an import. Nothing is written to `out` before a refusal, but where writing to it
-/// failed (F24). A failed write to `err` changes nothing.
+/// Writes the page of the chart that a tool's text says, of the tool that is named or that the text tells: that of the
+/// text which `mscview import` writes, with the events of its picture in the order of the diagram's rows. On `err` is
+/// told what an import tells of the chart. Writes the line of a refusal to `err`. Answers the exit status: 0 where it
+/// was written, 2 after a refusal. The refusals are those of an import. Nothing is written to `out` before a refusal,
+/// but where writing to it failed (F24). A failed write to `err` changes nothing.
 pub fn page_of_drawing<W: Out, V: Out>(
     alloc: Global,
     tool: Option<Tool>,
@@ -92,7 +92,7 @@ pub fn page_of_drawing<W: Out, V: Out>(
     err: &mut V,
 ) -> u8
     ensures { Answers (ShowsDrawing W.sink out.old out.new tool text.now (options_view options.entry) title.now)
-        page_said V.sink err.old err.new result }
+        page_exit V.sink err.old err.new result }
 {
     answered(&show(alloc, tool, text, options, title, out), err)
 }

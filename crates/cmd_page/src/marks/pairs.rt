@@ -1,12 +1,12 @@
 //! The races of a page: each range of earlier events of each receive.
 ghost use Rattle.std.specs.Prelude.{◌≡◌, ◌++◌, All, IfOk, OnOk};
-ghost use Rattle.cmd_page.specs.Marks.Pairing.{HasRange, pairs_in, pairs_of, told_of};
+ghost use Rattle.cmd_page.specs.Marks.Pairing.{HasRange, pairs_in, pairs_of, explained_of};
 
 use chart::{EventNo, EventRange, Report};
 use std::alloc::{AllocError, Global};
 
 /// So many races of a page are told in full at most.
-pub const MOST_TOLD: u64 = 100;
+pub const MOST_EXPLAINED: u64 = 100;
 
 /// None is, where the file has more bytes.
 pub const MOST_BYTES: usize = 131_072;
@@ -47,12 +47,12 @@ pub fn pairs_of(alloc: Global, reports: &[Report]) -> Result<Vec<RaceRange>, All
 }
 
 /// How many of so many races are told in full, where the file has so many bytes.
-pub fn told_of(bytes: usize, races: usize) -> u64
-    ensures { result ≡ told_of bytes races }
+pub fn explained_of(bytes: usize, races: usize) -> u64
+    ensures { result ≡ explained_of bytes races }
 {
     if bytes > MOST_BYTES {
         0
     } else {
-        MOST_TOLD.min(races as u64)
+        MOST_EXPLAINED.min(races as u64)
     }
 }

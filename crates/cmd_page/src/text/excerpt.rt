@@ -9,8 +9,8 @@ use crate::text::word::{Word, add_word};
 use texts::pieces::{Piece, add_pieces};
 use texts::{Out, TextBuffer, WriteError, next_line};
 
-/// A text, and which of its lines are shown: so many first ones, and the lines round two others, each by its number from
-/// 1. Where there is no such line, its number is 0.
+/// A text, and which of its lines are shown: so many first ones, and the lines round two others, each by its number
+/// from 1. Where there is no such line, its number is 0.
 #[derive(Drop)]
 pub struct Excerpt {
     pub text: Vec<u8>,
@@ -60,7 +60,10 @@ fn end_of(excerpt: &Excerpt, line: u64) -> Word
 }
 
 /// Adds bytes that may be any.
-pub(crate) fn add_any<W: Out>(text: &mut TextBuffer<'_, W>, bytes: &[u8]) -> Result<(), WriteError>
+pub(crate) fn add_escaped<W: Out>(
+    text: &mut TextBuffer<'_, W>,
+    bytes: &[u8],
+) -> Result<(), WriteError>
     ensures { Adds W.sink text.old text.new result (escaped bytes.now) }
 {
     add_pieces(text, &[Piece::Escaped(bytes)])
@@ -77,15 +80,15 @@ fn add_line<W: Out>(
     ensures { Adds W.sink text.old text.new result (line_text excerpt.now number line.now) }
 {
     add_word(text, start_of(excerpt, number))?;
-    add_any(text, line)?;
+    add_escaped(text, line)?;
     add_word(text, end_of(excerpt, number))
 }
 
 /// Adds what stands for lines that aren't shown, once.
-fn add_gap<W: Out>(text: &mut TextBuffer<'_, W>, is_told: bool) -> Result<(), WriteError>
-    ensures { Adds W.sink text.old text.new result (gap_text is_told) }
+fn add_gap<W: Out>(text: &mut TextBuffer<'_, W>, follows_gap: bool) -> Result<(), WriteError>
+    ensures { Adds W.sink text.old text.new result (gap_text follows_gap) }
 {
-    if is_told {
+    if follows_gap {
         text.add(b"")
     } else {
         add_word(text, Word::Gap)
@@ -97,15 +100,15 @@ fn add_next<W: Out>(
     text: &mut TextBuffer<'_, W>,
     excerpt: &Excerpt,
     number: u64,
-    is_told: bool,
+    follows_gap: bool,
     line: &[u8],
 ) -> Result<(), WriteError>
-    ensures { Adds W.sink text.old text.new result (next_text excerpt.now number is_told line.now) }
+    ensures { Adds W.sink text.old text.new result (next_text excerpt.now number follows_gap line.now) }
 {
     if is_shown(excerpt, number) {
         add_line(text, excerpt, number, line)
     } else {
-        add_gap(text, is_told)
+        add_gap(text, follows_gap)
     }
 }
 
@@ -118,10 +121,10 @@ pub(crate) fn add_excerpt<W: Out>(
 {
     let mut rest = excerpt.text.as_slice();
     let mut number = 1u64;
-    let mut is_told = false;
+    let mut follows_gap = false;
     'lines: while let Some((line, others)) = next_line(rest) {
-        add_next(text, excerpt, number, is_told, line)?;
-        is_told = !is_shown(excerpt, number);
+        add_next(text, excerpt, number, follows_gap, line)?;
+        follows_gap = !is_shown(excerpt, number);
         number = number.saturating_add(1);
         rest = others;
     }

@@ -2,11 +2,11 @@
 ghost use Rattle.std.specs.Prelude.{◌≡◌};
 ghost use Rattle.std.specs.List.{flat_map};
 ghost use Rattle.texts.specs.Writing.{Adds, Wrote};
-ghost use Rattle.cmd_page.specs.Text.PageText.{policy, style, controls, script, head_text, race_word, some_told, told_text};
+ghost use Rattle.cmd_page.specs.Text.PageText.{policy, style, controls, script, head_text, race_word, some_explained, explained_text};
 ghost use Rattle.cmd_page.specs.Text.PageText.{counts_text, top_text, page_text};
 ghost use Rattle.cmd_page.specs.Text.RaceText.{race_text};
 
-use crate::text::excerpt::add_any;
+use crate::text::excerpt::add_escaped;
 use crate::text::fixed::{CONTROLS, POLICY, SCRIPT, STYLE};
 use crate::text::race::{Race, add_race};
 use crate::text::word::{Word, add_word};
@@ -21,7 +21,7 @@ pub struct Page<'a> {
     pub picture: &'a [u8],
     pub races: &'a [Race],
     /// How many of the races are told in full.
-    pub told: u64,
+    pub explained: u64,
 }
 
 /// Adds what the page may do: show itself, and run its own script.
@@ -60,7 +60,7 @@ fn add_head<W: Out>(text: &mut TextBuffer<'_, W>, title: &[u8]) -> Result<(), Wr
 {
     add_word(text, Word::PageStart)?;
     add_policy(text)?;
-    add_any(text, title)?;
+    add_escaped(text, title)?;
     add_word(text, Word::StyleStart)?;
     add_style(text)
 }
@@ -77,21 +77,28 @@ fn race_word(races: u64) -> Word
 }
 
 /// Adds how many races are told in full.
-#[tactic(auto, using(texts::proofs::Writes::joining), unfolding(crate::specs::Text::PageText::some_told))]
-fn add_some_told<W: Out>(text: &mut TextBuffer<'_, W>, told: u64) -> Result<(), WriteError>
-    ensures { Adds W.sink text.old text.new result (some_told told) }
+#[tactic(auto, using(texts::proofs::Writes::joining), unfolding(crate::specs::Text::PageText::some_explained))]
+fn add_some_explained<W: Out>(
+    text: &mut TextBuffer<'_, W>,
+    explained: u64,
+) -> Result<(), WriteError>
+    ensures { Adds W.sink text.old text.new result (some_explained explained) }
 {
-    add_word(text, Word::ToldStart)?;
-    text.add_number(told)?;
-    add_word(text, Word::ToldEnd)
+    add_word(text, Word::ExplainedStart)?;
+    text.add_number(explained)?;
+    add_word(text, Word::ExplainedEnd)
 }
 
 /// Adds the same, where not all are.
-fn add_told<W: Out>(text: &mut TextBuffer<'_, W>, races: u64, told: u64) -> Result<(), WriteError>
-    ensures { Adds W.sink text.old text.new result (told_text races told) }
+fn add_explained<W: Out>(
+    text: &mut TextBuffer<'_, W>,
+    races: u64,
+    explained: u64,
+) -> Result<(), WriteError>
+    ensures { Adds W.sink text.old text.new result (explained_text races explained) }
 {
-    if told < races {
-        add_some_told(text, told)
+    if explained < races {
+        add_some_explained(text, explained)
     } else {
         text.add(b"")
     }
@@ -99,13 +106,17 @@ fn add_told<W: Out>(text: &mut TextBuffer<'_, W>, races: u64, told: u64) -> Resu
 
 /// Adds how many races the page has, and where not all of them are told in full, how many are.
 #[tactic(auto, using(texts::proofs::Writes::joining), unfolding(crate::specs::Text::PageText::counts_text))]
-fn add_counts<W: Out>(text: &mut TextBuffer<'_, W>, races: u64, told: u64) -> Result<(), WriteError>
-    ensures { Adds W.sink text.old text.new result (counts_text races told) }
+fn add_counts<W: Out>(
+    text: &mut TextBuffer<'_, W>,
+    races: u64,
+    explained: u64,
+) -> Result<(), WriteError>
+    ensures { Adds W.sink text.old text.new result (counts_text races explained) }
 {
     add_word(text, Word::CountStart)?;
     text.add_number(races)?;
     add_word(text, race_word(races))?;
-    add_told(text, races, told)?;
+    add_explained(text, races, explained)?;
     add_controls(text)
 }
 
@@ -115,8 +126,8 @@ fn add_top<W: Out>(text: &mut TextBuffer<'_, W>, page: &Page<'_>) -> Result<(), 
     ensures { Adds W.sink text.old text.new result (top_text page.now) }
 {
     add_word(text, Word::HeadStart)?;
-    add_any(text, page.title)?;
-    add_counts(text, page.races.len() as u64, page.told)?;
+    add_escaped(text, page.title)?;
+    add_counts(text, page.races.len() as u64, page.explained)?;
     add_word(text, Word::PictureStart)?;
     text.add(page.picture)?;
     add_word(text, Word::RacesStart)

@@ -2,9 +2,9 @@
 ghost use Rattle.std.specs.Prelude.{◌≡◌};
 ghost use Rattle.std.specs.List.{flat_map};
 ghost use Rattle.texts.specs.Writing.{Adds};
-ghost use Rattle.cmd_page.specs.Text.RaceText.{behind_space, numbers_text, id_text, told_text, short_text, answers_text, race_text};
+ghost use Rattle.cmd_page.specs.Text.RaceText.{behind_space, numbers_text, id_text, explained_text, short_text, answers_text, race_text};
 
-use crate::text::excerpt::{Excerpt, add_any, add_excerpt};
+use crate::text::excerpt::{Excerpt, add_escaped, add_excerpt};
 use crate::text::word::{Word, add_word};
 use chart::EventNo;
 use texts::{Out, TextBuffer, WriteError};
@@ -85,16 +85,16 @@ fn add_race_numbers<W: Out>(text: &mut TextBuffer<'_, W>, race: &Race) -> Result
 }
 
 /// Adds the line of a race and what is told of it.
-#[tactic(auto, using(texts::proofs::Writes::joining), unfolding(crate::specs::Text::RaceText::told_text))]
-fn add_told<W: Out>(
+#[tactic(auto, using(texts::proofs::Writes::joining), unfolding(crate::specs::Text::RaceText::explained_text))]
+fn add_explained<W: Out>(
     text: &mut TextBuffer<'_, W>,
     line: &[u8],
     answers: &Answers,
 ) -> Result<(), WriteError>
-    ensures { Adds W.sink text.old text.new result (told_text line.now answers.now) }
+    ensures { Adds W.sink text.old text.new result (explained_text line.now answers.now) }
 {
     add_word(text, Word::SummaryStart)?;
-    add_any(text, line)?;
+    add_escaped(text, line)?;
     add_word(text, Word::Why)?;
     add_excerpt(text, &answers.why)?;
     add_word(text, Word::Witness)?;
@@ -110,7 +110,7 @@ fn add_short<W: Out>(text: &mut TextBuffer<'_, W>, line: &[u8]) -> Result<(), Wr
     ensures { Adds W.sink text.old text.new result (short_text line.now) }
 {
     add_word(text, Word::ShortStart)?;
-    add_any(text, line)?;
+    add_escaped(text, line)?;
     add_word(text, Word::ShortEnd)
 }
 
@@ -122,7 +122,7 @@ fn add_answers<W: Out>(
     ensures { Adds W.sink text.old text.new result (answers_text line.now answers.now) }
 {
     match answers {
-        Some(answers) => add_told(text, line, answers),
+        Some(answers) => add_explained(text, line, answers),
         None => add_short(text, line),
     }
 }

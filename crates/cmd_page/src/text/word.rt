@@ -61,9 +61,9 @@ pub(crate) enum Word {
     /// Behind it, where there are none or several.
     Races,
     /// Before the number of those that are told in full.
-    ToldStart,
+    ExplainedStart,
     /// Behind it.
-    ToldEnd,
+    ExplainedEnd,
     /// Before the picture.
     PictureStart,
     /// Before the races.
@@ -106,8 +106,8 @@ fn word_of(word: &Word) -> &[u8]
         Word::CountStart => b"</h1>\n<p>",
         Word::OneRace => b" race",
         Word::Races => b" races",
-        Word::ToldStart => b", ",
-        Word::ToldEnd => b" of them told in full",
+        Word::ExplainedStart => b", ",
+        Word::ExplainedEnd => b" of them told in full",
         Word::PictureStart => b"</header>\n<main id=\"picture\">\n",
         Word::RacesStart => b"</main>\n<section id=\"list\">\n<ol id=\"races\">\n",
         Word::ScriptStart => b"</ol>\n</section>\n<script>\n",

@@ -33,7 +33,7 @@ use Rattle.log_chart.specs.declared.named.entering.LogError.TheVariants.{Instanc
 use Rattle.log_chart.proofs.CyclesLemmas.SettleLemmas.{settled_streams, settled_among}
 use Rattle.log_chart.proofs.NamedLemmas.EntryLemmas.{have_streams, are_among}
 use Rattle.cmd_import_log.specs.Drawing.{named_in}
-use Rattle.cmd_import_log.specs.Entries.{said_of, entries_in, names_in}
+use Rattle.cmd_import_log.specs.Entries.{host_event_of, entries_in, names_in}
 use Rattle.cmd_import_log.specs.Options.{OptionsView}
 use Rattle.cmd_import_log.specs.Recording.{lent_of, IsRecordingOf}
 use Rattle.cmd_import_log.specs.declared.recording.LogRecording.{LogRecording}
@@ -140,7 +140,7 @@ numbered_chart n log i l is =
 pub is_numbered : (o : OptionsView) (texts : List (List ℕ)) (r : LogRecording) → IsRecordingOf o texts r → IsNumbered r.drawing.chart
 is_numbered o texts r its =
     let drawing = its.recording.drawing in
-    subst IsNumbered (sym (drawing.chart ∙ drawing.is_drawn.chart)) (numbered_chart (length (names_in (named_in o its.log))) drawing.settled)
+    subst IsNumbered (sym (drawing.chart ∙ drawing.is_built.chart)) (numbered_chart (length (names_in (named_in o its.log))) drawing.settled)
 
 -- what the recording of a log keeps
 pub is_recording : (o : OptionsView) (texts : List (List ℕ)) (r : LogRecording) → IsRecordingOf o texts r → length r.words.items ≡ length r.lines.items → AllPairs (λ a b. a.line ≤ b.line) (lent_of r).taken
@@ -150,16 +150,16 @@ is_recording o texts r its whole rises =
     let recorded = its.recording.recorded in
     let n = named_in o its.log in
     let settled = drawing.settled in
-    let hosts = length r.drawing.told.names in
+    let hosts = length r.drawing.diagnostics.names in
     let rec : RecordingView = lent_of r in
-    let have = settled_streams (entries_in n) settled drawing.settles (have_streams n.hosts.names (map said_of n.lines)) in
+    let have = settled_streams (entries_in n) settled drawing.settles (have_streams n.hosts.names (map host_event_of n.lines)) in
     let words : length rec.words ≡ length (matched settled) = length-map r.words.items words_view ∙ whole ∙ ap length recorded.lines in
-    let names : length (names_in n) ≡ hosts = ap length (sym drawing.told.names) in
-    let none = no_fault (nat_lt MAX_INSTANCES (length (fold with_word [] n.hosts.names))) (first_fault (begun n.hosts.names) (map said_of n.lines)) drawing.faultless in
-    let two = subst (λ (k : ℕ). AreAmong k settled) names (settled_among (length (names_in n)) (entries_in n) settled drawing.settles (are_among n.hosts.names (map said_of n.lines) none)) in
+    let names : length (names_in n) ≡ hosts = ap length (sym drawing.diagnostics.names) in
+    let none = no_fault (nat_lt MAX_INSTANCES (length (fold with_word [] n.hosts.names))) (first_fault (begun n.hosts.names) (map host_event_of n.lines)) drawing.faultless in
+    let two = subst (λ (k : ℕ). AreAmong k settled) names (settled_among (length (names_in n)) (entries_in n) settled drawing.settles (are_among n.hosts.names (map host_event_of n.lines) none)) in
     let of_log = recording_of hosts settled rec.words rec.taken rec.arrivals have two words rises in
     let chart : r.drawing.chart ≡ chart_from settled 1 (host_lines hosts settled) =
-    drawing.chart ∙ drawing.is_drawn.chart ∙ ap (λ k. chart_from settled 1 (host_lines k settled)) names in
+    drawing.chart ∙ drawing.is_built.chart ∙ ap (λ k. chart_from settled 1 (host_lines k settled)) names in
     subst (λ (ls : List LineView). IsRecording ls rec) (sym chart)
     (subst (λ (ls : List LogLine). IsRecording (chart_from settled 1 (host_lines hosts settled)) (record rec { lines = ls })) (sym recorded.lines)
     (subst (λ (hs : List (List Item)). IsRecording (chart_from settled 1 (host_lines hosts settled)) (record rec { lines = matched settled; hosts = hs })) (sym recorded.hosts) of_log))

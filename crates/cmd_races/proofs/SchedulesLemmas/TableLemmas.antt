@@ -72,11 +72,11 @@ module _ (run : RunView) (p i : ℕ) (line : List Event) (its : chart_lines run.
       let r = row (kinds run.commands run.notes p) line i is in
       let made = mapped (λ (c : Command). names_sender c.action) (slice_get commands (tally is_receive line i)) true
       (sym (slice_get-map (λ (c : Command). names_sender c.action) commands (tally is_receive line i)) ∙ r.1) in
-      let turned = ap (ith commands) (turn line i r.0) ∙ made.1 in
+      let by_turn = ap (ith commands) (turn line i r.0) ∙ made.1 in
       record {
         receive = subst (λ (l : List Event). IsReceive l (suc i)) (sym its) r.0;
         command = made.0;
-        made = subst (λ (l : List Event). ith commands (tally is_receive l (suc i)) ≡ Some made.0) (sym its) turned;
+        made = subst (λ (l : List Event). ith commands (tally is_receive l (suc i)) ≡ Some made.0) (sym its) by_turn;
         names = made.2;
       }
 
@@ -84,11 +84,11 @@ module _ (run : RunView) (p i : ℕ) (line : List Event) (its : chart_lines run.
   names_back n =
       let receive = subst (λ (l : List Event). IsReceive l (suc i)) its n.receive in
       let made = subst (λ (l : List Event). ith commands (tally is_receive l (suc i)) ≡ Some n.command) its n.made in
-      let turned = ap (ith commands) (sym (turn line i receive)) ∙ made in
+      let by_turn = ap (ith commands) (sym (turn line i receive)) ∙ made in
       row_back (kinds run.commands run.notes p) line i (
         receive,
         slice_get-map (λ (c : Command). names_sender c.action) commands (tally is_receive line i)
-            ∙ ap (option_map (λ (c : Command). names_sender c.action)) turned ∙ ap Some n.names,
+            ∙ ap (option_map (λ (c : Command). names_sender c.action)) by_turn ∙ ap Some n.names,
       )
 
 -- the table of an instance's line
@@ -105,8 +105,8 @@ table_is run tables are numbered p table is =
 pub says : (run : RunView) (p i : ℕ) (table : List Bool) → table ≡ named (kinds run.commands run.notes p) (chart_lines run.lines p) → slice_get table i ≡ Some true → NamesSender run (at p (suc i))
 says run p i table its is = names run p i (chart_lines run.lines p) refl (ap (λ t. slice_get t i) (sym its) ∙ is)
 
-pub is_said : (run : RunView) (p i : ℕ) (table : List Bool) → table ≡ named (kinds run.commands run.notes p) (chart_lines run.lines p) → NamesSender run (at p (suc i)) → slice_get table i ≡ Some true
-is_said run p i table its n = ap (λ t. slice_get t i) its ∙ names_back run p i (chart_lines run.lines p) refl n
+pub is_named : (run : RunView) (p i : ℕ) (table : List Bool) → table ≡ named (kinds run.commands run.notes p) (chart_lines run.lines p) → NamesSender run (at p (suc i)) → slice_get table i ≡ Some true
+is_named run p i table its n = ap (λ t. slice_get t i) its ∙ names_back run p i (chart_lines run.lines p) refl n
 
 -- what the table says of an event of an instance's line, by its number
 pub cell : (run : RunView) (tables : List (List Bool)) → tables ≡ named_lines run.commands run.notes run.lines → IsNumbered run.lines → (p : ℕ) (table : List Bool) → slice_get tables p ≡ Some table
@@ -117,7 +117,7 @@ cell run tables are numbered p table is instance index place first =
     let number : index ≡ suc i = omega (arith, first) in
     subst (λ q. (slice_get table i ≡ Some true) ↔ NamesSender run (at q index)) (sym place)
     (subst (λ j. (slice_get table i ≡ Some true) ↔ NamesSender run (at (suc p) j)) (sym number)
-    (says run (suc p) i table its, is_said run (suc p) i table its))
+    (says run (suc p) i table its, is_named run (suc p) i table its))
 
 pub some_true : (o : Option Bool) (b : Bool) → o ≡ Some b → (N : Type 0) → (o ≡ Some true) ↔ N → IsTrue b ↔ N
 some_true o b is N by = (λ t. by.0 (is ∙ ap Some t), λ n. some_is b true (sym is ∙ by.1 n))

@@ -6,7 +6,7 @@ use Rattle.cmd_base.specs.Files.{is_schedule}
 use Rattle.cmd_base.specs.Texts.{OfFile}
 use Rattle.cmd_base.specs.declared.error.ProgramError.TheVariants as errors
 use Rattle.cmd_base.specs.declared.source.Source.{Source}
-use Rattle.cmd_base.specs.declared.source.Source.TheVariants.{Run, Drawn}
+use Rattle.cmd_base.specs.declared.source.Source.TheVariants.{Run, Written}
 use Rattle.cmd_base.specs.declared.columns.error.FormatError.{FormatError}
 use Rattle.cmd_base.specs.declared.columns.error.FormatError.TheVariants.{Program}
 use Rattle.texts.specs.Outs.{Sink}
@@ -37,7 +37,7 @@ module _ {S : Type 0} (sink : S → Sink) where
   abbrev pub ShowsRun : S → S → Result Status FormatError → Wanted → Source → Type 0
   ShowsRun old new done wanted (Run schedule outcome) =
       ShowsJudged sink (verdict_in (run_of schedule.now outcome)) old new done (luck_alone wanted) (outcome.names, outcome.chart)
-  ShowsRun old new done wanted (Drawn named) = (done ≡ Err (Program errors.Usage)) × (new ≡ old)
+  ShowsRun old new done wanted (Written named) = (done ≡ Err (Program errors.Usage)) × (new ≡ old)
 
   -- by whether the file is a schedule: of any other luck is refused, whatever it says
   abbrev pub ShowsBy : Bool → S → S → Wanted → List ℕ → Result Status FormatError → Type 0

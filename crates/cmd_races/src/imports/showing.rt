@@ -1,12 +1,12 @@
 //! The races of another tool's text, by the names of their messages.
 ghost use Rattle.cmd_base.specs.Answers.{Answers};
 ghost use Rattle.diagram_import.specs.Importing.{options_view};
-ghost use Rattle.cmd_races.specs.Imports.Showing.{ShowsDrawing, shown_said, unshown_said, races_said};
+ghost use Rattle.cmd_races.specs.Imports.Showing.{ShowsDrawing, shown_exit, race_show_error_exit, races_exit};
 
 use crate::{Wanted, show_chart};
 use cmd_base::columns::FormatError;
 use cmd_base::{Answer, Status, answered};
-use cmd_import_diagram::{Told, drawing_in, refused_drawing};
+use cmd_import_diagram::{Diagnostics, drawing_in, refused_drawing};
 use diagram_import::{ImportError, Options};
 use diagram_tool::Tool;
 use std::alloc::Global;
@@ -16,12 +16,12 @@ use texts::Out;
 #[derive(Debug, Drop)]
 pub struct Shown {
     status: Status,
-    told: Told,
+    diagnostics: Diagnostics,
 }
 
 /// Why no races were shown.
 #[derive(Debug, Drop)]
-pub enum Unshown {
+pub enum RaceShowError {
     /// The text isn't read or has no chart, or memory ran out.
     Drawing(ImportError),
     /// An instance is named that the chart doesn't have, memory ran out, or a write failed.
@@ -37,58 +37,58 @@ fn show<W: Out>(
     options: Options<'_>,
     wanted: &Wanted<'_>,
     out: &mut W,
-) -> Result<Shown, Unshown>
+) -> Result<Shown, RaceShowError>
     ensures { ShowsDrawing W.sink out.old out.new tool text.now (options_view options.entry) wanted.now result }
 {
     let drawing = match drawing_in(alloc, tool, text, options) {
         Ok(drawing) => drawing,
-        Err(error) => return Err(Unshown::Drawing(error)),
+        Err(error) => return Err(RaceShowError::Drawing(error)),
     };
     match show_chart(alloc, &drawing.names, &drawing.chart, wanted, out) {
         Ok(status) => Ok(Shown {
             status,
-            told: drawing.told,
+            diagnostics: drawing.diagnostics,
         }),
-        Err(error) => Err(Unshown::Races(error)),
+        Err(error) => Err(RaceShowError::Races(error)),
     }
 }
 
 /// The status tells whether a race is shown.
 impl Answer for Shown {
-    ghost said = { shown_said };
+    ghost exit = { shown_exit };
 
     fn status(&self) -> u8 {
         self.status.status()
     }
 
-    fn tell<V: Out>(&self, err: &mut V) {
-        self.told.tell(err);
+    fn print_diagnostics<V: Out>(&self, err: &mut V) {
+        self.diagnostics.print_diagnostics(err);
     }
 }
 
 /// A refusal's line, with status 2.
-impl Answer for Unshown {
-    ghost said = { unshown_said };
+impl Answer for RaceShowError {
+    ghost exit = { race_show_error_exit };
 
     fn status(&self) -> u8 {
         2
     }
 
-    fn tell<V: Out>(&self, err: &mut V) {
+    fn print_diagnostics<V: Out>(&self, err: &mut V) {
         match self {
-            Unshown::Drawing(error) => {
+            RaceShowError::Drawing(error) => {
                 let _ = refused_drawing(error, err);
             }
-            Unshown::Races(error) => error.tell(err),
+            RaceShowError::Races(error) => error.print_diagnostics(err),
         }
     }
 }
 
 /// Writes the races of the chart that a tool's text says, of the tool that is named or that the text tells: by the
-/// names of their messages, a line for each range of earlier events, or a JSON object for each receive. On `err` is told
-/// what an import tells of the chart. Writes the line of a refusal to `err`. Answers the exit status: 1 where a race is
-/// shown, 0 where none is, 2 after a refusal. What an import refuses is refused first, then F34. Nothing is written to
-/// `out` before a refusal, but where writing to it failed (F24). A failed write to `err` changes nothing.
+/// names of their messages, a line for each range of earlier events, or a JSON object for each receive. On `err` is
+/// told what an import tells of the chart. Writes the line of a refusal to `err`. Answers the exit status: 1 where a
+/// race is shown, 0 where none is, 2 after a refusal. What an import refuses is refused first, then F34. Nothing is
+/// written to `out` before a refusal, but where writing to it failed (F24). A failed write to `err` changes nothing.
 pub fn races_of<W: Out, V: Out>(
     alloc: Global,
     tool: Option<Tool>,
@@ -99,7 +99,7 @@ pub fn races_of<W: Out, V: Out>(
     err: &mut V,
 ) -> u8
     ensures { Answers (ShowsDrawing W.sink out.old out.new tool text.now (options_view options.entry) wanted.now)
-        races_said V.sink err.old err.new result }
+        races_exit V.sink err.old err.new result }
 {
     answered(&show(alloc, tool, text, options, wanted, out), err)
 }

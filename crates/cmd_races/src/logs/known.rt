@@ -66,13 +66,13 @@ fn show_known<W: Out>(
     wanted: &LuckWanted<'_>,
     out: &mut W,
 ) -> Result<Status, FormatError>
-    requires names { length recording.now.drawing.told.names ≡ length recording.now.drawing.chart }
+    requires names { length recording.now.drawing.diagnostics.names ≡ length recording.now.drawing.chart }
     requires keeps { IsRecording recording.now.drawing.chart (lent_of recording.now) }
     requires numbered { IsNumbered recording.now.drawing.chart }
     ensures { ShowsJudged W.sink (verdict_in recording.now.drawing.chart (lent_of recording.now)) out.old out.new result
-        wanted.now (recording.now.drawing.told.names, recording.now.drawing.chart) }
+        wanted.now (recording.now.drawing.diagnostics.names, recording.now.drawing.chart) }
 {
-    let names = &recording.drawing.told.names;
+    let names = &recording.drawing.diagnostics.names;
     let instances = columns_in(alloc, names, wanted.races.only)?;
     let closure = closure_of(alloc, names, &recording.drawing.chart)?;
     let judge = judge_of(alloc, recording, &closure)?;
@@ -94,7 +94,7 @@ pub(crate) fn show_recording<W: Out>(
     wanted: &LuckWanted<'_>,
     out: &mut W,
 ) -> Result<Status, FormatError>
-    requires names { length recording.now.drawing.told.names ≡ length recording.now.drawing.chart }
+    requires names { length recording.now.drawing.diagnostics.names ≡ length recording.now.drawing.chart }
     requires keeps { IsRecording recording.now.drawing.chart (lent_of recording.now) }
     requires numbered { IsNumbered recording.now.drawing.chart }
     ensures { ShowsRecording W.sink out.old out.new result wanted.now recording.now }
@@ -103,6 +103,12 @@ pub(crate) fn show_recording<W: Out>(
         show_known(alloc, recording, wanted, out)
     } else {
         let drawing = &recording.drawing;
-        show_unknown(alloc, &drawing.told.names, &drawing.chart, wanted, out)
+        show_unknown(
+            alloc,
+            &drawing.diagnostics.names,
+            &drawing.chart,
+            wanted,
+            out,
+        )
     }
 }

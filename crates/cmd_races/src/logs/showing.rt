@@ -3,15 +3,15 @@ ghost use Rattle.std.specs.Prelude.{◌≡◌, ◌≤◌, length, map, All, IfOk
 ghost use Rattle.cmd_base.specs.Answers.{Answers};
 ghost use Rattle.cmd_base.specs.Refusals.{Tried};
 ghost use Rattle.cmd_base.specs.Statuses.{code_of};
-ghost use Rattle.cmd_import_log.specs.Answers.Told.{told_text};
+ghost use Rattle.cmd_import_log.specs.Answers.Diagnostics.{diagnostics_text};
 ghost use Rattle.cmd_import_log.specs.Options.{options_view};
-ghost use Rattle.cmd_races.specs.Logs.Showing.{ShowsRecording, ShowsLog, unshown_text, races_said};
+ghost use Rattle.cmd_races.specs.Logs.Showing.{ShowsRecording, ShowsLog, race_show_error_text, races_exit};
 
 use crate::LuckWanted;
 use crate::logs::known::show_recording;
 use cmd_base::columns::FormatError;
 use cmd_base::{Answer, Status};
-use cmd_import_log::answers::{Told, write_told};
+use cmd_import_log::answers::{Diagnostics, write_diagnostics};
 use cmd_import_log::{LogImportError, LogRecording, Options, recording_in, refused_log};
 use std::alloc::Global;
 use texts::Out;
@@ -20,73 +20,74 @@ use texts::Out;
 #[derive(Debug, Drop)]
 pub struct Shown {
     pub status: Status,
-    pub told: Told,
+    pub diagnostics: Diagnostics,
 }
 
 /// Why no races were shown.
 #[derive(Clone, Copy, Debug)]
-pub enum Unshown {
+pub enum RaceShowError {
     /// The log isn't read or has no chart, or memory ran out.
     Log(LogImportError),
     /// An instance is named that the chart doesn't have, luck isn't known, memory ran out, or a write failed.
     Races(FormatError),
 }
 
-/// Reads the log and writes the races that are wanted of its chart. All memory is taken before the first byte is written.
+/// Reads the log and writes the races that are wanted of its chart. All memory is taken before the first byte is
+/// written.
 fn show<W: Out>(
     alloc: Global,
     options: Options<'_>,
     texts: &[&[u8]],
     wanted: &LuckWanted<'_>,
     out: &mut W,
-) -> Result<Shown, Unshown>
+) -> Result<Shown, RaceShowError>
     ensures shows { ShowsLog W.sink out.old out.new (options_view options.entry) (map (λ text. text.now) texts.now) wanted.now result }
-    ensures invented { IfOk result (λ shown. All (λ e. e.instance ≤ length shown.told.names) shown.told.invented.items) }
+    ensures invented { IfOk result (λ shown. All (λ e. e.instance ≤ length shown.diagnostics.names) shown.diagnostics.invented.items) }
 {
     let recording = match recording_in(alloc, options, texts) {
         Ok(recording) => recording,
-        Err(error) => return Err(Unshown::Log(error)),
+        Err(error) => return Err(RaceShowError::Log(error)),
     };
     match show_recording(alloc, &recording, wanted, out) {
         Ok(status) => Ok(Shown {
             status,
-            told: recording.drawing.told,
+            diagnostics: recording.drawing.diagnostics,
         }),
-        Err(error) => Err(Unshown::Races(error)),
+        Err(error) => Err(RaceShowError::Races(error)),
     }
 }
 
 /// Prints the line of a refusal, and answers the exit status.
-fn refused<V: Out>(error: &Unshown, err: &mut V) -> u8
+fn refused<V: Out>(error: &RaceShowError, err: &mut V) -> u8
     ensures status { result ≡ 2 }
-    ensures line { Tried V.sink err.old err.new (unshown_text error.now) }
+    ensures line { Tried V.sink err.old err.new (race_show_error_text error.now) }
 {
     match error {
-        Unshown::Log(error) => refused_log(error, err),
-        Unshown::Races(error) => {
-            error.tell(err);
+        RaceShowError::Log(error) => refused_log(error, err),
+        RaceShowError::Races(error) => {
+            error.print_diagnostics(err);
             2
         }
     }
 }
 
 /// Tells what the chart isn't, and answers the exit status.
-fn tell<V: Out>(files: &[&[u8]], shown: &Shown, err: &mut V) -> u8
-    requires { All (λ e. e.instance ≤ length shown.now.told.names) shown.now.told.invented.items }
+fn print_diagnostics<V: Out>(files: &[&[u8]], shown: &Shown, err: &mut V) -> u8
+    requires { All (λ e. e.instance ≤ length shown.now.diagnostics.names) shown.now.diagnostics.invented.items }
     ensures status { result ≡ code_of shown.now.status }
-    ensures line { Tried V.sink err.old err.new (told_text (map (λ file. file.now) files.now) shown.now.told) }
+    ensures line { Tried V.sink err.old err.new (diagnostics_text (map (λ file. file.now) files.now) shown.now.diagnostics) }
 {
-    let _ = write_told(files, &shown.told, err);
+    let _ = write_diagnostics(files, &shown.diagnostics, err);
     shown.status.status()
 }
 
-/// Writes the races of the chart that the texts of a log say, of which these are the names where there are several, and none
-/// where there is one: by the names of their messages, a line for each range of earlier events, or a JSON object for each
-/// receive. Where luck is known of the log, each range has one verdict and its word; or those of luck alone are written. On
-/// `err` is told what an import tells of the chart. Writes the line of a refusal to `err`. Answers the exit status: 1 where
-/// a race is shown, 0 where none is, 2 after a refusal. What an import refuses is refused first, then F34, then luck where
-/// it isn't known (G1). Nothing is written to `out` before a refusal, but where writing to it failed (F24). A failed write
-/// to `err` changes nothing.
+/// Writes the races of the chart that the texts of a log say, of which these are the names where there are several, and
+/// none where there is one: by the names of their messages, a line for each range of earlier events, or a JSON object
+/// for each receive. Where luck is known of the log, each range has one verdict and its word; or those of luck alone
+/// are written. On `err` is told what an import tells of the chart. Writes the line of a refusal to `err`. Answers the
+/// exit status: 1 where a race is shown, 0 where none is, 2 after a refusal. What an import refuses is refused first,
+/// then F34, then luck where it isn't known (G1). Nothing is written to `out` before a refusal, but where writing to it
+/// failed (F24). A failed write to `err` changes nothing.
 pub fn races_of_log<W: Out, V: Out>(
     alloc: Global,
     options: Options<'_>,
@@ -97,10 +98,10 @@ pub fn races_of_log<W: Out, V: Out>(
     err: &mut V,
 ) -> u8
     ensures { Answers (ShowsLog W.sink out.old out.new (options_view options.entry) (map (λ text. text.now) texts.now) wanted.now)
-        (races_said (map (λ file. file.now) files.now)) V.sink err.old err.new result }
+        (races_exit (map (λ file. file.now) files.now)) V.sink err.old err.new result }
 {
     match show(alloc, options, texts, wanted, out) {
-        Ok(shown) => tell(files, &shown, err),
+        Ok(shown) => print_diagnostics(files, &shown, err),
         Err(error) => refused(&error, err),
     }
 }

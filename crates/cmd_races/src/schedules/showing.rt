@@ -5,7 +5,7 @@ ghost use Rattle.cmd_base.specs.Texts.{ComesFrom, OfFile};
 ghost use Rattle.cmd_base.specs.declared.columns.error.FormatError.TheVariants.{Program};
 ghost use Rattle.schedule.specs.Outcomes.Outcomes.{IsOutcome};
 ghost use Rattle.cmd_races.specs.Judging.{ShowsJudged};
-ghost use Rattle.cmd_races.specs.Statuses.{shown_said};
+ghost use Rattle.cmd_races.specs.Statuses.{shown_exit};
 ghost use Rattle.cmd_races.specs.Schedules.Showing.{run_of, verdict_in, luck_alone, ShowsRun, ShowsLuck};
 
 use crate::schedules::verdicts::Makers;
@@ -81,7 +81,7 @@ fn show_source<W: Out>(
 {
     match source {
         Source::Run(schedule, outcome) => show_run(alloc, *schedule, outcome, wanted, out),
-        Source::Drawn(_) => Err(FormatError::Program(ProgramError::Usage)),
+        Source::Written(_) => Err(FormatError::Program(ProgramError::Usage)),
     }
 }
 
@@ -116,11 +116,12 @@ fn show_luck<W: Out>(
     }
 }
 
-/// Writes the races that are wanted of the schedule that the bytes of a file say, of those that were luck: by the names of
-/// their messages, a line for each range of earlier events, or a JSON object for each receive, each with its word. Writes the
-/// line of a refusal to `err`. Answers the exit status: 1 where a race is shown, 0 where none is, 2 after a refusal. A file
-/// that is no schedule is refused first, whatever it says (G1), then the text's faults, then F34. Nothing is written to `out`
-/// before a refusal, but where writing to it failed (F24). A failed write to `err` changes nothing.
+/// Writes the races that are wanted of the schedule that the bytes of a file say, of those that were luck: by the names
+/// of their messages, a line for each range of earlier events, or a JSON object for each receive, each with its word.
+/// Writes the line of a refusal to `err`. Answers the exit status: 1 where a race is shown, 0 where none is, 2 after a
+/// refusal. A file that is no schedule is refused first, whatever it says (G1), then the text's faults, then F34.
+/// Nothing is written to `out` before a refusal, but where writing to it failed (F24). A failed write to `err` changes
+/// nothing.
 pub fn lucky_races<W: Out, V: Out>(
     alloc: Global,
     bytes: &[u8],
@@ -128,7 +129,7 @@ pub fn lucky_races<W: Out, V: Out>(
     out: &mut W,
     err: &mut V,
 ) -> u8
-    ensures { Answers (ShowsLuck W.sink out.old out.new wanted.now bytes.now) shown_said V.sink err.old err.new result }
+    ensures { Answers (ShowsLuck W.sink out.old out.new wanted.now bytes.now) shown_exit V.sink err.old err.new result }
 {
     answered(&show_luck(alloc, bytes, wanted, out), err)
 }

@@ -18,7 +18,8 @@ use schedule::{Command, Note};
 use std::alloc::{AllocError, Global};
 use std::marker::Model;
 
-/// Which commands made the receives of a schedule. A contract sees its commands, their notes and the lines of its chart.
+/// Which commands made the receives of a schedule. A contract sees its commands, their notes and the lines of its
+/// chart.
 #[derive(Drop)]
 pub struct Makers<'a> {
     commands: &'a [Command],
@@ -77,7 +78,8 @@ fn is_between(events: &[Event], sender: InstanceNo, earlier: usize, later: usize
 }
 
 impl<'a> Makers<'a> {
-    /// The commands that made the receives of a chart with these lines, where the notes are in the order of their lines.
+    /// The commands that made the receives of a chart with these lines, where the notes are in the order of their
+    /// lines.
     pub fn of(
         alloc: Global,
         commands: &'a [Command],

@@ -6,7 +6,7 @@ use Rattle.diagrams.specs.Diagrams.{DiagramView, ItemView, NoteView, AnArrow, AN
 use Rattle.diagram_statements.specs.ToDiagram.Folds.{diagram_of}
 use Rattle.diagram_statements.specs.declared.to_diagram.labels.Breaks.{Breaks}
 use Rattle.diagram_statements.specs.Readings.{ReadView}
-use Rattle.diagram_statements.specs.Statements.{StatementView, SaidView, NoteAtView, AtArrow, AtParticipant, AtSeveral, NoteSaid, Divider, Delay}
+use Rattle.diagram_statements.specs.Statements.{StatementView, ElementView, NoteAtView, AtArrow, AtParticipant, AtSeveral, NoteElement, Divider, Delay}
 use Rattle.diagram_statements.specs.declared.statement.Fault.{Fault}
 use Rattle.diagram_statements.specs.declared.statement.Place.{Place}
 use Rattle.diagram_import.specs.Margin.Plain.{plain_text}
@@ -21,23 +21,23 @@ has_item AtSeveral text = false
 
 -- a note with these words, at one participant
 abbrev pub noted : Place → List ℕ → StatementView
-noted place words = record { place = place; said = NoteSaid (AtParticipant (codes "note")) words }
+noted place words = record { place = place; element = NoteElement (AtParticipant (codes "note")) words }
 
 -- a statement that says nothing that is an item
 abbrev pub passed : Place → StatementView
-passed place = record { place = place; said = Delay }
+passed place = record { place = place; element = Delay }
 
-abbrev pub restated_said : Bool → List ℕ → Place → SaidView → StatementView
-restated_said divides text place (NoteSaid at own) =
+abbrev pub restated_element : Bool → List ℕ → Place → ElementView → StatementView
+restated_element divides text place (NoteElement at own) =
     if divides || has_item at own then passed place else noted place (note_words text place)
-restated_said divides text place Divider = if divides then noted place (divider_words text place) else passed place
-restated_said divides text place Delay = if divides then noted place (divider_words text place) else passed place
-restated_said divides text place said = record { place = place; said = said }
+restated_element divides text place Divider = if divides then noted place (divider_words text place) else passed place
+restated_element divides text place Delay = if divides then noted place (divider_words text place) else passed place
+restated_element divides text place element = record { place = place; element = element }
 
 -- a statement, where what is sought, dividers or other notes, is a note with its own words at one participant, and no other
 -- statement is one
 unfoldable pub restated : Bool → List ℕ → StatementView → StatementView
-restated divides text s = restated_said divides text s.place s.said
+restated divides text s = restated_element divides text s.place s.element
 
 -- what a note says in one line
 abbrev pub note_remark : Bool → NoteView → RemarkView

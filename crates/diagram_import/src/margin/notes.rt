@@ -23,7 +23,7 @@ use diagram_join::turns::messages_of;
 use diagram_mscgen::grammar::MscgenError;
 use diagram_statements::to_diagram::Breaks;
 use diagram_tool::Tool;
-use diagram_tool::detection::told_tool;
+use diagram_tool::detection::detected_tool;
 use diagrams::{Diagram, has_no_chart};
 use std::alloc::{AllocError, Global};
 
@@ -35,7 +35,7 @@ fn tool_of(tool: Option<Tool>, text: &[u8]) -> Option<Tool>
     if let Some(tool) = tool {
         return Some(tool);
     }
-    match told_tool(text) {
+    match detected_tool(text) {
         Ok(tool) => Some(tool),
         Err(_) => None,
     }
@@ -106,7 +106,8 @@ fn is_without_chart(diagram: &Diagram) -> bool
     has_no_chart(diagram.participants.len())
 }
 
-/// The notes and dividers of a text of which this is the diagram: none where no chart has so few participants, or so many.
+/// The notes and dividers of a text of which this is the diagram: none where no chart has so few participants, or so
+/// many.
 fn notes_of(
     alloc: Global,
     tool: Option<Tool>,
@@ -131,9 +132,9 @@ fn notes_of(
 }
 
 /// The notes and dividers of a text, each with the number of the messages of its chart that stand above it. What stands
-/// between two messages is one note. A text that says no diagram has none. F6: it fails only where there is no memory. It
-/// takes time in proportion to n log n for a text of n bytes, and for each note that isn't in one line with its participant
-/// the time to read the text up to there.
+/// between two messages is one note. A text that says no diagram has none. F6: it fails only where there is no memory.
+/// It takes time in proportion to n log n for a text of n bytes, and for each note that isn't in one line with its
+/// participant the time to read the text up to there.
 #[tactic(auto, unfolding(crate::specs::Margin::Texts::notes_of_text))]
 pub fn notes_of_text(
     alloc: Global,

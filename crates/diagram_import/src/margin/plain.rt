@@ -23,43 +23,43 @@ fn waits(escaped: bool, byte: u8) -> bool
 }
 
 /// Adds what a byte says, behind a backslash or not.
-fn add_byte(escaped: bool, byte: u8, said: &mut Vec<u8>) -> Result<(), AllocError>
-    ensures { OnOk result (said.new.items ≡ said.old.items ++ plain_step escaped byte) }
+fn add_byte(escaped: bool, byte: u8, element: &mut Vec<u8>) -> Result<(), AllocError>
+    ensures { OnOk result (element.new.items ≡ element.old.items ++ plain_step escaped byte) }
 {
     if waits(escaped, byte) {
         return Ok(());
     }
     if escaped && byte == b'n' {
-        said.push(b' ')?;
+        element.push(b' ')?;
         return Ok(());
     }
     if escaped && byte != b'"' {
-        said.push(b'\\')?;
+        element.push(b'\\')?;
     }
-    said.push(plain_byte(byte))?;
+    element.push(plain_byte(byte))?;
     Ok(())
 }
 
 /// Adds what is said at the end.
-fn add_end(escaped: bool, said: &mut Vec<u8>) -> Result<(), AllocError>
-    ensures { OnOk result (said.new.items ≡ said.old.items ++ ended escaped) }
+fn add_end(escaped: bool, element: &mut Vec<u8>) -> Result<(), AllocError>
+    ensures { OnOk result (element.new.items ≡ element.old.items ++ ended escaped) }
 {
     if escaped {
-        said.push(b'\\')?;
+        element.push(b'\\')?;
     }
     Ok(())
 }
 
 /// Words in one line, as they are read: a line's end is a blank, also one that is written as `\n`.
 pub(crate) fn plain_text(alloc: Global, raw: &[u8]) -> Result<Vec<u8>, AllocError>
-    ensures { IfOk result (λ said. said.items ≡ plain_text raw.now) }
+    ensures { IfOk result (λ element. element.items ≡ plain_text raw.now) }
 {
-    let mut said = Vec::with_capacity(alloc, raw.len())?;
+    let mut element = Vec::with_capacity(alloc, raw.len())?;
     let mut escaped = false;
     for byte in raw {
-        add_byte(escaped, *byte, &mut said)?;
+        add_byte(escaped, *byte, &mut element)?;
         escaped = waits(escaped, *byte);
     }
-    add_end(escaped, &mut said)?;
-    Ok(said)
+    add_end(escaped, &mut element)?;
+    Ok(element)
 }

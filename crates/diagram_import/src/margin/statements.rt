@@ -10,7 +10,7 @@ use crate::margin::plain::plain_text;
 use crate::margin::remark::Remark;
 use crate::margin::source::{divider_words, note_words};
 use diagram_statements::to_diagram::{Breaks, diagram_of};
-use diagram_statements::{NoteAt, Place, ReadError, ReadText, Said, Statement};
+use diagram_statements::{Element, NoteAt, Place, ReadError, ReadText, Statement};
 use diagrams::{Item, Note};
 use std::alloc::{AllocError, Global};
 
@@ -30,7 +30,7 @@ fn noted<'a>(place: Place, words: &'a [u8]) -> Statement<'a>
 {
     Statement {
         place,
-        said: Said::Note {
+        element: Element::Note {
             at: NoteAt::Participant(b"note"),
             text: words,
         },
@@ -43,7 +43,7 @@ fn passed<'a>(place: Place) -> Statement<'a>
 {
     Statement {
         place,
-        said: Said::Delay,
+        element: Element::Delay,
     }
 }
 
@@ -53,22 +53,22 @@ fn restated<'a>(divides: bool, text: &'a [u8], statement: &Statement<'a>) -> Sta
     ensures { statement_view result ≡ restated divides text.now (statement_view statement.now) }
 {
     let place = statement.place;
-    match statement.said {
-        Said::Note { at, text: own } => {
+    match statement.element {
+        Element::Note { at, text: own } => {
             if divides || has_item(at, own) {
                 passed(place)
             } else {
                 noted(place, note_words(text, place))
             }
         }
-        Said::Divider | Said::Delay => {
+        Element::Divider | Element::Delay => {
             if divides {
                 noted(place, divider_words(text, place))
             } else {
                 passed(place)
             }
         }
-        said => Statement { place, said },
+        element => Statement { place, element },
     }
 }
 
@@ -134,7 +134,8 @@ fn all_restated<'a>(
     Ok(all)
 }
 
-/// The dividers of these statements, or the notes that are no items: none where a branch or an end stands outside of a group.
+/// The dividers of these statements, or the notes that are no items: none where a branch or an end stands outside of a
+/// group.
 #[tactic(auto, unfolding(crate::specs::Margin::Statements::restated_remarks))]
 fn restated_remarks<'a>(
     alloc: Global,
@@ -157,8 +158,8 @@ fn restated_remarks<'a>(
     }
 }
 
-/// The notes of these statements that are no items, and their dividers: none where a branch or an end stands outside of a
-/// group.
+/// The notes of these statements that are no items, and their dividers: none where a branch or an end stands outside of
+/// a group.
 #[tactic(auto, unfolding(crate::specs::Margin::Statements::statement_remarks))]
 pub(crate) fn statement_remarks<'a>(
     alloc: Global,

@@ -4,7 +4,7 @@ use Rattle.std.specs.Prelude.{◌==◌}
 use Rattle.diagram_mscgen.specs.Grammar.Arcs.{ArcView}
 use Rattle.diagram_mscgen.specs.declared.grammar.arc.ArcKind.{ArcKind}
 use Rattle.diagram_mscgen.specs.declared.grammar.arc.ArcKind.TheVariants as arcs
-use Rattle.diagram_mscgen.specs.Reading.Arcs.{RowsView, with_message, with_text, with_note, with_pair, with_other, with_others, with_spacer, with_all_by, with_ends, said_by, ended_row, label_of}
+use Rattle.diagram_mscgen.specs.Reading.Arcs.{RowsView, with_message, with_text, with_note, with_pair, with_other, with_others, with_spacer, with_all_by, with_ends, rows_by, ended_row, label_of}
 use Rattle.diagram_mscgen.specs.Reading.Entities.{known_at}
 
 -- one of two that are in a row
@@ -58,24 +58,24 @@ ends_row last a s None to = tt
 ends_row last a s (Some from) None = tt
 ends_row last a s (Some from) (Some to) = pair_row last a.kind from to a s
 
-said_row : (words : List (List ℕ)) (last : ℕ) (a : ArcView) (s : RowsView) (kind : ArcKind) → Stays s.row (said_by words last a s kind)
-said_row words last a s arcs.Spacer = spacer_row a a.label s
-said_row words last a s arcs.Broadcast = all_row words last false a s (known_at words a.from)
-said_row words last a s arcs.LostBroadcast = all_row words last true a s (known_at words a.from)
-said_row words last a s arcs.Message = ends_row last a s (known_at words a.from) (known_at words a.to)
-said_row words last a s arcs.Lost = ends_row last a s (known_at words a.from) (known_at words a.to)
-said_row words last a s arcs.Both = ends_row last a s (known_at words a.from) (known_at words a.to)
-said_row words last a s arcs.Line = ends_row last a s (known_at words a.from) (known_at words a.to)
-said_row words last a s arcs.Box = ends_row last a s (known_at words a.from) (known_at words a.to)
-said_row words last a s arcs.Note = ends_row last a s (known_at words a.from) (known_at words a.to)
+row_by : (words : List (List ℕ)) (last : ℕ) (a : ArcView) (s : RowsView) (kind : ArcKind) → Stays s.row (rows_by words last a s kind)
+row_by words last a s arcs.Spacer = spacer_row a a.label s
+row_by words last a s arcs.Broadcast = all_row words last false a s (known_at words a.from)
+row_by words last a s arcs.LostBroadcast = all_row words last true a s (known_at words a.from)
+row_by words last a s arcs.Message = ends_row last a s (known_at words a.from) (known_at words a.to)
+row_by words last a s arcs.Lost = ends_row last a s (known_at words a.from) (known_at words a.to)
+row_by words last a s arcs.Both = ends_row last a s (known_at words a.from) (known_at words a.to)
+row_by words last a s arcs.Line = ends_row last a s (known_at words a.from) (known_at words a.to)
+row_by words last a s arcs.Box = ends_row last a s (known_at words a.from) (known_at words a.to)
+row_by words last a s arcs.Note = ends_row last a s (known_at words a.from) (known_at words a.to)
 
-stayed : (row : ℕ) (drawn : Result RowsView ℕ) (s : RowsView) → Stays row drawn → drawn ≡ Ok s → s.row ≡ row
+stayed : (row : ℕ) (built : Result RowsView ℕ) (s : RowsView) → Stays row built → built ≡ Ok s → s.row ≡ row
 stayed row (Ok x) s stays e = let same : x ≡ s = cc in ap (λ (r : RowsView). r.row) (sym same) ∙ stays
 stayed row (Err line) s stays e = absurd (cc)
 
 -- an arc says nothing about the row that comes next
-pub row_stays : (words : List (List ℕ)) (last : ℕ) (a : ArcView) (s more : RowsView) → said_by words last a s a.kind ≡ Ok more → more.row ≡ s.row
-row_stays words last a s more e = stayed s.row (said_by words last a s a.kind) more (said_row words last a s a.kind) e
+pub row_stays : (words : List (List ℕ)) (last : ℕ) (a : ArcView) (s more : RowsView) → rows_by words last a s a.kind ≡ Ok more → more.row ≡ s.row
+row_stays words last a s more e = stayed s.row (rows_by words last a s a.kind) more (row_by words last a s a.kind) e
 
 -- which is at most one further down behind it
 pub ended_most : (ends : Bool) (s : RowsView) → (ended_row ends s).row ≤ s.row + 1

@@ -10,14 +10,14 @@ pub from_here : {A : Type 0} (xs : List A) (n : ℕ) (x : A) → n < length xs �
 from_here xs n x within is = rw add-one (drop-cons xs n x within ∙ ap (λ y. y ∷ drop (suc n) xs) (sym is))
 
 -- one byte more of a text
-pub byte_more : (raw : List ℕ) (i b : ℕ) (mode next : Mode) (said more : List ℕ) → i < length raw → b ≡ get_or raw i b → next ≡ (step mode b).1 → more ≡ said ++ (step mode b).0
-    → more ++ text_from next (drop (i + 1) raw) ≡ said ++ text_from mode (drop i raw)
-byte_more raw i b mode next said more within is next_is more_is =
-    rw (from_here raw i b within is, next_is, more_is) (append_assoc said (step mode b).0 (text_from (step mode b).1 (drop (i + 1) raw)))
+pub byte_more : (raw : List ℕ) (i b : ℕ) (mode next : Mode) (read more : List ℕ) → i < length raw → b ≡ get_or raw i b → next ≡ (step mode b).1 → more ≡ read ++ (step mode b).0
+    → more ++ text_from next (drop (i + 1) raw) ≡ read ++ text_from mode (drop i raw)
+byte_more raw i b mode next read more within is next_is more_is =
+    rw (from_here raw i b within is, next_is, more_is) (append_assoc read (step mode b).0 (text_from (step mode b).1 (drop (i + 1) raw)))
 
 -- all bytes
-pub bytes_end : (raw : List ℕ) (i : ℕ) (mode : Mode) (said : List ℕ) → length raw ≤ i → said ++ text_from mode (drop i raw) ≡ said ++ ended mode
-bytes_end raw i mode said past = rw (drop_all i raw past) refl
+pub bytes_end : (raw : List ℕ) (i : ℕ) (mode : Mode) (read : List ℕ) → length raw ≤ i → read ++ text_from mode (drop i raw) ≡ read ++ ended mode
+bytes_end raw i mode read past = rw (drop_all i raw past) refl
 
 -- how many seen elements pass a test before one that doesn't
 prefix_len-map : {A B : Type 0} (f : A → B) (p : B → Bool) (xs : List A) → prefix_len p (map f xs) ≡ prefix_len (λ x. p (f x)) xs

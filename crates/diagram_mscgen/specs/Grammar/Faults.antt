@@ -35,13 +35,13 @@ abbrev pub fault_at : List ℕ → Tokens → FaultView
 fault_at text [] = record { place = behind start text; words = [] }
 fault_at text (t ∷ ts) = record { place = t.place; words = shown t.rest }
 
-abbrev pub told : {Y : Type 0} → List ℕ → Result Y Tokens → Result Y FaultView
-told text (Ok y) = Ok y
-told text (Err stop) = Err (fault_at text stop)
+abbrev pub located : {Y : Type 0} → List ℕ → Result Y Tokens → Result Y FaultView
+located text (Ok y) = Ok y
+located text (Err stop) = Err (fault_at text stop)
 
 -- what a text says, or the first fault of it
 unfoldable pub msc_of : List ℕ → Result MscView FaultView
-msc_of text = told text (msc_in (tokens_of text))
+msc_of text = located text (msc_in (tokens_of text))
 
 -- an error is the fault, unless memory ran out
 abbrev pub Fails : {Y : Type 0} → MscgenError → Result Y FaultView → Type 0

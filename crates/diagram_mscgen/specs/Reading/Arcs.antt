@@ -98,16 +98,16 @@ with_ends last a s None to = Err a.place.line
 with_ends last a s (Some from) None = Err a.place.line
 with_ends last a s (Some from) (Some to) = Ok (with_pair last a.kind from to a s)
 
-abbrev pub said_by : List (List ℕ) → ℕ → ArcView → RowsView → ArcKind → Result RowsView ℕ
-said_by words last a s arcs.Spacer = Ok (with_spacer a a.label s)
-said_by words last a s arcs.Broadcast = with_all words last false a s
-said_by words last a s arcs.LostBroadcast = with_all words last true a s
-said_by words last a s arcs.Message = with_ends last a s (known_at words a.from) (known_at words a.to)
-said_by words last a s arcs.Lost = with_ends last a s (known_at words a.from) (known_at words a.to)
-said_by words last a s arcs.Both = with_ends last a s (known_at words a.from) (known_at words a.to)
-said_by words last a s arcs.Line = with_ends last a s (known_at words a.from) (known_at words a.to)
-said_by words last a s arcs.Box = with_ends last a s (known_at words a.from) (known_at words a.to)
-said_by words last a s arcs.Note = with_ends last a s (known_at words a.from) (known_at words a.to)
+abbrev pub rows_by : List (List ℕ) → ℕ → ArcView → RowsView → ArcKind → Result RowsView ℕ
+rows_by words last a s arcs.Spacer = Ok (with_spacer a a.label s)
+rows_by words last a s arcs.Broadcast = with_all words last false a s
+rows_by words last a s arcs.LostBroadcast = with_all words last true a s
+rows_by words last a s arcs.Message = with_ends last a s (known_at words a.from) (known_at words a.to)
+rows_by words last a s arcs.Lost = with_ends last a s (known_at words a.from) (known_at words a.to)
+rows_by words last a s arcs.Both = with_ends last a s (known_at words a.from) (known_at words a.to)
+rows_by words last a s arcs.Line = with_ends last a s (known_at words a.from) (known_at words a.to)
+rows_by words last a s arcs.Box = with_ends last a s (known_at words a.from) (known_at words a.to)
+rows_by words last a s arcs.Note = with_ends last a s (known_at words a.from) (known_at words a.to)
 
 -- the row that comes behind an arc
 abbrev pub ended_row : Bool → RowsView → RowsView
@@ -119,7 +119,7 @@ then_ended ends (Ok s) = Ok (ended_row ends s)
 
 -- one arc more
 unfoldable pub with_arc : List (List ℕ) → ℕ → ArcView → RowsView → Result RowsView ℕ
-with_arc words last a s = then_ended a.ends_row (said_by words last a s a.kind)
+with_arc words last a s = then_ended a.ends_row (rows_by words last a s a.kind)
 
 abbrev pub and_then : (RowsView → Result RowsView ℕ) → Result RowsView ℕ → Result RowsView ℕ
 and_then others (Err line) = Err line
@@ -140,6 +140,6 @@ rows_of words left_out arcs =
 
 -- what a call came to, seen by view, is what was to be drawn; an entity isn't there, or memory ran out
 abbrev pub Draws : {X : Type 0} → (X → RowsView) → Result X ReadError → Result RowsView ℕ → Type 0
-Draws view (Ok x) drawn = drawn ≡ Ok (view x)
-Draws view (Err errors.Memory) drawn = Unit {0}
-Draws view (Err (errors.Fault fault)) drawn = (line : ℕ) × (drawn ≡ Err line) × (fault ≡ UnknownEntity line)
+Draws view (Ok x) built = built ≡ Ok (view x)
+Draws view (Err errors.Memory) built = Unit {0}
+Draws view (Err (errors.Fault fault)) built = (line : ℕ) × (built ≡ Err line) × (fault ≡ UnknownEntity line)

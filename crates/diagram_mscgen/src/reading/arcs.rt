@@ -4,7 +4,7 @@ ghost use Rattle.diagrams.specs.Diagrams.{arrow_view, AnArrow};
 ghost use Rattle.diagrams.specs.LeftOuts.{with_one};
 ghost use Rattle.diagram_mscgen.specs.Grammar.Arcs.{arc_view};
 ghost use Rattle.diagram_mscgen.specs.Reading.Arcs.{label_of, arrow_of, with_item, without, with_message, with_note, with_pair};
-ghost use Rattle.diagram_mscgen.specs.Reading.Arcs.{with_other, with_others, with_spacer, with_all, with_ends, said_by, ended_row, with_arc, last_row, rows_of, Draws};
+ghost use Rattle.diagram_mscgen.specs.Reading.Arcs.{with_other, with_others, with_spacer, with_all, with_ends, rows_by, ended_row, with_arc, last_row, rows_of, Draws};
 ghost use Rattle.diagram_mscgen.specs.Reading.Entities.{known_at};
 
 use crate::grammar::{Arc, ArcKind};
@@ -264,14 +264,14 @@ impl Rows {
     }
 
     /// What an arc says.
-    fn add_said(
+    fn add_event(
         &mut self,
         alloc: Global,
         words: &[&[u8]],
         arc: &Arc<'_>,
         last: u64,
     ) -> Result<(), ReadError>
-        ensures { Draws (λ _. self.new) result (said_by (map (λ w. w.now) words.now) last (arc_view arc.now) self.old
+        ensures { Draws (λ _. self.new) result (rows_by (map (λ w. w.now) words.now) last (arc_view arc.now) self.old
             arc.now.kind) }
     {
         match arc.kind {
@@ -305,11 +305,11 @@ impl Rows {
         last: u64,
     ) -> Result<(), ReadError>
         requires { self.old.row + 1 < 2 ^ 64 }
-        ensures drawn { Draws (λ _. self.new) result
+        ensures built { Draws (λ _. self.new) result
             (with_arc (map (λ w. w.now) words.now) last (arc_view arc.now) self.old) }
         ensures row { OnOk result (self.new.row ≤ self.old.row + 1) }
     {
-        self.add_said(alloc, words, arc, last)?;
+        self.add_event(alloc, words, arc, last)?;
         self.end_row(arc.ends_row);
         Ok(())
     }

@@ -17,63 +17,63 @@ pub(crate) enum Mode {
 }
 
 /// Adds what a byte says.
-fn add_plain(byte: u8, said: &mut Vec<u8>) -> Result<Mode, AllocError>
+fn add_plain(byte: u8, read: &mut Vec<u8>) -> Result<Mode, AllocError>
     ensures mode { IfOk result (λ mode. mode ≡ (plain_step byte).1) }
-    ensures said { OnOk result (said.new.items ≡ said.old.items ++ (plain_step byte).0) }
+    ensures read { OnOk result (read.new.items ≡ read.old.items ++ (plain_step byte).0) }
 {
     if byte == b'\\' {
         return Ok(Mode::Escaped);
     }
     if byte == b'\n' || byte == b'\r' {
-        said.push(b' ')?;
+        read.push(b' ')?;
         return Ok(Mode::LineEnd);
     }
-    said.push(byte)?;
+    read.push(byte)?;
     Ok(Mode::Plain)
 }
 
 /// Adds what a byte says behind a backslash.
-fn add_escaped(byte: u8, said: &mut Vec<u8>) -> Result<Mode, AllocError>
+fn add_escaped(byte: u8, read: &mut Vec<u8>) -> Result<Mode, AllocError>
     ensures mode { IfOk result (λ mode. mode ≡ (escaped_step byte).1) }
-    ensures said { OnOk result (said.new.items ≡ said.old.items ++ (escaped_step byte).0) }
+    ensures read { OnOk result (read.new.items ≡ read.old.items ++ (escaped_step byte).0) }
 {
     if byte == b'n' {
-        said.push(b'\n')?;
+        read.push(b'\n')?;
         return Ok(Mode::Plain);
     }
     if byte == b'"' {
-        said.push(b'"')?;
+        read.push(b'"')?;
         return Ok(Mode::Plain);
     }
-    said.push(b'\\')?;
-    add_plain(byte, said)
+    read.push(b'\\')?;
+    add_plain(byte, read)
 }
 
 /// Adds what a byte says.
-fn add_byte(mode: Mode, byte: u8, said: &mut Vec<u8>) -> Result<Mode, AllocError>
+fn add_byte(mode: Mode, byte: u8, read: &mut Vec<u8>) -> Result<Mode, AllocError>
     ensures mode { IfOk result (λ next. next ≡ (step mode byte).1) }
-    ensures said { OnOk result (said.new.items ≡ said.old.items ++ (step mode byte).0) }
+    ensures read { OnOk result (read.new.items ≡ read.old.items ++ (step mode byte).0) }
 {
     match mode {
-        Mode::Plain => add_plain(byte, said),
-        Mode::Escaped => add_escaped(byte, said),
+        Mode::Plain => add_plain(byte, read),
+        Mode::Escaped => add_escaped(byte, read),
         Mode::LineEnd => {
             if is_white_space(byte) {
                 Ok(Mode::LineEnd)
             } else {
-                add_plain(byte, said)
+                add_plain(byte, read)
             }
         }
     }
 }
 
 /// Adds what is said at the end.
-fn add_end(mode: Mode, said: &mut Vec<u8>) -> Result<(), AllocError>
-    ensures { OnOk result (said.new.items ≡ said.old.items ++ ended mode) }
+fn add_end(mode: Mode, read: &mut Vec<u8>) -> Result<(), AllocError>
+    ensures { OnOk result (read.new.items ≡ read.old.items ++ ended mode) }
 {
     match mode {
         Mode::Escaped => {
-            said.push(b'\\')?;
+            read.push(b'\\')?;
             Ok(())
         }
         Mode::Plain | Mode::LineEnd => Ok(()),
@@ -82,13 +82,13 @@ fn add_end(mode: Mode, said: &mut Vec<u8>) -> Result<(), AllocError>
 
 /// What these bytes between quotation marks say.
 pub(crate) fn text_of(alloc: Global, raw: &[u8]) -> Result<Vec<u8>, AllocError>
-    ensures { IfOk result (λ said. said.items ≡ text_of raw.now) }
+    ensures { IfOk result (λ read. read.items ≡ text_of raw.now) }
 {
-    let mut said = Vec::with_capacity(alloc, raw.len())?;
+    let mut read = Vec::with_capacity(alloc, raw.len())?;
     let mut mode = Mode::Plain;
     for byte in raw {
-        mode = add_byte(mode, *byte, &mut said)?;
+        mode = add_byte(mode, *byte, &mut read)?;
     }
-    add_end(mode, &mut said)?;
-    Ok(said)
+    add_end(mode, &mut read)?;
+    Ok(read)
 }

@@ -2,7 +2,7 @@
 use Rattle.std.specs.Prelude.{◌≡◌, ℕ, Bool, false, List, [], map, Option, None, Some, option_map, if◌then◌else◌}
 use Rattle.diagrams.specs.declared.left_out.Kind.TheVariants as kinds
 use Rattle.diagram_statements.specs.ToDiagram.Activations.{ActivationsView, activations_view, activated, deactivated, sent, returned, with_last}
-use Rattle.diagram_statements.specs.ToDiagram.Acts.{ActView, DrawnView, Draw, Activate, Deactivate, Return, ArrowsActivate, EndGroup, Name, Rename, DrawArrow, DrawNote, LeaveOut, PassBy, CloseRow}
+use Rattle.diagram_statements.specs.ToDiagram.Acts.{ActView, EffectView, Draw, Activate, Deactivate, Return, ArrowsActivate, EndGroup, Name, Rename, DrawArrow, DrawNote, LeaveOut, PassBy, CloseRow}
 use Rattle.diagram_statements.specs.ToDiagram.Participants.{NamedView, named_view, named, renamed}
 use Rattle.diagram_statements.specs.ToDiagram.Rows.{RowsView, rows_view, no_rows, closed, with_arrow, with_left_out, with_note}
 use Rattle.diagram_statements.specs.declared.to_diagram.activations.Ends.{Ends}
@@ -71,8 +71,8 @@ arrow_from breaks place arrow d first =
     arrow_to breaks place arrow d first.1 (end_named first.0 place.line arrow.second)
 
 -- an arrow names its participants, in the order of the text
-abbrev pub arrow_drawn : Breaks → Place → ArrowView → DrawingView → DrawingView
-arrow_drawn breaks place arrow d = arrow_from breaks place arrow d (end_named d.participants place.line arrow.first)
+abbrev pub arrow_added : Breaks → Place → ArrowView → DrawingView → DrawingView
+arrow_added breaks place arrow d = arrow_from breaks place arrow d (end_named d.participants place.line arrow.first)
 
 abbrev pub note_at : Place → List ℕ → DrawingView → List NamedView × ℕ → DrawingView
 note_at place text d participant = record {
@@ -82,21 +82,21 @@ note_at place text d participant = record {
 }
 
 -- a note: at one participant its text may say an event
-abbrev pub note_drawn : Place → NoteAtView → List ℕ → DrawingView → DrawingView
-note_drawn place AtArrow text d = with_rows (with_left_out kinds.Note place d.rows) d
-note_drawn place (AtParticipant word) text d =
+abbrev pub note_added : Place → NoteAtView → List ℕ → DrawingView → DrawingView
+note_added place AtArrow text d = with_rows (with_left_out kinds.Note place d.rows) d
+note_added place (AtParticipant word) text d =
     note_at place text d (named d.participants place.line (record { word = word; label = None }))
-note_drawn place AtSeveral text d = with_rows (with_left_out kinds.Note place (closed d.rows)) d
+note_added place AtSeveral text d = with_rows (with_left_out kinds.Note place (closed d.rows)) d
 
 -- something is drawn or left out
-abbrev pub drawn : Breaks → Place → DrawnView → DrawingView → DrawingView
-drawn breaks place (Name end) d = with_participants (named d.participants place.line end).0 d
-drawn breaks place (Rename end) d = with_participants (renamed d.participants place.line end) d
-drawn breaks place (DrawArrow arrow) d = arrow_drawn breaks place arrow d
-drawn breaks place (DrawNote at text) d = note_drawn place at text d
-drawn breaks place (LeaveOut kind) d = with_rows (with_left_out kind place d.rows) d
-drawn breaks place (PassBy kind) d = with_rows (with_left_out kind place (closed d.rows)) d
-drawn breaks place CloseRow d = with_rows (closed d.rows) d
+abbrev pub folded : Breaks → Place → EffectView → DrawingView → DrawingView
+folded breaks place (Name end) d = with_participants (named d.participants place.line end).0 d
+folded breaks place (Rename end) d = with_participants (renamed d.participants place.line end) d
+folded breaks place (DrawArrow arrow) d = arrow_added breaks place arrow d
+folded breaks place (DrawNote at text) d = note_added place at text d
+folded breaks place (LeaveOut kind) d = with_rows (with_left_out kind place d.rows) d
+folded breaks place (PassBy kind) d = with_rows (with_left_out kind place (closed d.rows)) d
+folded breaks place CloseRow d = with_rows (closed d.rows) d
 
 abbrev pub back_rows : Breaks → Place → List ℕ → Bool → RowsView → Option Ends → RowsView
 back_rows breaks place label is_beside r None = with_left_out kinds.Return place r
@@ -119,7 +119,7 @@ activating they_do a = record { activating = a.activating; last = a.last; arrows
 
 -- what a statement does is done; behind a group no arrow stands last
 abbrev pub done : Breaks → Place → ActView → DrawingView → DrawingView
-done breaks place (Draw what) d = drawn breaks place what d
+done breaks place (Draw what) d = folded breaks place what d
 done breaks place Activate d = with_activations (activated d.activations) d
 done breaks place Deactivate d = with_activations (deactivated d.activations) d
 done breaks place (Return label is_beside) d = given_back breaks place label is_beside d

@@ -18,16 +18,16 @@ abbrev pub behind : Breaks → Place → Option ActView → DrawingView → Draw
 behind breaks place None d = d
 behind breaks place (Some act) d = done breaks place act d
 
-abbrev pub drawn_by : (List Frame → DrawingView → Result DrawingView Fault) → Breaks → Place → DrawingView → Step
+abbrev pub folded_by : (List Frame → DrawingView → Result DrawingView Fault) → Breaks → Place → DrawingView → Step
     → Result DrawingView Fault
-drawn_by others breaks place d (Err fault) = Err fault
-drawn_by others breaks place d (Ok step) = others step.0 (behind breaks place step.1 d)
+folded_by others breaks place d (Err fault) = Err fault
+folded_by others breaks place d (Ok step) = others step.0 (behind breaks place step.1 d)
 
 -- what statements draw, within these frames and behind what is drawn so far
-abbrev pub drawn_from : Breaks → List Frame → DrawingView → List StatementView → Result DrawingView Fault
-drawn_from breaks frames d [] = Ok d
-drawn_from breaks frames d (s ∷ ss) =
-    drawn_by (λ f e. drawn_from breaks f e ss) breaks s.place d (framed frames s)
+abbrev pub folded_from : Breaks → List Frame → DrawingView → List StatementView → Result DrawingView Fault
+folded_from breaks frames d [] = Ok d
+folded_from breaks frames d (s ∷ ss) =
+    folded_by (λ f e. folded_from breaks f e ss) breaks s.place d (framed frames s)
 
 -- a participant with the label that is shown
 abbrev pub participant_of : Breaks → NamedView → ParticipantView
@@ -42,8 +42,8 @@ finished breaks (Ok d) = Ok (record {
 })
 
 -- the diagram that statements say
-unfoldable pub drawn_of : Breaks → List StatementView → Result DiagramView Fault
-drawn_of breaks statements = finished breaks (drawn_from breaks [] no_drawing statements)
+unfoldable pub folded_of : Breaks → List StatementView → Result DiagramView Fault
+folded_of breaks statements = finished breaks (folded_from breaks [] no_drawing statements)
 
 -- a fault of the text stands behind those of the statements above it
 abbrev pub unless : Option Fault → Result DiagramView Fault → Result DiagramView Fault
@@ -53,4 +53,4 @@ unless (Some later) (Ok d) = Err later
 
 -- the diagram of a text, or its first fault
 unfoldable pub diagram_of : Breaks → ReadView → Result DiagramView Fault
-diagram_of breaks read = unless read.1 (drawn_of breaks read.0)
+diagram_of breaks read = unless read.1 (folded_of breaks read.0)

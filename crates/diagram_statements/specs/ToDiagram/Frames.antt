@@ -8,8 +8,8 @@ use Rattle.diagram_statements.specs.declared.to_diagram.act.Act.{Act}
 use Rattle.diagram_statements.specs.declared.to_diagram.frames.Frame.{Frame}
 use Rattle.diagram_statements.specs.declared.to_diagram.frames.FrameKind.{FrameKind}
 use Rattle.diagram_statements.specs.declared.to_diagram.frames.FrameKind.TheVariants as frame_kinds
-use Rattle.diagram_statements.specs.Statements.{StatementView, SaidView, Fails}
-use Rattle.diagram_statements.specs.Statements as said
+use Rattle.diagram_statements.specs.Statements.{StatementView, ElementView, Fails}
+use Rattle.diagram_statements.specs.Statements as element
 use Rattle.diagram_statements.specs.declared.statement.Fault.{Fault}
 use Rattle.diagram_statements.specs.declared.statement.Fault.TheVariants.{NotRead}
 use Rattle.diagram_statements.specs.declared.statement.Group.{Group}
@@ -83,35 +83,35 @@ ended place frames = end_by place (around frames) (top_frame frames)
 abbrev pub begun : List Frame → FrameKind → Bool → Option ActView → Step
 begun frames kind taken act = Ok (frames ++ record { kind = kind; is_taken = taken } ∷ [], act)
 
-abbrev pub passed : List Frame → SaidView → Step
+abbrev pub passed : List Frame → ElementView → Step
 passed frames s = Ok (frames, if is_taken frames then act_of s else None)
 
-abbrev pub framed_by : List Frame → Place → SaidView → Step
-framed_by frames place (said.Begin group) =
+abbrev pub framed_by : List Frame → Place → ElementView → Step
+framed_by frames place (element.Begin group) =
     begun frames (frame_kinds.Group group) (is_taken frames && not (is_break group))
     (if_taken (is_taken frames) (Draw (PassBy (begun_kind group))))
-framed_by frames place said.BeginBox =
+framed_by frames place element.BeginBox =
     begun frames frame_kinds.Box (is_taken frames) (if_taken (is_taken frames) (Draw (LeaveOut kinds.Box)))
-framed_by frames place said.Branch = branched place frames
-framed_by frames place said.EndSaid = ended place frames
-framed_by frames place said.Preprocessor = Ok (frames, Some (Draw (LeaveOut kinds.Preprocessor)))
-framed_by frames place said.OtherDiagram = Ok (frames, Some (Draw (LeaveOut kinds.Diagram)))
-framed_by frames place (said.Named participant) = passed frames (said.Named participant)
-framed_by frames place (said.Renamed participant) = passed frames (said.Renamed participant)
-framed_by frames place (said.ArrowSaid arrow) = passed frames (said.ArrowSaid arrow)
-framed_by frames place (said.NoteSaid at text) = passed frames (said.NoteSaid at text)
-framed_by frames place said.Activate = passed frames said.Activate
-framed_by frames place said.Deactivate = passed frames said.Deactivate
-framed_by frames place (said.Return label is_beside) = passed frames (said.Return label is_beside)
-framed_by frames place (said.ArrowsActivate they_do) = passed frames (said.ArrowsActivate they_do)
-framed_by frames place said.Box = passed frames said.Box
-framed_by frames place said.Divider = passed frames said.Divider
-framed_by frames place said.Delay = passed frames said.Delay
-framed_by frames place said.Reference = passed frames said.Reference
+framed_by frames place element.Branch = branched place frames
+framed_by frames place element.EndElement = ended place frames
+framed_by frames place element.Preprocessor = Ok (frames, Some (Draw (LeaveOut kinds.Preprocessor)))
+framed_by frames place element.OtherDiagram = Ok (frames, Some (Draw (LeaveOut kinds.Diagram)))
+framed_by frames place (element.Named participant) = passed frames (element.Named participant)
+framed_by frames place (element.Renamed participant) = passed frames (element.Renamed participant)
+framed_by frames place (element.ArrowElement arrow) = passed frames (element.ArrowElement arrow)
+framed_by frames place (element.NoteElement at text) = passed frames (element.NoteElement at text)
+framed_by frames place element.Activate = passed frames element.Activate
+framed_by frames place element.Deactivate = passed frames element.Deactivate
+framed_by frames place (element.Return label is_beside) = passed frames (element.Return label is_beside)
+framed_by frames place (element.ArrowsActivate they_do) = passed frames (element.ArrowsActivate they_do)
+framed_by frames place element.Box = passed frames element.Box
+framed_by frames place element.Divider = passed frames element.Divider
+framed_by frames place element.Delay = passed frames element.Delay
+framed_by frames place element.Reference = passed frames element.Reference
 
 -- the frames behind a statement, and what it does, or a fault
 unfoldable pub framed : List Frame → StatementView → Step
-framed frames s = framed_by frames s.place s.said
+framed frames s = framed_by frames s.place s.element
 
 -- what a call returned and left is the step, unless memory ran out
 abbrev pub Frames : Result (Option Act) ReadError → List Frame → Step → Type 0

@@ -112,13 +112,13 @@ message breaks place sent row sender receiver = AnArrow (record {
   is_lost = is_lost sent.form;
 })
 
-abbrev pub drawn_by : Breaks → statements.Place → SentView → RowsView → Result (ℕ × ℕ) Kind → RowsView
-drawn_by breaks place sent r (Err kind) = with_left_out kind place r
-drawn_by breaks place sent r (Ok ends) = with_item (message breaks place sent r.count ends.0 ends.1) r
+abbrev pub folded_by : Breaks → statements.Place → SentView → RowsView → Result (ℕ × ℕ) Kind → RowsView
+folded_by breaks place sent r (Err kind) = with_left_out kind place r
+folded_by breaks place sent r (Ok ends) = with_item (message breaks place sent r.count ends.0 ends.1) r
 
 -- an arrow is a message, unless it is left out for what it is or for its ends
 unfoldable pub with_arrow : Breaks → statements.Place → SentView → RowsView → RowsView
-with_arrow breaks place sent r = drawn_by breaks place sent (opened sent.is_beside r) (message_of sent.form sent.ends)
+with_arrow breaks place sent r = folded_by breaks place sent (opened sent.is_beside r) (message_of sent.form sent.ends)
 
 abbrev pub noted : statements.Place → ℕ → List ℕ → RowsView → RowsView
 noted place participant text r =

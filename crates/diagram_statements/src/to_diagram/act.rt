@@ -4,7 +4,7 @@ use diagrams::Kind;
 
 /// What is drawn, or left out.
 #[derive(Clone, Copy, Debug)]
-pub(crate) enum Drawn<'a> {
+pub(crate) enum Effect<'a> {
     Name(End<'a>),
     Rename(End<'a>),
     Arrow(Arrow<'a>),
@@ -19,7 +19,7 @@ pub(crate) enum Drawn<'a> {
 /// What a statement does.
 #[derive(Clone, Copy, Debug)]
 pub(crate) enum Act<'a> {
-    Draw(Drawn<'a>),
+    Draw(Effect<'a>),
     Activate,
     Deactivate,
     Return(&'a [u8], bool),

@@ -1,11 +1,11 @@
 //! What acts make of a diagram.
 ghost use Rattle.std.specs.Prelude.{◌≡◌, map, OnOk, IfOk, option_map};
 ghost use Rattle.diagram_statements.specs.Statements.{arrow_view, end_view, note_at_view};
-ghost use Rattle.diagram_statements.specs.ToDiagram.Acts.{act_view, drawn_view};
-ghost use Rattle.diagram_statements.specs.ToDiagram.Drawings.{drawing_view, no_drawing, end_named, EndNames, ends_of, arrow_drawn, note_drawn, drawn, given_back, done};
+ghost use Rattle.diagram_statements.specs.ToDiagram.Acts.{act_view, effect_view};
+ghost use Rattle.diagram_statements.specs.ToDiagram.Drawings.{drawing_view, no_drawing, end_named, EndNames, ends_of, arrow_added, note_added, folded, given_back, done};
 ghost use Rattle.diagram_statements.specs.ToDiagram.Participants.{named_view};
 
-use crate::to_diagram::act::{Act, Drawn};
+use crate::to_diagram::act::{Act, Effect};
 use crate::to_diagram::activations::{Activations, Ends};
 use crate::to_diagram::labels::Breaks;
 use crate::to_diagram::participants::{Named, name, rename};
@@ -75,7 +75,7 @@ impl<'a> Drawing<'a> {
         place: Place,
         arrow: Arrow<'a>,
     ) -> Result<(), AllocError>
-        ensures { OnOk result (drawing_view self.new ≡ arrow_drawn breaks place (arrow_view arrow.entry) (drawing_view self.old)) }
+        ensures { OnOk result (drawing_view self.new ≡ arrow_added breaks place (arrow_view arrow.entry) (drawing_view self.old)) }
     {
         let first = name_end(&mut self.participants, place.line, arrow.first)?;
         let second = name_end(&mut self.participants, place.line, arrow.second)?;
@@ -98,7 +98,7 @@ impl<'a> Drawing<'a> {
         at: NoteAt<'a>,
         text: &'a [u8],
     ) -> Result<(), AllocError>
-        ensures { OnOk result (drawing_view self.new ≡ note_drawn place (note_at_view at.entry) text.now (drawing_view self.old)) }
+        ensures { OnOk result (drawing_view self.new ≡ note_added place (note_at_view at.entry) text.now (drawing_view self.old)) }
     {
         match at {
             NoteAt::Arrow => self.rows.leave_out(Kind::Note, place),
@@ -120,24 +120,24 @@ impl<'a> Drawing<'a> {
         alloc: Global,
         breaks: Breaks,
         place: Place,
-        what: Drawn<'a>,
+        what: Effect<'a>,
     ) -> Result<(), AllocError>
-        ensures { OnOk result (drawing_view self.new ≡ drawn breaks place (drawn_view what.entry) (drawing_view self.old)) }
+        ensures { OnOk result (drawing_view self.new ≡ folded breaks place (effect_view what.entry) (drawing_view self.old)) }
     {
         match what {
-            Drawn::Name(end) => {
+            Effect::Name(end) => {
                 let _ = name(&mut self.participants, place.line, end)?;
                 Ok(())
             }
-            Drawn::Rename(end) => rename(&mut self.participants, place.line, end),
-            Drawn::Arrow(arrow) => self.arrow(alloc, breaks, place, arrow),
-            Drawn::Note(at, text) => self.note(alloc, place, at, text),
-            Drawn::LeaveOut(kind) => self.rows.leave_out(kind, place),
-            Drawn::PassBy(kind) => {
+            Effect::Rename(end) => rename(&mut self.participants, place.line, end),
+            Effect::Arrow(arrow) => self.arrow(alloc, breaks, place, arrow),
+            Effect::Note(at, text) => self.note(alloc, place, at, text),
+            Effect::LeaveOut(kind) => self.rows.leave_out(kind, place),
+            Effect::PassBy(kind) => {
                 self.rows.close();
                 self.rows.leave_out(kind, place)
             }
-            Drawn::CloseRow => {
+            Effect::CloseRow => {
                 self.rows.close();
                 Ok(())
             }

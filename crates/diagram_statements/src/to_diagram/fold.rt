@@ -4,7 +4,7 @@ ghost use Rattle.diagrams.specs.Diagrams.{diagram_view, participant_view};
 ghost use Rattle.diagram_statements.specs.Readings.{read_view};
 ghost use Rattle.diagram_statements.specs.Statements.{statement_view, Reads};
 ghost use Rattle.diagram_statements.specs.ToDiagram.Drawings.{drawing_view, no_drawing};
-ghost use Rattle.diagram_statements.specs.ToDiagram.Folds.{participant_of, drawn_from, drawn_of, diagram_of};
+ghost use Rattle.diagram_statements.specs.ToDiagram.Folds.{participant_of, folded_from, folded_of, diagram_of};
 ghost use Rattle.diagram_statements.specs.ToDiagram.Participants.{named_view};
 
 use crate::to_diagram::drawing::Drawing;
@@ -16,12 +16,12 @@ use diagrams::{Diagram, Participant};
 use std::alloc::{AllocError, Global};
 
 /// What the statements draw.
-fn drawn<'a>(
+fn folded<'a>(
     alloc: Global,
     breaks: Breaks,
     statements: &[Statement<'a>],
 ) -> Result<Drawing<'a>, ReadError>
-    ensures { Reads drawing_view result (drawn_from breaks [] no_drawing (map statement_view statements.now)) }
+    ensures { Reads drawing_view result (folded_from breaks [] no_drawing (map statement_view statements.now)) }
 {
     let mut frames = Vec::new(alloc);
     let mut drawing = Drawing::new(alloc);
@@ -63,15 +63,15 @@ fn participants_of(
 }
 
 /// The diagram that these statements say, from the top.
-#[tactic(auto, unfolding(crate::specs::ToDiagram::Folds::drawn_of))]
-fn drawn_of(
+#[tactic(auto, unfolding(crate::specs::ToDiagram::Folds::folded_of))]
+fn folded_of(
     alloc: Global,
     breaks: Breaks,
     statements: &[Statement<'_>],
 ) -> Result<Diagram, ReadError>
-    ensures { Reads diagram_view result (drawn_of breaks (map statement_view statements.now)) }
+    ensures { Reads diagram_view result (folded_of breaks (map statement_view statements.now)) }
 {
-    let drawing = drawn(alloc, breaks, statements)?;
+    let drawing = folded(alloc, breaks, statements)?;
     let participants = participants_of(alloc, breaks, &drawing.participants)?;
     Ok(Diagram {
         participants,
@@ -84,13 +84,13 @@ fn drawn_of(
 ///
 /// # Errors
 ///
-/// The first fault from the top: a branch or an end that stands outside of a group, or what can't be read, or an end too
-/// early. Memory, where a growth was refused.
+/// The first fault from the top: a branch or an end that stands outside of a group, or what can't be read, or an end
+/// too early. Memory, where a growth was refused.
 #[tactic(auto, unfolding(crate::specs::ToDiagram::Folds::diagram_of))]
 pub fn diagram_of(alloc: Global, breaks: Breaks, read: &ReadText<'_>) -> Result<Diagram, ReadError>
     ensures { Reads diagram_view result (diagram_of breaks (read_view read.now)) }
 {
-    let diagram = drawn_of(alloc, breaks, &read.statements)?;
+    let diagram = folded_of(alloc, breaks, &read.statements)?;
     match read.fault {
         Some(fault) => Err(ReadError::Fault(fault)),
         None => Ok(diagram),

@@ -3,10 +3,10 @@ ghost use Rattle.std.specs.Prelude.{◌≡◌, ◌∷◌, ◌++◌, [], option_m
 ghost use Rattle.diagram_statements.specs.ToDiagram.Acts.{act_view, act_of};
 ghost use Rattle.diagram_statements.specs.ToDiagram.Frames.{top_frame, is_taken, is_parallel, is_break, begun_kind, if_taken, branched, ended, framed};
 ghost use Rattle.diagram_statements.specs.ToDiagram.Frames.{Frames};
-ghost use Rattle.diagram_statements.specs.Statements.{statement_view, said_view};
+ghost use Rattle.diagram_statements.specs.Statements.{statement_view, element_view};
 
-use crate::to_diagram::act::{Act, Drawn};
-use crate::{Fault, Group, Place, ReadError, Said, Statement};
+use crate::to_diagram::act::{Act, Effect};
+use crate::{Element, Fault, Group, Place, ReadError, Statement};
 use diagrams::Kind;
 
 /// What an open group or box is.
@@ -83,24 +83,24 @@ fn if_taken(taken: bool, act: Act<'_>) -> Option<Act<'_>>
 }
 
 /// What a statement does, whose frames stay as they are.
-fn act_of(said: Said<'_>) -> Option<Act<'_>>
-    ensures { option_map act_view result ≡ act_of (said_view said.entry) }
+fn act_of(element: Element<'_>) -> Option<Act<'_>>
+    ensures { option_map act_view result ≡ act_of (element_view element.entry) }
 {
-    match said {
-        Said::Named(end) => Some(Act::Draw(Drawn::Name(end))),
-        Said::Renamed(end) => Some(Act::Draw(Drawn::Rename(end))),
-        Said::Arrow(arrow) => Some(Act::Draw(Drawn::Arrow(arrow))),
-        Said::Note { at, text } => Some(Act::Draw(Drawn::Note(at, text))),
-        Said::Activate => Some(Act::Activate),
-        Said::Deactivate => Some(Act::Deactivate),
-        Said::Return { label, is_beside } => Some(Act::Return(label, is_beside)),
-        Said::ArrowsActivate(they_do) => Some(Act::ArrowsActivate(they_do)),
-        Said::Box => Some(Act::Draw(Drawn::LeaveOut(Kind::Box))),
-        Said::Divider => Some(Act::Draw(Drawn::PassBy(Kind::Divider))),
-        Said::Delay => Some(Act::Draw(Drawn::PassBy(Kind::Delay))),
-        Said::Reference => Some(Act::Draw(Drawn::PassBy(Kind::Reference))),
-        Said::Begin(_) | Said::Branch | Said::End | Said::BeginBox => None,
-        Said::Preprocessor | Said::OtherDiagram => None,
+    match element {
+        Element::Named(end) => Some(Act::Draw(Effect::Name(end))),
+        Element::Renamed(end) => Some(Act::Draw(Effect::Rename(end))),
+        Element::Arrow(arrow) => Some(Act::Draw(Effect::Arrow(arrow))),
+        Element::Note { at, text } => Some(Act::Draw(Effect::Note(at, text))),
+        Element::Activate => Some(Act::Activate),
+        Element::Deactivate => Some(Act::Deactivate),
+        Element::Return { label, is_beside } => Some(Act::Return(label, is_beside)),
+        Element::ArrowsActivate(they_do) => Some(Act::ArrowsActivate(they_do)),
+        Element::Box => Some(Act::Draw(Effect::LeaveOut(Kind::Box))),
+        Element::Divider => Some(Act::Draw(Effect::PassBy(Kind::Divider))),
+        Element::Delay => Some(Act::Draw(Effect::PassBy(Kind::Delay))),
+        Element::Reference => Some(Act::Draw(Effect::PassBy(Kind::Reference))),
+        Element::Begin(_) | Element::Branch | Element::End | Element::BeginBox => None,
+        Element::Preprocessor | Element::OtherDiagram => None,
     }
 }
 
@@ -131,12 +131,12 @@ fn branch<'a>(frames: &mut Vec<Frame>, place: Place) -> Result<Option<Act<'a>>, 
     };
     let around = is_taken(frames);
     let parallel = is_parallel(group);
-    let drawn = if parallel {
-        Drawn::CloseRow
+    let folded = if parallel {
+        Effect::CloseRow
     } else {
-        Drawn::PassBy(Kind::Branch)
+        Effect::PassBy(Kind::Branch)
     };
-    let act = if_taken(around, Act::Draw(drawn));
+    let act = if_taken(around, Act::Draw(folded));
     begin(frames, frame.kind, around && parallel, act)
 }
 
@@ -160,9 +160,9 @@ pub(crate) fn framed<'a>(
     ensures { Frames result frames.new.items (framed frames.old.items (statement_view statement.now)) }
 {
     let taken = is_taken(frames);
-    match statement.said {
-        Said::Begin(group) => {
-            let act = if_taken(taken, Act::Draw(Drawn::PassBy(begun_kind(group))));
+    match statement.element {
+        Element::Begin(group) => {
+            let act = if_taken(taken, Act::Draw(Effect::PassBy(begun_kind(group))));
             begin(
                 frames,
                 FrameKind::Group(group),
@@ -170,14 +170,14 @@ pub(crate) fn framed<'a>(
                 act,
             )
         }
-        Said::BeginBox => {
-            let act = if_taken(taken, Act::Draw(Drawn::LeaveOut(Kind::Box)));
+        Element::BeginBox => {
+            let act = if_taken(taken, Act::Draw(Effect::LeaveOut(Kind::Box)));
             begin(frames, FrameKind::Box, taken, act)
         }
-        Said::Branch => branch(frames, statement.place),
-        Said::End => end(frames, statement.place),
-        Said::Preprocessor => Ok(Some(Act::Draw(Drawn::LeaveOut(Kind::Preprocessor)))),
-        Said::OtherDiagram => Ok(Some(Act::Draw(Drawn::LeaveOut(Kind::Diagram)))),
-        said => { if taken { Ok(act_of(said)) } else { Ok(None) } }
+        Element::Branch => branch(frames, statement.place),
+        Element::End => end(frames, statement.place),
+        Element::Preprocessor => Ok(Some(Act::Draw(Effect::LeaveOut(Kind::Preprocessor)))),
+        Element::OtherDiagram => Ok(Some(Act::Draw(Effect::LeaveOut(Kind::Diagram)))),
+        element => { if taken { Ok(act_of(element)) } else { Ok(None) } }
     }
 }

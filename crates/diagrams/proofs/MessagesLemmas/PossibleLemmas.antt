@@ -13,7 +13,7 @@ use Rattle.diagrams.specs.declared.messages.end.End.{End}
 use Rattle.diagrams.specs.declared.messages.message.Named.{Named}
 use Rattle.diagrams.specs.Messages.Each.{Each}
 use Rattle.diagrams.proofs.MessagesLemmas.EachLemmas.{each_weaker}
-use Rattle.diagrams.specs.Messages.Following.{IsMessage, AreDrawn}
+use Rattle.diagrams.specs.Messages.Following.{IsMessage, AreBuildable}
 use Rattle.diagrams.proofs.MessagesLemmas.FifoLemmas.{own_in_turn, turn_each, lane_fifo}
 use Rattle.chart.proofs.StableOrderLemmas.OrderLemmas.{order_length}
 use Rattle.diagrams.proofs.MessagesLemmas.HistoryLemmas.{Stands, history_from, history_legal, history_chart}
@@ -25,16 +25,16 @@ unfolding all_ends
 ends_two n [] all = tt
 ends_two n (m ∷ messages) all = go m.is_lost (ends_two n messages all.1)
   where
-    turned : AreTwo n m.receiver m.sender
-    turned = let two = all.0.two in (two.2, two.3, two.0, two.1, λ e. two.4 (sym e))
+    swapped : AreTwo n m.receiver m.sender
+    swapped = let two = all.0.two in (two.2, two.3, two.0, two.1, λ e. two.4 (sym e))
 
     go : (lost : Bool) → Each (λ e. AreTwo n e.instance e.partner) (all_ends messages)
         → Each (λ e. AreTwo n e.instance e.partner) (cond lost (send_end m ∷ []) (send_end m ∷ receive_end m ∷ []) ++ all_ends messages)
     go true rest = (all.0.two, rest)
-    go false rest = (all.0.two, (turned, rest))
+    go false rest = (all.0.two, (swapped, rest))
 
 -- before the first end
-begins : (n : ℕ) (messages : List Named) → AreDrawn n messages → Stands n (suc (length (in_turn (all_ends messages)))) [] (λ p. None) (in_turn (all_ends messages))
+begins : (n : ℕ) (messages : List Named) → AreBuildable n messages → Stands n (suc (length (in_turn (all_ends messages)))) [] (λ p. None) (in_turn (all_ends messages))
 begins n messages are = record {
   legal = tt;
   opened = λ q p. refl;
@@ -56,26 +56,26 @@ same_lines ends h are p (suc n) = rw (add-one p, sym (are p)) (ap (λ l. history
 abbrev slots_for : List Named → ℕ
 slots_for messages = suc (length (in_turn (all_ends messages)))
 
-abbrev drawn_by : List Named → List Occurrence
-drawn_by messages = history_from [] (λ p. None) (in_turn (all_ends messages))
+abbrev built_by : List Named → List Occurrence
+built_by messages = history_from [] (λ p. None) (in_turn (all_ends messages))
 
-drawn_legal : (n : ℕ) (messages : List Named) → AreDrawn n messages → IsLegal n (slots_for messages) (drawn_by messages)
-drawn_legal n messages are = history_legal n (slots_for messages) [] (λ p. None) (in_turn (all_ends messages)) (begins n messages are)
+built_legal : (n : ℕ) (messages : List Named) → AreBuildable n messages → IsLegal n (slots_for messages) (built_by messages)
+built_legal n messages are = history_legal n (slots_for messages) [] (λ p. None) (in_turn (all_ends messages)) (begins n messages are)
 
-drawn_lines : (n : ℕ) (messages : List Named) → AreDrawn n messages → lines_from (all_ends messages) 1 n ≡ history_lines n (drawn_by messages)
-drawn_lines n messages are = same_lines (all_ends messages) (drawn_by messages) line 1 n
+built_lines : (n : ℕ) (messages : List Named) → AreBuildable n messages → lines_from (all_ends messages) 1 n ≡ history_lines n (built_by messages)
+built_lines n messages are = same_lines (all_ends messages) (built_by messages) line 1 n
   where
-    line : (p : ℕ) → chart_of (drawn_by messages) p ≡ with_ends None [] (in_turn (own_ends p (all_ends messages)))
+    line : (p : ℕ) → chart_of (built_by messages) p ≡ with_ends None [] (in_turn (own_ends p (all_ends messages)))
     line p = history_chart n (slots_for messages) [] (λ p. None) (in_turn (all_ends messages)) (begins n messages are) p ∙ ap (with_ends None []) (own_in_turn p (all_ends messages))
 
-pub possible_lines : (n : ℕ) (messages : List Named) → AreDrawn n messages → IsPossible n (chart_lines (lines_from (all_ends messages) 1 n))
+pub possible_lines : (n : ℕ) (messages : List Named) → AreBuildable n messages → IsPossible n (chart_lines (lines_from (all_ends messages) 1 n))
 possible_lines n messages are = (
-  drawn_by messages,
+  built_by messages,
   slots_for messages,
-  drawn_legal n messages are,
-  λ p. ap (λ c. c p) (chart-is n (slots_for messages) (drawn_by messages) (drawn_legal n messages are)) ∙ ap (λ lines. chart_lines lines p) (sym (drawn_lines n messages are)),
+  built_legal n messages are,
+  λ p. ap (λ c. c p) (chart-is n (slots_for messages) (built_by messages) (built_legal n messages are)) ∙ ap (λ lines. chart_lines lines p) (sym (built_lines n messages are)),
 )
 
 -- each event's partner is one of the instances
-pub partnered_lines : (n : ℕ) (messages : List Named) → AreDrawn n messages → HasPartners n (lines_from (all_ends messages) 1 n)
-partnered_lines n messages are = subst (HasPartners n) (sym (drawn_lines n messages are)) (lines-partnered n (slots_for messages) (drawn_by messages) (drawn_legal n messages are))
+pub partnered_lines : (n : ℕ) (messages : List Named) → AreBuildable n messages → HasPartners n (lines_from (all_ends messages) 1 n)
+partnered_lines n messages are = subst (HasPartners n) (sym (built_lines n messages are)) (lines-partnered n (slots_for messages) (built_by messages) (built_legal n messages are))

@@ -6,7 +6,7 @@ use Rattle.chart.specs.declared.event.Event.TheVariants.{Send, Receive}
 use Rattle.chart.specs.Events.{partner_of}
 use Rattle.chart.specs.Histories.{AreTwo}
 use Rattle.diagrams.specs.Messages.Each.{Each}
-use Rattle.diagrams.specs.Messages.Following.{AreDrawn}
+use Rattle.diagrams.specs.Messages.Following.{AreBuildable}
 use Rattle.diagrams.specs.Messages.Opening.{HasRoom}
 use Rattle.diagrams.specs.Messages.Regions.{event_of}
 use Rattle.diagrams.specs.Messages.Turns.{all_ends, own_ends, in_turn}
@@ -25,7 +25,7 @@ own_apart n p ends all =
     (each_weaker (λ (e : End). AreTwo n e.instance e.partner) (λ (e : End). (e.instance == p) ≡ true → e.partner ≢ p) (λ e two own same. two.4 (eqb-true e.instance p own ∙ sym same)) ends all)
 
 -- an empty line has room for its instance's ends
-pub room_for : (n p : ℕ) (messages : List Named) → AreDrawn n messages → HasRoom p [] (own_ends p (all_ends messages))
+pub room_for : (n p : ℕ) (messages : List Named) → AreBuildable n messages → HasRoom p [] (own_ends p (all_ends messages))
 room_for n p messages are = record { apart = own_apart n p (all_ends messages) (ends_two n messages are.each); room = omega (arith, are.room p) }
 
 -- whatever their order

@@ -19,7 +19,7 @@ pub record IsMessage (n : ℕ) (m : Named) : Type 0 where
   pub down : m.is_lost ≡ false → m.begins ≤ m.ends
 
 -- messages of which a chart of n instances can be drawn
-pub record AreDrawn (n : ℕ) (messages : List Named) : Type 0 where
+pub record AreBuildable (n : ℕ) (messages : List Named) : Type 0 where
   pub each : Each (IsMessage n) messages
   pub follow : Pairs Follows messages
   pub room : (p : ℕ) → length (own_ends p (all_ends messages)) ≤ MAX_EVENTS

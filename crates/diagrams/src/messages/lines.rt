@@ -2,7 +2,7 @@
 ghost use Rattle.std.specs.Prelude.{◌≡◌, ◌≤◌, ℕ, [], IfOk};
 ghost use Rattle.chart.specs.Charts.{chart_lines, IsPossible};
 ghost use Rattle.chart.specs.declared.instance.TheConstants.{MAX_INSTANCES};
-ghost use Rattle.diagrams.specs.Messages.Following.{AreDrawn};
+ghost use Rattle.diagrams.specs.Messages.Following.{AreBuildable};
 ghost use Rattle.diagrams.specs.Messages.Lines.{lines_from};
 ghost use Rattle.diagrams.specs.Messages.Opening.{HasRoom};
 ghost use Rattle.diagrams.specs.Messages.Turns.{all_ends, own_ends};
@@ -29,12 +29,12 @@ fn lines_of(alloc: Global, ends: &[End], count: usize) -> Result<Vec<Line>, Allo
 /// The chart of these messages, for so many instances. It fails only where there is no memory, or where a row is so far
 /// down that twice its number doesn't fit. It takes time in proportion to n log n for n messages.
 ///
-/// In each row an instance's sends come first, in the order of the messages, and then its receives, which are a coregion
-/// where they are several.
+/// In each row an instance's sends come first, in the order of the messages, and then its receives, which are a
+/// coregion where they are several.
 pub fn chart_of(alloc: Global, messages: &[Named], count: usize) -> Result<Chart, AllocError>
     requires several { 2 ≤ count }
     requires few { count ≤ MAX_INSTANCES }
-    requires drawn { AreDrawn count messages.now }
+    requires built { AreBuildable count messages.now }
     ensures lines { IfOk result (λ chart. chart ≡ lines_from (all_ends messages.now) 1 count) }
     ensures possible { IfOk result (λ chart. IsPossible count (chart_lines chart)) }
 {

@@ -15,7 +15,7 @@ use Rattle.log_chart.specs.declared.entry.Entry.{Entry}
 use Rattle.log_chart.specs.declared.item.Item.{Item}
 use Rattle.log_chart.specs.Cycles.Freeing.{HasNone, AreAmong, HaveLanes}
 use Rattle.log_chart.specs.Charts.ChartLines.{message_name, event_of, chart_from, first_full}
-use Rattle.log_chart.proofs.ChartsLemmas.CircleLemmas.{never_cyclic}
+use Rattle.log_chart.proofs.ChartsLemmas.CycleLemmas.{never_cyclic}
 use Rattle.log_chart.proofs.ChartsLemmas.FaultLemmas.{partner_in, never_unsent, same_names}
 use Rattle.log_chart.proofs.ChartsLemmas.ItemLemmas.{hosts_count}
 use Rattle.log_chart.proofs.ChartsLemmas.LineLemmas.{chart_count, host_is, view_is, item_of_event}
@@ -98,7 +98,7 @@ module _ (n : ℕ) (log : List Entry) (among : AreAmong n log) where
   pub is_chart : HaveLanes log → 2 ≤ n → n ≤ MAX_INSTANCES → first_full 1 (host_lines n log) ≡ None → IsChart (chart_from log 1 (host_lines n log))
   is_chart (from, to, lanes) several limit none = chart_is from to lanes several limit none
 
-  -- and none of whose receives is on a circle
+  -- and none of whose receives is on a cycle
   pub is_possible : HaveLanes log → HasNone (kept log) → 2 ≤ n → n ≤ MAX_INSTANCES → first_full 1 (host_lines n log) ≡ None
       → IsPossible (length (chart_from log 1 (host_lines n log))) (chart_lines (chart_from log 1 (host_lines n log)))
   is_possible (from, to, lanes) settled several limit none =

@@ -18,7 +18,7 @@ use Rattle.log_chart.specs.Items.{naming_line}
 use Rattle.log_chart.specs.Cycles.Freeing.{AreAmong}
 use Rattle.log_chart.proofs.CyclesLemmas.SettleLemmas.{kept_all}
 use Rattle.log_chart.specs.Charts.ChartLines.{name_at, message_name, event_of}
-use Rattle.log_chart.proofs.ChartsLemmas.CircleLemmas.{message_is}
+use Rattle.log_chart.proofs.ChartsLemmas.CycleLemmas.{message_is}
 use Rattle.log_chart.proofs.ChartsLemmas.LineLemmas.{chart_of_log, line_is, host_of_event, item_of_event}
 use Rattle.log_chart.proofs.ChartsLemmas.OriginLemmas.{head_is}
 use Rattle.log_chart.proofs.ChartsLemmas.PlacedLemmas.{Placed, placed, items_placed, IsOf, placed_are}

@@ -2,7 +2,7 @@
 use Rattle.std.proofs.Common.{◌≡◌, ℕ, ◌<◌, ◌⊎◌, inl, inr, List, Some, refl, sym, subst, arith}
 use Rattle.std.specs.Prelude.{Contains}
 use Rattle.log_chart.specs.declared.matching.LogLine.{LogLine}
-use Rattle.log_chart.specs.Cycles.Freeing.{IsOnCircle, HasNone}
+use Rattle.log_chart.specs.Cycles.Freeing.{IsOnCycle, HasNone}
 use Rattle.log_chart.specs.Cycles.Order.{Comes}
 use Rattle.log_chart.specs.Cycles.Order.Follows.{host, message}
 use Rattle.log_chart.specs.Cycles.Order.Comes.{direct, through}
@@ -41,10 +41,10 @@ module _ (lines : List LogLine) where
           before_it s (inr more) = through first more
       go (inl less) (inl more) = inl (omega (arith, less, more))
 
-  pub on_circle : (a : ℕ) → Comes lines a a → (k : ℕ) × IsOnCircle lines k
-  on_circle a way = go (by_message a a way)
+  pub on_cycle : (a : ℕ) → Comes lines a a → (k : ℕ) × IsOnCycle lines k
+  on_cycle a way = go (by_message a a way)
     where
-      go : (a < a) ⊎ ByMessage a a → (k : ℕ) × IsOnCircle lines k
+      go : (a < a) ⊎ ByMessage a a → (k : ℕ) × IsOnCycle lines k
       go (inl less) = absurd (omega (arith, less))
       go (inr by) = (
         by.line.number,
@@ -54,9 +54,9 @@ module _ (lines : List LogLine) where
           number = refl;
           send = by.send;
           takes = by.takes;
-          circle = then_comes by.line.number a by.line.number by.behind (then_comes a by.send by.line.number by.before (direct (message by.line by.among refl by.takes)));
+          cycle = then_comes by.line.number a by.line.number by.behind (then_comes a by.send by.line.number by.before (direct (message by.line by.among refl by.takes)));
         },
       )
 
-  pub no_circle : HasNone lines → (a : ℕ) → Comes lines a a → ⊥
-  no_circle none a way = let found = on_circle a way in none found.0 found.1
+  pub no_cycle : HasNone lines → (a : ℕ) → Comes lines a a → ⊥
+  no_cycle none a way = let found = on_cycle a way in none found.0 found.1

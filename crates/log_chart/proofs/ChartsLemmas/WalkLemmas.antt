@@ -14,8 +14,8 @@ use Rattle.log_chart.specs.declared.fate.Fate.{Fate}
 use Rattle.log_chart.specs.declared.item.Item.{Item}
 use Rattle.log_chart.specs.declared.matching.LogLine.{LogLine}
 use Rattle.log_chart.specs.Charts.ChartLines.{name_at, event_of, chart_from, first_full}
-use Rattle.log_chart.specs.Charts.Told.{is_lost, lost_of, place_at, overtaking_of, overtakings_of, invented_from, all_invented}
-use Rattle.log_chart.specs.declared.charts.told.Overtaking.{Overtaking}
+use Rattle.log_chart.specs.Charts.Listing.{is_lost, lost_of, place_at, overtaking_of, overtakings_of, invented_from, all_invented}
+use Rattle.log_chart.specs.declared.charts.listing.Overtaking.{Overtaking}
 
 -- a line of the log
 pub name_here : (log : List Entry) (n : ℕ) (e : Entry) → n < length log → (get_or log n e).name ≡ name_at log n
@@ -50,12 +50,12 @@ module _ (lines : List (List Item)) (n : ℕ) (x : List Item) (within : n < leng
       rw (grown, from_here lines n x within is)
       (append_assoc made _ _ ∙ ap (λ k. made ++ record { instance = suc n; events = map (event_of log) x } ∷ chart_from log (suc k) (drop (n + 1) lines)) (add-one n))
 
-  pub invented_lines_more : (told more : List EventNo) → more ≡ told ++ invented_from (suc n) 1 x
-      → more ++ all_invented (suc (n + 1)) (drop (n + 1) lines) ≡ told ++ all_invented (suc n) (drop n lines)
+  pub invented_lines_more : (listed more : List EventNo) → more ≡ listed ++ invented_from (suc n) 1 x
+      → more ++ all_invented (suc (n + 1)) (drop (n + 1) lines) ≡ listed ++ all_invented (suc n) (drop n lines)
   unfolding all_invented
-  invented_lines_more told more grown =
+  invented_lines_more listed more grown =
       rw (grown, from_here lines n x within is)
-      (append_assoc told _ _ ∙ ap (λ k. told ++ (invented_from (suc n) 1 x ++ all_invented (suc k) (drop (n + 1) lines))) (add-one n))
+      (append_assoc listed _ _ ∙ ap (λ k. listed ++ (invented_from (suc n) 1 x ++ all_invented (suc k) (drop (n + 1) lines))) (add-one n))
 
 pub full_none : (lines : List (List Item)) (n p : ℕ) → length lines ≤ n → None ≡ first_full p (drop n lines)
 unfolding first_full
@@ -65,9 +65,9 @@ pub chart_end : (log : List Entry) (made : List LineView) (lines : List (List It
 unfolding chart_from
 chart_end log made lines n p past = rw (drop_all n lines past) (append-nil made)
 
-pub invented_lines_end : (told : List EventNo) (lines : List (List Item)) (n p : ℕ) → length lines ≤ n → told ++ all_invented p (drop n lines) ≡ told
+pub invented_lines_end : (listed : List EventNo) (lines : List (List Item)) (n p : ℕ) → length lines ≤ n → listed ++ all_invented p (drop n lines) ≡ listed
 unfolding all_invented
-invented_lines_end told lines n p past = rw (drop_all n lines past) (append-nil told)
+invented_lines_end listed lines n p past = rw (drop_all n lines past) (append-nil listed)
 
 -- the events of a host
 pub events_more : {E : Type 0} (f : Item → E) (events more : List E) (items : List Item) (n : ℕ) (x : Item) → n < length items → x ≡ get_or items n x → more ≡ events ++ f x ∷ []
@@ -93,19 +93,19 @@ events_so_far f events items n within is =
     omega (arith, all, joined, left, whole, rest, within)
 
 -- those that are invented
-module _ (p : ℕ) (items : List Item) (n : ℕ) (x : Item) (within : n < length items) (is : x ≡ get_or items n x) (told : List EventNo) where
-  pub invented_more : (more : List EventNo) → is_none x.line ≡ true → more ≡ told ++ record { instance = p; index = n + 1 } ∷ []
-      → more ++ invented_from p (n + 1 + 1) (drop (n + 1) items) ≡ told ++ invented_from p (n + 1) (drop n items)
+module _ (p : ℕ) (items : List Item) (n : ℕ) (x : Item) (within : n < length items) (is : x ≡ get_or items n x) (listed : List EventNo) where
+  pub invented_more : (more : List EventNo) → is_none x.line ≡ true → more ≡ listed ++ record { instance = p; index = n + 1 } ∷ []
+      → more ++ invented_from p (n + 1 + 1) (drop (n + 1) items) ≡ listed ++ invented_from p (n + 1) (drop n items)
   unfolding invented_from
-  invented_more more its grown = rw (grown, from_here items n x within is, its) (append_assoc told _ _)
+  invented_more more its grown = rw (grown, from_here items n x within is, its) (append_assoc listed _ _)
 
-  pub invented_same : is_none x.line ≡ false → told ++ invented_from p (n + 1 + 1) (drop (n + 1) items) ≡ told ++ invented_from p (n + 1) (drop n items)
+  pub invented_same : is_none x.line ≡ false → listed ++ invented_from p (n + 1 + 1) (drop (n + 1) items) ≡ listed ++ invented_from p (n + 1) (drop n items)
   unfolding invented_from
   invented_same other = rw (from_here items n x within is, other) refl
 
-pub invented_end : (p k : ℕ) (told : List EventNo) (items : List Item) (n : ℕ) → length items ≤ n → told ++ invented_from p k (drop n items) ≡ told
+pub invented_end : (p k : ℕ) (listed : List EventNo) (items : List Item) (n : ℕ) → length items ≤ n → listed ++ invented_from p k (drop n items) ≡ listed
 unfolding invented_from
-invented_end p k told items n past = rw (drop_all n items past) (append-nil told)
+invented_end p k listed items n past = rw (drop_all n items past) (append-nil listed)
 
 -- lines with their fates
 module _ (lines : List LogLine) (fates : List Fate) (n : ℕ) (x : LogLine) (f : Fate) (within : n < length lines) (whole : length fates ≡ length lines) (is : x ≡ get_or lines n x)
@@ -122,19 +122,19 @@ module _ (lines : List LogLine) (fates : List Fate) (n : ℕ) (x : LogLine) (f :
   unfolding lost_of
   lost_same places other = rw (from_here lines n x within is, fate_here, other) refl
 
-  pub overtakings_more : (log : List Entry) (told more : List Overtaking) → more ≡ told ++ overtaking_of log x f
-      → more ++ overtakings_of log (drop (n + 1) lines) (drop (n + 1) fates) ≡ told ++ overtakings_of log (drop n lines) (drop n fates)
+  pub overtakings_more : (log : List Entry) (listed more : List Overtaking) → more ≡ listed ++ overtaking_of log x f
+      → more ++ overtakings_of log (drop (n + 1) lines) (drop (n + 1) fates) ≡ listed ++ overtakings_of log (drop n lines) (drop n fates)
   unfolding overtakings_of
-  overtakings_more log told more grown = rw (grown, from_here lines n x within is, fate_here) (append_assoc told _ _)
+  overtakings_more log listed more grown = rw (grown, from_here lines n x within is, fate_here) (append_assoc listed _ _)
 
 pub lost_end : (places : List Place) (lines : List LogLine) (fates : List Fate) (n : ℕ) → length lines ≤ n → places ++ lost_of (drop n lines) (drop n fates) ≡ places
 unfolding lost_of
 lost_end places lines fates n past = rw (drop_all n lines past) (append-nil places)
 
-pub overtakings_end : (log : List Entry) (told : List Overtaking) (lines : List LogLine) (fates : List Fate) (n : ℕ) → length lines ≤ n
-    → told ++ overtakings_of log (drop n lines) (drop n fates) ≡ told
+pub overtakings_end : (log : List Entry) (listed : List Overtaking) (lines : List LogLine) (fates : List Fate) (n : ℕ) → length lines ≤ n
+    → listed ++ overtakings_of log (drop n lines) (drop n fates) ≡ listed
 unfolding overtakings_of
-overtakings_end log told lines fates n past = rw (drop_all n lines past) (append-nil told)
+overtakings_end log listed lines fates n past = rw (drop_all n lines past) (append-nil listed)
 
 -- the lines are numbered
 chart_numbered : (log : List Entry) (p : ℕ) (lines : List (List Item)) (i : ℕ) (l : LineView) → slice_get (chart_from log p lines) i ≡ Some l → l.instance ≡ p + i

@@ -5,7 +5,7 @@ use Rattle.std.proofs.lemmas.Bool.{cases_eq, cases_lt, false≢true, eq-eqb, ltb
 use Rattle.std.proofs.lemmas.List.{get_or-replicate, get_or_past, length-replicate, get_or_default}
 use Rattle.std.proofs.lemmas.List.Elements.{All-contains}
 use Rattle.log_chart.specs.declared.matching.LogLine.{LogLine}
-use Rattle.log_chart.specs.Cycles.Freeing.{IsOnCircle, IsFirst, HasNone}
+use Rattle.log_chart.specs.Cycles.Freeing.{IsOnCycle, IsFirst, HasNone}
 use Rattle.log_chart.specs.Cycles.Order.{Comes}
 use Rattle.log_chart.specs.Cycles.Order.Follows.{host}
 use Rattle.log_chart.specs.Cycles.Searching.{IsSeen, IsClosed, AreBefore, IsPast}
@@ -61,7 +61,7 @@ module _ (lines : List LogLine) (n : ℕ) (tops sends : List (Option ℕ)) (own 
         ];
   }
 
-  -- it is on no circle
+  -- it is on no cycle
   pub gone_own : (more : List Bool) (stacked : List ℕ) → length more ≡ length seen → stacked ≡ [] → IsPast tops sends x.number more → x.entry.host ≡ own
       → ((s : ℕ) → x.send ≡ Some s → IsSeen more x.number → ⊥) → HasGone lines n tops sends own limit (i + 1) more stacked
   gone_own more stacked whole empty past x_own none = record {
@@ -86,33 +86,33 @@ module _ (lines : List LogLine) (n : ℕ) (tops sends : List (Option ℕ)) (own 
   gone_before x_own = gone.later i x (omega arith) within is x_own
 
   -- it is on one
-  pub found_on : (more : List Bool) (s : ℕ) → IsPast tops sends x.number more → x.send ≡ Some s → IsSeen more x.number → IsOnCircle lines x.number
+  pub found_on : (more : List Bool) (s : ℕ) → IsPast tops sends x.number more → x.send ≡ Some s → IsSeen more x.number → IsOnCycle lines x.number
   found_on more s past takes its = record {
     line = x;
     among = (i, within, sym is);
     number = refl;
     send = s;
     takes = takes;
-    circle = leads_comes lines n tops sends sources x.number x.number (past.before x.number its);
+    cycle = leads_comes lines n tops sends sources x.number x.number (past.before x.number its);
   }
 
-  pub found_first : x.number < limit → (j : ℕ) → j < x.number → (on : IsOnCircle lines j) → on.line.entry.host ≡ own → ⊥
+  pub found_first : x.number < limit → (j : ℕ) → j < x.number → (on : IsOnCycle lines j) → on.line.entry.host ≡ own → ⊥
   found_first few j less on on_own =
       let before = earlier lines n are on.among.0 i on.line x on.among.1 within (sym on.among.2) is (omega (arith, on.number)) in
-      gone.none on.among.0 on.line before on.among.1 (sym on.among.2) on_own (omega (arith, on.number)) on.send on.takes (subst (λ k. Comes lines k k) (sym on.number) on.circle)
+      gone.none on.among.0 on.line before on.among.1 (sym on.among.2) on_own (omega (arith, on.number)) on.send on.takes (subst (λ k. Comes lines k k) (sym on.number) on.cycle)
 
 -- all lines were gone over
 pub gone_all : (lines : List LogLine) (n : ℕ) (tops sends : List (Option ℕ)) (own limit i : ℕ) (seen : List Bool) (stack : List ℕ) → length lines ≤ i
-    → HasGone lines n tops sends own limit i seen stack → (j : ℕ) → j < limit → (on : IsOnCircle lines j) → on.line.entry.host ≡ own → ⊥
+    → HasGone lines n tops sends own limit i seen stack → (j : ℕ) → j < limit → (on : IsOnCycle lines j) → on.line.entry.host ≡ own → ⊥
 gone_all lines n tops sends own limit i seen stack past gone j less on on_own =
     let inside = on.among.1 in
-    gone.none on.among.0 on.line (omega (arith, inside)) inside (sym on.among.2) on_own (omega (arith, on.number)) on.send on.takes (subst (λ k. Comes lines k k) (sym on.number) on.circle)
+    gone.none on.among.0 on.line (omega (arith, inside)) inside (sym on.among.2) on_own (omega (arith, on.number)) on.send on.takes (subst (λ k. Comes lines k k) (sym on.number) on.cycle)
 
 -- the hosts up to one were gone over
 pub record HaveGone (lines : List LogLine) (n place limit : ℕ) : Type 0 where
   pub within : limit ≤ n
-  pub found : (limit ≡ n) ⊎ IsOnCircle lines limit
-  pub first : (j : ℕ) → j < limit → (on : IsOnCircle lines j) → on.line.entry.host ≤ place → ⊥
+  pub found : (limit ≡ n) ⊎ IsOnCycle lines limit
+  pub first : (j : ℕ) → j < limit → (on : IsOnCycle lines j) → on.line.entry.host ≤ place → ⊥
 
 pub none_gone : (lines : List LogLine) (n hosts : ℕ) → HaveHosts hosts lines → HaveGone lines n 0 n
 none_gone lines n hosts among = record {
@@ -123,8 +123,8 @@ none_gone lines n hosts among = record {
       omega (arith, its.0, low);
 }
 
-pub host_gone : (lines : List LogLine) (n place limit next : ℕ) → HaveGone lines n place limit → next ≤ limit → (next ≡ limit) ⊎ IsOnCircle lines next
-    → ((j : ℕ) → j < next → (on : IsOnCircle lines j) → on.line.entry.host ≡ suc place → ⊥) → HaveGone lines n (place + 1) next
+pub host_gone : (lines : List LogLine) (n place limit next : ℕ) → HaveGone lines n place limit → next ≤ limit → (next ≡ limit) ⊎ IsOnCycle lines next
+    → ((j : ℕ) → j < next → (on : IsOnCycle lines j) → on.line.entry.host ≡ suc place → ⊥) → HaveGone lines n (place + 1) next
 host_gone lines n place limit next gone few here none = record {
   within = omega (arith, gone.within);
   found =
@@ -133,7 +133,7 @@ host_gone lines n place limit next gone few here none = record {
         | inl same ↦
             elim gone.found [
               | inl all ↦ inl (same ∙ all)
-              | inr on ↦ inr (subst (IsOnCircle lines) (sym same) on)
+              | inr on ↦ inr (subst (IsOnCycle lines) (sym same) on)
             ]
       ];
   first = λ j less on low.
@@ -144,7 +144,7 @@ host_gone lines n place limit next gone few here none = record {
 }
 
 module _ (lines : List LogLine) (n hosts place limit : ℕ) (are : AreLines n lines) (among : HaveHosts hosts lines) (past : hosts ≤ place) (gone : HaveGone lines n place limit) where
-  none_before : (j : ℕ) → j < limit → IsOnCircle lines j → ⊥
+  none_before : (j : ℕ) → j < limit → IsOnCycle lines j → ⊥
   none_before j less on =
       let its = All-contains (λ x. (1 ≤ x.entry.host) × (x.entry.host ≤ hosts)) lines on.line among on.among in
       gone.first j less on (omega (arith, its.1))

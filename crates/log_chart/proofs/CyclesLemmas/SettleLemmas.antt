@@ -173,7 +173,7 @@ pub settled_lanes : (log out : List Entry) → Settles log out → HaveLanes log
 settled_lanes log out (done none) lanes = lanes
 settled_lanes log out (turn k first rest) lanes = settled_lanes _ out rest (freed_lanes log k first lanes)
 
--- and no receive is on a circle
+-- and no receive is on a cycle
 pub settled_none : (log out : List Entry) → Settles log out → HasNone (kept out)
 settled_none log out (done none) = none
 settled_none log out (turn k first rest) = settled_none _ out rest

@@ -12,7 +12,7 @@ use Rattle.log_chart.specs.Named.Faults.{fault_in, sooner, first_fault, fault_of
 use Rattle.log_chart.specs.Named.Logs.{begun, IsOwn, IsRefusalOf}
 use Rattle.log_chart.specs.declared.named.entering.LogError.{LogError}
 use Rattle.log_chart.specs.declared.named.entering.LogError.TheVariants.{Memory, Instances, ToItself}
-use Rattle.log_chart.specs.declared.named.said.Said.{Said}
+use Rattle.log_chart.specs.declared.named.host_event.HostEvent.{HostEvent}
 use Rattle.std.proofs.lemmas.List.{drop_all}
 use Rattle.std.proofs.lemmas.List.Sums.{fold_more}
 use Rattle.log_chart.proofs.NamedLemmas.WordLemmas.{put_longer, words_some}
@@ -23,13 +23,13 @@ err_is (Ok a) x its = absurd its
 err_is (Err e) x its = ap (λ y. Err y) its
 
 -- lines make the hosts no fewer
-pub hosts_up : (b : Before) (said : List Said) → length b.hosts ≤ length (hosts_from b said)
+pub hosts_up : (b : Before) (event : List HostEvent) → length b.hosts ≤ length (hosts_from b event)
 unfolding hosts_from
 hosts_up b [] = omega arith
-hosts_up b (s ∷ said) =
+hosts_up b (s ∷ event) =
     let one = put_longer (bytes_eq s.host) b.hosts s.host in
     let two = put_longer (bytes_eq s.peer) (with_word b.hosts s.host) s.peer in
-    let rest = hosts_up (with_line b s) said in
+    let rest = hosts_up (with_line b s) event in
     omega (arith, one, two, rest)
 
 pub sooner_none : (a b : Option LogError) → sooner a b ≡ None → (a ≡ None) × (b ≡ None)
@@ -37,7 +37,7 @@ sooner_none None b none = (refl, none)
 sooner_none (Some e) b none = absurd (cc none)
 
 -- of one line
-module _ (b : Before) (s : Said) where
+module _ (b : Before) (s : HostEvent) where
   -- there are too many hosts
   pub full_fault : MAX_INSTANCES < length (with_hosts b.hosts s) → fault_in b s ≡ Some Instances
   full_fault many = rw (lt-ltb MAX_INSTANCES (length (with_hosts b.hosts s)) many) refl
@@ -58,7 +58,7 @@ module _ (b : Before) (s : Said) where
       go false e = absurd (let its = eq-eqb (host_in b.hosts s) (peer_in b.hosts s) same in cc (e, its))
 
 -- of one line more, and the last
-module _ (lines : List Said) (n : ℕ) (x : Said) (within : n < length lines) (is : x ≡ get_or lines n x) (b : Before) where
+module _ (lines : List HostEvent) (n : ℕ) (x : HostEvent) (within : n < length lines) (is : x ≡ get_or lines n x) (b : Before) where
   pub faults_more : (next : Before) → next ≡ with_line b x → fault_in b x ≡ None → first_fault next (drop (n + 1) lines) ≡ first_fault b (drop n lines)
   unfolding first_fault
   faults_more next next_is none = rw (from_here lines n x within is, none, next_is) refl
@@ -79,15 +79,15 @@ module _ (lines : List Said) (n : ℕ) (x : Said) (within : n < length lines) (i
       go Instances it = whole Instances it
       go (ToItself place) it = whole (ToItself place) it
 
-pub faults_end : (b : Before) (lines : List Said) (n : ℕ) → length lines ≤ n → first_fault b (drop n lines) ≡ None
+pub faults_end : (b : Before) (lines : List HostEvent) (n : ℕ) → length lines ≤ n → first_fault b (drop n lines) ≡ None
 unfolding first_fault
 faults_end b lines n past = rw (drop_all n lines past) refl
 
-pub faultless : (hosts : List (List ℕ)) (lines : List Said) → length (fold with_word [] hosts) ≤ MAX_INSTANCES → first_fault (begun hosts) lines ≡ None → fault_of hosts lines ≡ None
+pub faultless : (hosts : List (List ℕ)) (lines : List HostEvent) → length (fold with_word [] hosts) ≤ MAX_INSTANCES → first_fault (begun hosts) lines ≡ None → fault_of hosts lines ≡ None
 faultless hosts lines few none = rw (le-ltb MAX_INSTANCES (length (fold with_word [] hosts)) few) none
 
 -- of hosts that come first
-pub host_refused : (hosts : List (List ℕ)) (lines : List Said) (n : ℕ) (w : List ℕ) → n < length hosts → w ≡ get_or hosts n w → (e : LogError) → IsHostRefusal (fold with_word [] (take n hosts)) w e
+pub host_refused : (hosts : List (List ℕ)) (lines : List HostEvent) (n : ℕ) (w : List ℕ) → n < length hosts → w ≡ get_or hosts n w → (e : LogError) → IsHostRefusal (fold with_word [] (take n hosts)) w e
     → IsRefusal (fault_of hosts lines) e
 host_refused hosts lines n w within is Memory refused = tt
 host_refused hosts lines n w within is Instances many =
@@ -97,15 +97,15 @@ host_refused hosts lines n w within is Instances many =
 host_refused hosts lines n w within is (ToItself place) refused = absurd refused
 
 -- what the first fault says of all lines
-full_all : (b : Before) (said : List Said) → first_fault b said ≡ Some Instances → MAX_INSTANCES < length (hosts_from b said)
+full_all : (b : Before) (event : List HostEvent) → first_fault b event ≡ Some Instances → MAX_INSTANCES < length (hosts_from b event)
 unfolding first_fault hosts_from
 full_all b [] is = absurd (cc is)
-full_all b (s ∷ said) is = go (nat_lt MAX_INSTANCES (length (with_hosts b.hosts s))) refl (host_in b.hosts s == peer_in b.hosts s) is (λ rest. full_all (with_line b s) said rest)
+full_all b (s ∷ event) is = go (nat_lt MAX_INSTANCES (length (with_hosts b.hosts s))) refl (host_in b.hosts s == peer_in b.hosts s) is (λ rest. full_all (with_line b s) event rest)
   where
     go : (many : Bool) → nat_lt MAX_INSTANCES (length (with_hosts b.hosts s)) ≡ many → (own : Bool)
-        → sooner (cond many (Some Instances) (cond own (Some (ToItself s.place)) None)) (first_fault (with_line b s) said) ≡ Some Instances
-        → (first_fault (with_line b s) said ≡ Some Instances → MAX_INSTANCES < length (hosts_from (with_line b s) said)) → MAX_INSTANCES < length (hosts_from (with_line b s) said)
-    go true e own its rest = let less = ltb-true MAX_INSTANCES (length (with_hosts b.hosts s)) e in let up = hosts_up (with_line b s) said in omega (arith, less, up)
+        → sooner (cond many (Some Instances) (cond own (Some (ToItself s.place)) None)) (first_fault (with_line b s) event) ≡ Some Instances
+        → (first_fault (with_line b s) event ≡ Some Instances → MAX_INSTANCES < length (hosts_from (with_line b s) event)) → MAX_INSTANCES < length (hosts_from (with_line b s) event)
+    go true e own its rest = let less = ltb-true MAX_INSTANCES (length (with_hosts b.hosts s)) e in let up = hosts_up (with_line b s) event in omega (arith, less, up)
     go false e true its rest = absurd (let other = same_Some (ToItself s.place) Instances its in cc other)
     go false e false its rest = rest its
 
@@ -117,18 +117,18 @@ own_later e log place is = record {
   at = is.at;
 }
 
-own_all : (b : Before) (said : List Said) (place : Place) → first_fault b said ≡ Some (ToItself place) → IsOwn (entries_from b said) place
+own_all : (b : Before) (event : List HostEvent) (place : Place) → first_fault b event ≡ Some (ToItself place) → IsOwn (entries_from b event) place
 unfolding first_fault entries_from
 own_all b [] place is = absurd (cc is)
-own_all b (s ∷ said) place is =
-    go (nat_lt MAX_INSTANCES (length (with_hosts b.hosts s))) (host_in b.hosts s == peer_in b.hosts s) refl is (λ rest. own_later (entry_in b s) (entries_from (with_line b s) said) place (own_all (with_line b s) said place rest))
+own_all b (s ∷ event) place is =
+    go (nat_lt MAX_INSTANCES (length (with_hosts b.hosts s))) (host_in b.hosts s == peer_in b.hosts s) refl is (λ rest. own_later (entry_in b s) (entries_from (with_line b s) event) place (own_all (with_line b s) event place rest))
   where
     placed : (p q : Place) → ToItself p ≡ ToItself q → p ≡ q
     placed p q e = cc e
 
     go : (many own : Bool) → (host_in b.hosts s == peer_in b.hosts s) ≡ own
-        → sooner (cond many (Some Instances) (cond own (Some (ToItself s.place)) None)) (first_fault (with_line b s) said) ≡ Some (ToItself place)
-        → (first_fault (with_line b s) said ≡ Some (ToItself place) → IsOwn (entry_in b s ∷ entries_from (with_line b s) said) place) → IsOwn (entry_in b s ∷ entries_from (with_line b s) said) place
+        → sooner (cond many (Some Instances) (cond own (Some (ToItself s.place)) None)) (first_fault (with_line b s) event) ≡ Some (ToItself place)
+        → (first_fault (with_line b s) event ≡ Some (ToItself place) → IsOwn (entry_in b s ∷ entries_from (with_line b s) event) place) → IsOwn (entry_in b s ∷ entries_from (with_line b s) event) place
     go true own e its rest = absurd (let other = same_Some Instances (ToItself place) its in cc other)
     go false true e its rest = record {
       entry = entry_in b s;
@@ -138,7 +138,7 @@ own_all b (s ∷ said) place is =
     }
     go false false e its rest = rest its
 
-pub fault_says : (hosts : List (List ℕ)) (lines : List Said) (e : LogError) → IsRefusal (fault_of hosts lines) e → IsRefusalOf hosts lines e
+pub fault_says : (hosts : List (List ℕ)) (lines : List HostEvent) (e : LogError) → IsRefusal (fault_of hosts lines) e → IsRefusalOf hosts lines e
 fault_says hosts lines Memory is = tt
 fault_says hosts lines Instances is = go (nat_lt MAX_INSTANCES (length (fold with_word [] hosts))) refl is
   where

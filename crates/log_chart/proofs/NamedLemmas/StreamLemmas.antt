@@ -12,18 +12,18 @@ use Rattle.log_chart.specs.declared.entry.Kind.TheVariants.{Send, Receive}
 use Rattle.log_chart.specs.Cycles.Freeing.{HaveLanes}
 use Rattle.log_chart.specs.Named.Entering.{Before, same_stream, host_in, peer_in, stream_in, entry_in, with_line, entries_from}
 use Rattle.log_chart.specs.Named.Logs.{begun}
-use Rattle.log_chart.specs.declared.named.said.Said.{Said}
+use Rattle.log_chart.specs.declared.named.host_event.HostEvent.{HostEvent}
 use Rattle.log_chart.specs.declared.named.stream.Stream.{Stream}
 use Rattle.log_chart.proofs.NamedLemmas.WordLemmas.{put_passes, put_keeps}
 
 -- the streams with those of these lines
-abbrev AllStreams : Before → List Said → List Stream
+abbrev AllStreams : Before → List HostEvent → List Stream
 AllStreams b [] = b.streams
-AllStreams b (s ∷ said) = AllStreams (with_line b s) said
+AllStreams b (s ∷ event) = AllStreams (with_line b s) event
 
-streams_keep : (b : Before) (said : List Said) (i : ℕ) (y : Stream) → slice_get b.streams i ≡ Some y → slice_get (AllStreams b said) i ≡ Some y
+streams_keep : (b : Before) (event : List HostEvent) (i : ℕ) (y : Stream) → slice_get b.streams i ≡ Some y → slice_get (AllStreams b event) i ≡ Some y
 streams_keep b [] i y is = is
-streams_keep b (s ∷ said) i y is = streams_keep (with_line b s) said i y (put_keeps (same_stream (stream_in b s)) b.streams (stream_in b s) i y is)
+streams_keep b (s ∷ event) i y is = streams_keep (with_line b s) event i y (put_keeps (same_stream (stream_in b s)) b.streams (stream_in b s) i y is)
 
 -- the lane of a stream
 abbrev sender_in : Option Stream → ℕ
@@ -48,7 +48,7 @@ one_lane x y same =
     (eqb-true x.sender y.sender first.0, eqb-true x.receiver y.receiver second.0)
 
 -- an entry is of the lane of its stream
-entry_lane : (b : Before) (s : Said) → (sender_of (entry_in b s) ≡ (stream_in b s).sender) × (receiver_of (entry_in b s) ≡ (stream_in b s).receiver)
+entry_lane : (b : Before) (s : HostEvent) → (sender_of (entry_in b s) ≡ (stream_in b s).sender) × (receiver_of (entry_in b s) ≡ (stream_in b s).receiver)
 entry_lane b s = go s.sends
   where
     go : (sends : Bool) → (cond (is_send (cond sends Send Receive)) (host_in b.hosts s) (peer_in b.hosts s) ≡ cond sends (host_in b.hosts s) (peer_in b.hosts s))
@@ -56,24 +56,24 @@ entry_lane b s = go s.sends
     go true = (refl, refl)
     go false = (refl, refl)
 
-lanes_from : (all : List Stream) (b : Before) (said : List Said) → AllStreams b said ≡ all
-    → All (λ e. (sender_of e ≡ sender_in (slice_get all e.stream)) × (receiver_of e ≡ receiver_in (slice_get all e.stream))) (entries_from b said)
+lanes_from : (all : List Stream) (b : Before) (event : List HostEvent) → AllStreams b event ≡ all
+    → All (λ e. (sender_of e ≡ sender_in (slice_get all e.stream)) × (receiver_of e ≡ receiver_in (slice_get all e.stream))) (entries_from b event)
 unfolding entries_from
 lanes_from all b [] is = All-nil (λ (e : Entry). (sender_of e ≡ sender_in (slice_get all e.stream)) × (receiver_of e ≡ receiver_in (slice_get all e.stream)))
-lanes_from all b (s ∷ said) is =
-    All-cons (λ (e : Entry). (sender_of e ≡ sender_in (slice_get all e.stream)) × (receiver_of e ≡ receiver_in (slice_get all e.stream))) (entry_in b s) (entries_from (with_line b s) said) here
-    (lanes_from all (with_line b s) said is)
+lanes_from all b (s ∷ event) is =
+    All-cons (λ (e : Entry). (sender_of e ≡ sender_in (slice_get all e.stream)) × (receiver_of e ≡ receiver_in (slice_get all e.stream))) (entry_in b s) (entries_from (with_line b s) event) here
+    (lanes_from all (with_line b s) event is)
   where
     here : (sender_of (entry_in b s) ≡ sender_in (slice_get all (position_or_len (same_stream (stream_in b s)) b.streams)))
         × (receiver_of (entry_in b s) ≡ receiver_in (slice_get all (position_or_len (same_stream (stream_in b s)) b.streams)))
     here =
         let found = put_passes (same_stream (stream_in b s)) b.streams (stream_in b s) (itself (stream_in b s)) in
-        let kept = streams_keep (with_line b s) said (position_or_len (same_stream (stream_in b s)) b.streams) found.0 found.1 in
+        let kept = streams_keep (with_line b s) event (position_or_len (same_stream (stream_in b s)) b.streams) found.0 found.1 in
         let at_it : slice_get all (position_or_len (same_stream (stream_in b s)) b.streams) ≡ Some found.0 = subst (λ l. slice_get l (position_or_len (same_stream (stream_in b s)) b.streams) ≡ Some found.0) is kept in
         let lane = one_lane (stream_in b s) found.0 found.2 in
         let own = entry_lane b s in
         (own.0 ∙ lane.0 ∙ sym (ap sender_in at_it), own.1 ∙ lane.1 ∙ sym (ap receiver_in at_it))
 
-pub have_lanes : (hosts : List (List ℕ)) (said : List Said) → HaveLanes (entries_from (begun hosts) said)
-have_lanes hosts said =
-    ((λ c. sender_in (slice_get (AllStreams (begun hosts) said) c)), (λ c. receiver_in (slice_get (AllStreams (begun hosts) said) c)), lanes_from (AllStreams (begun hosts) said) (begun hosts) said refl)
+pub have_lanes : (hosts : List (List ℕ)) (event : List HostEvent) → HaveLanes (entries_from (begun hosts) event)
+have_lanes hosts event =
+    ((λ c. sender_in (slice_get (AllStreams (begun hosts) event) c)), (λ c. receiver_in (slice_get (AllStreams (begun hosts) event) c)), lanes_from (AllStreams (begun hosts) event) (begun hosts) event refl)

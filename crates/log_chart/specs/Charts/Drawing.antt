@@ -6,13 +6,13 @@ use Rattle.log_chart.specs.Matching.{matched}
 use Rattle.log_chart.specs.declared.entry.Entry.{Entry}
 use Rattle.log_chart.specs.Cycles.Freeing.{Settles}
 use Rattle.log_chart.specs.Charts.ChartLines.{chart_from, first_full}
-use Rattle.log_chart.specs.Charts.Told.{freed_places, lost_of, overtakings_of, all_invented}
+use Rattle.log_chart.specs.Charts.Listing.{freed_places, lost_of, overtakings_of, all_invented}
 use Rattle.log_chart.specs.declared.charts.drawing.DrawError.{DrawError}
 use Rattle.log_chart.specs.declared.charts.drawing.DrawError.TheVariants.{Memory, Instances, LineFull}
-use Rattle.log_chart.specs.declared.charts.drawing.Drawn.{Drawn}
+use Rattle.log_chart.specs.declared.charts.drawing.LogChart.{LogChart}
 
 -- the chart of so many hosts' lines of a log whose receives are freed, and what is told of it
-pub record IsDrawn (hosts : ℕ) (log : List Entry) (d : Drawn) : Type 0 where
+pub record IsLogChart (hosts : ℕ) (log : List Entry) (d : LogChart) : Type 0 where
   pub chart : d.chart ≡ chart_from log 1 (host_lines hosts log)
   pub lost : d.lost.items ≡ lost_of (matched log) (fates (matched log))
   pub overtaking : d.overtaking.items ≡ overtakings_of log (matched log) (fates (matched log))

@@ -10,22 +10,22 @@ use Rattle.log_chart.specs.declared.matching.LogLine.{LogLine}
 use Rattle.log_chart.specs.Cycles.Order.{Comes}
 
 -- the line of this number receives a message whose send is logged, and it comes before itself
-pub record IsOnCircle (lines : List LogLine) (k : ℕ) : Type 0 where
+pub record IsOnCycle (lines : List LogLine) (k : ℕ) : Type 0 where
   pub line : LogLine
   pub among : Contains lines line
   pub number : line.number ≡ k
   pub send : ℕ
   pub takes : line.send ≡ Some send
-  pub circle : Comes lines k k
+  pub cycle : Comes lines k k
 
 -- no such receive stands earlier in the files
 pub record IsFirst (lines : List LogLine) (k : ℕ) : Type 0 where
-  pub on : IsOnCircle lines k
-  pub first : (j : ℕ) → j < k → IsOnCircle lines j → ⊥
+  pub on : IsOnCycle lines k
+  pub first : (j : ℕ) → j < k → IsOnCycle lines j → ⊥
 
 -- there is none
 abbrev pub HasNone : List LogLine → Type 0
-HasNone lines = (k : ℕ) → IsOnCircle lines k → ⊥
+HasNone lines = (k : ℕ) → IsOnCycle lines k → ⊥
 
 -- the log whose line of this number takes no send
 abbrev pub freed : ℕ → List Entry → List Entry
@@ -33,7 +33,7 @@ freed k [] = []
 freed zero (e ∷ log) = record e { kind = Freed } ∷ log
 freed (suc k) (e ∷ log) = e ∷ freed k log
 
--- each turn frees the first receive that is on a circle, and pairing begins anew; it ends where there is none
+-- each turn frees the first receive that is on a cycle, and pairing begins anew; it ends where there is none
 pub data Settles : List Entry → List Entry → Type 0 where
   done : {log : List Entry} → HasNone (kept log) → Settles log log
   turn : {log out : List Entry} (k : ℕ) → IsFirst (kept log) k → Settles (freed k log) out → Settles log out

@@ -6,7 +6,7 @@ use Rattle.std.specs.List.{position_or_len, list_any}
 use Rattle.log_chart.specs.declared.entry.Entry.{Entry}
 use Rattle.log_chart.specs.declared.entry.Kind.{Kind}
 use Rattle.log_chart.specs.declared.entry.Kind.TheVariants.{Send, Receive}
-use Rattle.log_chart.specs.declared.named.said.Said.{Said}
+use Rattle.log_chart.specs.declared.named.host_event.HostEvent.{HostEvent}
 use Rattle.log_chart.specs.declared.named.stream.Stream.{Stream}
 
 -- the words with this one, if it isn't among them
@@ -24,7 +24,7 @@ same_stream x y = x.sender == y.sender && (x.receiver == y.receiver && (beq x.ha
 abbrev pub with_stream : List Stream → Stream → List Stream
 with_stream streams x = if list_any (same_stream x) streams then streams else streams ++ x ∷ []
 
-abbrev pub kind_of : Said → Kind
+abbrev pub kind_of : HostEvent → Kind
 kind_of s = if s.sends then Send else Receive
 
 -- the names of messages with that of a line without an id
@@ -38,7 +38,7 @@ number_in names None name = place_in names name
 number_in names (Some id) name = id
 
 -- the stream of a line between these two instances, where these names of messages came before
-abbrev pub stream_of : List (List ℕ) → ℕ → ℕ → Said → Stream
+abbrev pub stream_of : List (List ℕ) → ℕ → ℕ → HostEvent → Stream
 stream_of names host peer s = record {
   sender = if s.sends then host else peer;
   receiver = if s.sends then peer else host;
@@ -47,7 +47,7 @@ stream_of names host peer s = record {
 }
 
 -- its entry, where these streams came before
-abbrev pub entry_of : List Stream → Stream → ℕ → ℕ → Said → Entry
+abbrev pub entry_of : List Stream → Stream → ℕ → ℕ → HostEvent → Entry
 entry_of streams stream host peer s = record {
   host = host;
   kind = kind_of s;
@@ -58,14 +58,14 @@ entry_of streams stream host peer s = record {
 }
 
 -- the hosts with those of a line
-abbrev pub with_hosts : List (List ℕ) → Said → List (List ℕ)
+abbrev pub with_hosts : List (List ℕ) → HostEvent → List (List ℕ)
 with_hosts hosts s = with_word (with_word hosts s.host) s.peer
 
 -- the instance of its host, and that of its peer
-abbrev pub host_in : List (List ℕ) → Said → ℕ
+abbrev pub host_in : List (List ℕ) → HostEvent → ℕ
 host_in hosts s = suc (place_in hosts s.host)
 
-abbrev pub peer_in : List (List ℕ) → Said → ℕ
+abbrev pub peer_in : List (List ℕ) → HostEvent → ℕ
 peer_in hosts s = suc (place_in (with_word hosts s.host) s.peer)
 
 -- what came before a line: names of hosts and of messages, and streams
@@ -74,26 +74,26 @@ pub record Before : Type 0 where
   pub names : List (List ℕ)
   pub streams : List Stream
 
-abbrev pub stream_in : Before → Said → Stream
+abbrev pub stream_in : Before → HostEvent → Stream
 stream_in b s = stream_of b.names (host_in b.hosts s) (peer_in b.hosts s) s
 
 -- with a line
-abbrev pub with_line : Before → Said → Before
+abbrev pub with_line : Before → HostEvent → Before
 with_line b s = record {
   hosts = with_hosts b.hosts s;
   names = names_with b.names s.id s.name;
   streams = with_stream b.streams (stream_in b s);
 }
 
-abbrev pub entry_in : Before → Said → Entry
+abbrev pub entry_in : Before → HostEvent → Entry
 entry_in b s = entry_of b.streams (stream_in b s) (host_in b.hosts s) (peer_in b.hosts s) s
 
 -- the entries of these lines
-unfoldable pub entries_from : Before → List Said → List Entry
+unfoldable pub entries_from : Before → List HostEvent → List Entry
 entries_from b [] = []
-entries_from b (s ∷ said) = entry_in b s ∷ entries_from (with_line b s) said
+entries_from b (s ∷ event) = entry_in b s ∷ entries_from (with_line b s) event
 
 -- the names of the hosts, with those of these lines
-unfoldable pub hosts_from : Before → List Said → List (List ℕ)
+unfoldable pub hosts_from : Before → List HostEvent → List (List ℕ)
 hosts_from b [] = b.hosts
-hosts_from b (s ∷ said) = hosts_from (with_line b s) said
+hosts_from b (s ∷ event) = hosts_from (with_line b s) event

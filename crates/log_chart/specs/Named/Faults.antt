@@ -5,10 +5,10 @@ use Rattle.log_chart.specs.Named.Entering.{Before, with_word, with_hosts, host_i
 use Rattle.log_chart.specs.Named.Logs.{begun}
 use Rattle.log_chart.specs.declared.named.entering.LogError.{LogError}
 use Rattle.log_chart.specs.declared.named.entering.LogError.TheVariants.{Memory, Instances, ToItself}
-use Rattle.log_chart.specs.declared.named.said.Said.{Said}
+use Rattle.log_chart.specs.declared.named.host_event.HostEvent.{HostEvent}
 
 -- what is wrong with a line, where these came before
-abbrev pub fault_in : Before → Said → Option LogError
+abbrev pub fault_in : Before → HostEvent → Option LogError
 fault_in b s =
     if nat_lt MAX_INSTANCES (length (with_hosts b.hosts s)) then Some Instances
     else (if host_in b.hosts s == peer_in b.hosts s then Some (ToItself s.place) else None)
@@ -19,14 +19,14 @@ sooner None later = later
 sooner (Some e) later = Some e
 
 -- the first fault of these lines
-unfoldable pub first_fault : Before → List Said → Option LogError
+unfoldable pub first_fault : Before → List HostEvent → Option LogError
 first_fault b [] = None
-first_fault b (s ∷ said) = sooner (fault_in b s) (first_fault (with_line b s) said)
+first_fault b (s ∷ event) = sooner (fault_in b s) (first_fault (with_line b s) event)
 
 -- of lines before which these hosts come
-abbrev pub fault_of : List (List ℕ) → List Said → Option LogError
-fault_of hosts said =
-    if nat_lt MAX_INSTANCES (length (fold with_word [] hosts)) then Some Instances else first_fault (begun hosts) said
+abbrev pub fault_of : List (List ℕ) → List HostEvent → Option LogError
+fault_of hosts event =
+    if nat_lt MAX_INSTANCES (length (fold with_word [] hosts)) then Some Instances else first_fault (begun hosts) event
 
 -- a refusal tells the fault; that of memory tells none
 abbrev pub IsRefusal : Option LogError → LogError → Type 0

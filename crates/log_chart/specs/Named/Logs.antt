@@ -7,7 +7,7 @@ use Rattle.log_chart.specs.Named.Entering.{Before, with_word, entries_from, host
 use Rattle.log_chart.specs.declared.named.entering.LogError.{LogError}
 use Rattle.log_chart.specs.declared.named.entering.LogError.TheVariants.{Memory, Instances, ToItself}
 use Rattle.log_chart.specs.declared.named.entering.Reading.{Reading}
-use Rattle.log_chart.specs.declared.named.said.Said.{Said}
+use Rattle.log_chart.specs.declared.named.host_event.HostEvent.{HostEvent}
 
 -- what came before
 abbrev pub before_of : Reading → Before
@@ -25,7 +25,7 @@ pub record IsOwn (log : List Entry) (place : Place) : Type 0 where
   pub at : entry.place ≡ place
 
 -- what a refusal says of all lines, where these hosts come first
-abbrev pub IsRefusalOf : List (List ℕ) → List Said → LogError → Type 0
+abbrev pub IsRefusalOf : List (List ℕ) → List HostEvent → LogError → Type 0
 IsRefusalOf hosts lines Memory = Unit {0}
 IsRefusalOf hosts lines Instances = MAX_INSTANCES < length (hosts_from (begun hosts) lines)
 IsRefusalOf hosts lines (ToItself place) = IsOwn (entries_from (begun hosts) lines) place

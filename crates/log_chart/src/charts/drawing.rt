@@ -6,11 +6,11 @@ ghost use Rattle.log_chart.specs.Entries.{HaveStreams};
 ghost use Rattle.log_chart.specs.HostLines.{kept, host_lines};
 ghost use Rattle.log_chart.specs.Cycles.Freeing.{HasNone, Settles, AreAmong, HaveLanes};
 ghost use Rattle.log_chart.specs.Charts.ChartLines.{chart_from, first_full, AreNamed};
-ghost use Rattle.log_chart.specs.Charts.Drawing.{IsDrawn, IsSettledRefusal, IsRefusalOf};
+ghost use Rattle.log_chart.specs.Charts.Drawing.{IsLogChart, IsSettledRefusal, IsRefusalOf};
 ghost use Rattle.log_chart.specs.declared.charts.drawing.DrawError.TheVariants.{Memory};
 
 use crate::charts::chart_lines::{first_full, lines_of};
-use crate::charts::told::{Overtaking, freed_places, invented_sends, lost_places, overtakings};
+use crate::charts::listing::{Overtaking, freed_places, invented_sends, lost_places, overtakings};
 use crate::cycles::settle;
 use crate::{Entry, HostLine, Place, host_lines};
 use chart::{Chart, EventNo, InstanceNo};
@@ -49,7 +49,7 @@ impl<T: Drop> From<AllocFailed<T>> for DrawError {
 
 /// What a log comes to.
 #[derive(Debug, Drop)]
-pub struct Drawn {
+pub struct LogChart {
     pub chart: Chart,
     /// The lines of messages that are lost, in the order of the log.
     pub lost: Vec<Place>,
@@ -75,27 +75,27 @@ fn chart_of(alloc: Global, log: &[Entry], lines: &[HostLine]) -> Result<Chart, A
 }
 
 /// The chart of a log of so many hosts none of whose lines comes before itself, and what is told of it.
-fn draw_settled(alloc: Global, hosts: usize, log: &[Entry]) -> Result<Drawn, DrawError>
+fn draw_settled(alloc: Global, hosts: usize, log: &[Entry]) -> Result<LogChart, DrawError>
     requires several { 2 ≤ hosts }
     requires hosts { hosts ≤ MAX_INSTANCES }
     requires streams { HaveStreams log.now }
     requires lanes { HaveLanes log.now }
     requires among { AreAmong hosts log.now }
     requires settled { HasNone (kept log.now) }
-    ensures drawn { IfOk result (IsDrawn hosts log.now) }
+    ensures built { IfOk result (IsLogChart hosts log.now) }
     ensures possible { IfOk result (λ d. IsPossible (length d.chart) (chart_lines d.chart)) }
     ensures short { OnOk result (first_full 1 (host_lines hosts log.now) ≡ None) }
     ensures refused { IfErr result (IsSettledRefusal hosts log.now) }
 {
-    let drawn = host_lines(alloc, hosts, log)?;
-    let lines = drawn.lines.as_slice();
+    let built = host_lines(alloc, hosts, log)?;
+    let lines = built.lines.as_slice();
     if let Some(host) = first_full(lines) {
         return Err(DrawError::LineFull(host));
     }
-    Ok(Drawn {
+    Ok(LogChart {
         chart: chart_of(alloc, log, lines)?,
-        lost: lost_places(alloc, &drawn.matched, &drawn.fates)?,
-        overtaking: overtakings(alloc, log, &drawn.matched, &drawn.fates)?,
+        lost: lost_places(alloc, &built.matched, &built.fates)?,
+        overtaking: overtakings(alloc, log, &built.matched, &built.fates)?,
         invented: invented_sends(alloc, lines)?,
         freed: freed_places(alloc, log)?,
     })
@@ -105,15 +105,15 @@ fn draw_settled(alloc: Global, hosts: usize, log: &[Entry]) -> Result<Drawn, Dra
 /// an instance has more events than a line holds: the first such one. F6 may come at any point. Receives of the log are
 /// freed as [`settle`] says.
 ///
-/// Each line of a host is an event of its instance, in their order, but for lost messages and those that overtake, which
-/// are left out, and sends that are invented; each of these is told.
-pub fn draw(alloc: Global, hosts: usize, log: &mut [Entry]) -> Result<Drawn, DrawError>
+/// Each line of a host is an event of its instance, in their order, but for lost messages and those that overtake,
+/// which are left out, and sends that are invented; each of these is told.
+pub fn draw(alloc: Global, hosts: usize, log: &mut [Entry]) -> Result<LogChart, DrawError>
     requires hosts { hosts ≤ MAX_INSTANCES }
     requires streams { HaveStreams log.old }
     requires lanes { HaveLanes log.old }
     requires among { AreAmong hosts log.old }
     ensures settled { OnOk result (Settles log.old log.new) }
-    ensures drawn { IfOk result (IsDrawn hosts log.new) }
+    ensures built { IfOk result (IsLogChart hosts log.new) }
     ensures possible { IfOk result (λ d. IsPossible (length d.chart) (chart_lines d.chart)) }
     ensures short { OnOk result (first_full 1 (host_lines hosts log.new) ≡ None) }
     ensures instances { (result ≡ Err DrawError.Instances) ↔ (hosts < 2) }

@@ -1,7 +1,7 @@
 //! The first receive of a log that comes before itself.
 ghost use Rattle.std.specs.Prelude.{ℕ, ◌≡◌, ◌<◌, ◌≤◌, ◌⊎◌, ◌==◌, ◌&&◌, false, nat_lt, is_some, slice_index_or, IfOk, MatchOption};
 ghost use Rattle.chart.specs.declared.instance.TheConstants.{MAX_INSTANCES};
-ghost use Rattle.log_chart.specs.Cycles.Freeing.{IsOnCircle, IsFirst, HasNone};
+ghost use Rattle.log_chart.specs.Cycles.Freeing.{IsOnCycle, IsFirst, HasNone};
 ghost use Rattle.log_chart.specs.Cycles.Sources.{AreLines, HaveHosts, AreSources};
 
 use crate::LogLine;
@@ -18,7 +18,7 @@ fn is_own(line: &LogLine, host: InstanceNo, limit: usize) -> bool
 }
 
 /// Whether a line, whose past this is, takes a send and comes before itself.
-fn is_on_circle(line: &LogLine, past: &Past) -> bool
+fn is_on_cycle(line: &LogLine, past: &Past) -> bool
     ensures { result ≡ (is_some line.now.send && slice_index_or past.now.seen.items line.now.number false) }
 {
     line.send.is_some() && past.has(line.number)
@@ -37,14 +37,14 @@ fn first_of_host(
     requires lines { AreLines count lines.now }
     requires sources { AreSources lines.now count sources.now.above.items sources.now.sends.items }
     ensures within { IfOk result (λ k. k ≤ limit) }
-    ensures found { IfOk result (λ k. (k ≡ limit) ⊎ IsOnCircle lines.now k) }
-    ensures first { IfOk result (λ k. (j : ℕ) → j < k → (on : IsOnCircle lines.now j) → on.line.entry.host ≡ host → ⊥) }
+    ensures found { IfOk result (λ k. (k ≡ limit) ⊎ IsOnCycle lines.now k) }
+    ensures first { IfOk result (λ k. (j : ℕ) → j < k → (on : IsOnCycle lines.now j) → on.line.entry.host ≡ host → ⊥) }
 {
     let mut past = Past::nothing(alloc, count)?;
     for line in lines {
         if is_own(line, host, limit) {
             past.pass(sources, line.number)?;
-            if is_on_circle(line, &past) {
+            if is_on_cycle(line, &past) {
                 return Ok(line.number);
             }
         }
@@ -54,7 +54,7 @@ fn first_of_host(
 
 /// The first of these lines, of so many by so many hosts, that receives a message whose send is logged and comes before
 /// itself.
-pub(crate) fn first_on_circle(
+pub(crate) fn first_on_cycle(
     alloc: Global,
     count: usize,
     hosts: usize,

@@ -5,7 +5,7 @@ ghost use Rattle.log_chart.specs.Entries.{HaveStreams};
 ghost use Rattle.log_chart.specs.HostLines.{kept};
 ghost use Rattle.log_chart.specs.Cycles.Freeing.{IsFirst, HasNone, freed, Settles, AreAmong};
 
-use crate::cycles::first::first_on_circle;
+use crate::cycles::first::first_on_cycle;
 use crate::{Entry, Kind, kept_lines};
 use std::alloc::{AllocError, Global};
 
@@ -17,7 +17,7 @@ fn next_freed(alloc: Global, hosts: usize, log: &[Entry]) -> Result<Option<usize
     ensures { IfOk result (λ found. MatchOption found (HasNone (kept log.now)) (IsFirst (kept log.now))) }
 {
     let lines = kept_lines(alloc, log)?;
-    first_on_circle(alloc, log.len(), hosts, &lines)
+    first_on_cycle(alloc, log.len(), hosts, &lines)
 }
 
 /// Frees a receive.

@@ -8,8 +8,8 @@ ghost use Rattle.log_chart.specs.Named.Faults.{fault_in, fault_of, IsRefusal, Is
 ghost use Rattle.log_chart.specs.Named.Logs.{before_of, begun, IsRefusalOf};
 ghost use Rattle.log_chart.specs.declared.named.entering.LogError.TheVariants.{Memory};
 
+use crate::named::host_event::HostEvent;
 use crate::named::hosts::instance_in;
-use crate::named::said::Said;
 use crate::named::stream::{Stream, number_in, number_of, stream_between};
 use crate::{Entry, Kind, Place};
 use chart::{InstanceNo, Name, Names, NamesError};
@@ -73,10 +73,10 @@ fn host_in(hosts: &mut Names, name: Name) -> Result<InstanceNo, LogError>
     }
 }
 
-fn kind_of(said: &Said) -> Kind
-    ensures { result ≡ kind_of said.now }
+fn kind_of(event: &HostEvent) -> Kind
+    ensures { result ≡ kind_of event.now }
 {
-    if said.sends {
+    if event.sends {
         Kind::Send
     } else {
         Kind::Receive
@@ -85,29 +85,29 @@ fn kind_of(said: &Said) -> Kind
 
 impl Reading {
     /// One line more.
-    fn add(&mut self, said: &Said) -> Result<(), LogError>
+    fn add(&mut self, event: &HostEvent) -> Result<(), LogError>
         requires few { length self.old.hosts ≤ MAX_INSTANCES }
-        ensures before { OnOk result (before_of self.new ≡ with_line (before_of self.old) said.now) }
+        ensures before { OnOk result (before_of self.new ≡ with_line (before_of self.old) event.now) }
         ensures entry { OnOk result (self.new.entries.items
-            ≡ self.old.entries.items ++ entry_in (before_of self.old) said.now ∷ []) }
+            ≡ self.old.entries.items ++ entry_in (before_of self.old) event.now ∷ []) }
         ensures few { OnOk result (length self.new.hosts ≤ MAX_INSTANCES) }
-        ensures faultless { OnOk result (fault_in (before_of self.old) said.now ≡ None) }
-        ensures refused { IfErr result (IsRefusal (fault_in (before_of self.old) said.now)) }
+        ensures faultless { OnOk result (fault_in (before_of self.old) event.now ≡ None) }
+        ensures refused { IfErr result (IsRefusal (fault_in (before_of self.old) event.now)) }
     {
-        let host = host_in(&mut self.hosts, said.host)?;
-        let peer = host_in(&mut self.hosts, said.peer)?;
+        let host = host_in(&mut self.hosts, event.host)?;
+        let peer = host_in(&mut self.hosts, event.peer)?;
         if host == peer {
-            return Err(LogError::ToItself(said.place));
+            return Err(LogError::ToItself(event.place));
         }
-        let number = number_in(&mut self.names, said.id, said.name)?;
-        let stream = number_of(&mut self.streams, stream_between(host, peer, said, number))?;
+        let number = number_in(&mut self.names, event.id, event.name)?;
+        let stream = number_of(&mut self.streams, stream_between(host, peer, event, number))?;
         self.entries.push(Entry {
             host,
-            kind: kind_of(said),
+            kind: kind_of(event),
             peer,
-            name: said.name,
+            name: event.name,
             stream,
-            place: said.place,
+            place: event.place,
         })?;
         Ok(())
     }
@@ -120,12 +120,12 @@ pub struct Log {
     pub entries: Vec<Entry>,
 }
 
-/// The entries of these lines, in their order: these hosts come first, and then those of the lines, each line's host before
-/// its peer. Along a lane messages are of one stream where they have one id or, where neither has one, one name.
+/// The entries of these lines, in their order: these hosts come first, and then those of the lines, each line's host
+/// before its peer. Along a lane messages are of one stream where they have one id or, where neither has one, one name.
 ///
 /// F8 exactly where there is a 33rd host, F13 exactly where a host is its own peer: the first line decides, and of one
 /// line F8. F6 may come at any point.
-pub fn entries_of(alloc: Global, hosts: &[Name], lines: &[Said]) -> Result<Log, LogError>
+pub fn entries_of(alloc: Global, hosts: &[Name], lines: &[HostEvent]) -> Result<Log, LogError>
     ensures names { IfOk result (λ log. log.names ≡ hosts_from (begun hosts.now) lines.now) }
     ensures entries { IfOk result (λ log. log.entries.items ≡ entries_from (begun hosts.now) lines.now) }
     ensures streams { IfOk result (λ log. HaveStreams log.entries.items) }

@@ -3,7 +3,7 @@ ghost use Rattle.std.specs.Prelude.{◌≡◌, ℕ, List, IfOk, OnOk};
 ghost use Rattle.std.specs.List.{position_or_len};
 ghost use Rattle.log_chart.specs.Named.Entering.{place_in, with_word, same_stream, with_stream, number_in, names_with, stream_of};
 
-use crate::named::said::Said;
+use crate::named::host_event::HostEvent;
 use chart::{InstanceNo, Name};
 use indexmap::IndexSet;
 use std::alloc::AllocError;
@@ -55,24 +55,24 @@ pub(crate) fn number_in(
 pub(crate) fn stream_between(
     host: InstanceNo,
     peer: InstanceNo,
-    said: &Said,
+    event: &HostEvent,
     number: usize,
 ) -> Stream
-    ensures { (names : List (List ℕ)) → number ≡ number_in names said.now.id said.now.name
-        → result ≡ stream_of names host peer said.now }
+    ensures { (names : List (List ℕ)) → number ≡ number_in names event.now.id event.now.name
+        → result ≡ stream_of names host peer event.now }
 {
-    if said.sends {
+    if event.sends {
         Stream {
             sender: host,
             receiver: peer,
-            has_id: said.id.is_some(),
+            has_id: event.id.is_some(),
             number,
         }
     } else {
         Stream {
             sender: peer,
             receiver: host,
-            has_id: said.id.is_some(),
+            has_id: event.id.is_some(),
             number,
         }
     }

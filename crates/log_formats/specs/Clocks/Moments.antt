@@ -27,7 +27,7 @@ moment_view m = record {
 
 -- what is read of an event's words
 abbrev pub worded : ClockedAtView → ReadView
-worded c = by_words (record { said = []; clocked = c ∷ []; others = None })
+worded c = by_words (record { logged = []; clocked = c ∷ []; others = None })
 
 abbrev pub moment_of : ClockedAtView → MomentView
 moment_of c = record {

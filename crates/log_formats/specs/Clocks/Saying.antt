@@ -46,7 +46,7 @@ with_sends at m (h ∷ all) r = with_sends at m all (if is_from at h.source then
 
 -- with what an event says in words, or with a line that isn't read
 abbrev pub with_worded : MomentView → ReadView → ReadView
-with_worded m r = if is_some m.worded.others then with_line m.place Other r else record r { said = r.said ++ m.worded.said }
+with_worded m r = if is_some m.worded.others then with_line m.place Other r else record r { logged = r.logged ++ m.worded.logged }
 
 -- with what an event says: its receives, and then its sends
 abbrev pub with_moment : List MomentView → List HeardView → ℕ → MomentView → ReadView → ReadView
@@ -54,9 +54,9 @@ with_moment moments all at m r =
     if is_by_clock m then with_sends at m all (with_receives moments at m all r) else with_worded m r
 
 -- with what these say, where the first has this place
-abbrev pub with_said : List MomentView → List HeardView → ℕ → List MomentView → ReadView → ReadView
-with_said moments all at [] r = r
-with_said moments all at (m ∷ rest) r = with_said moments all (at + 1) rest (with_moment moments all at m r)
+abbrev pub with_all_moments : List MomentView → List HeardView → ℕ → List MomentView → ReadView → ReadView
+with_all_moments moments all at [] r = r
+with_all_moments moments all at (m ∷ rest) r = with_all_moments moments all (at + 1) rest (with_moment moments all at m r)
 
 -- the events of a log with vector time
 abbrev pub moments_in : ReadView → List MomentView
@@ -65,7 +65,7 @@ moments_in r = with_moments [] r.clocked
 -- what is read, with what they say
 unfoldable pub by_clocks : ReadView → ReadView
 by_clocks r =
-    with_said (moments_in r) (all_heard (moments_in r)) 0 (moments_in r) (record { said = r.said; clocked = []; others = r.others })
+    with_all_moments (moments_in r) (all_heard (moments_in r)) 0 (moments_in r) (record { logged = r.logged; clocked = []; others = r.others })
 
 -- clocks tell of some
 unfoldable pub is_timed : ReadView → Bool

@@ -4,7 +4,7 @@ ghost use Rattle.log_lines.specs.Events.{clocked_view, event_view};
 ghost use Rattle.log_lines.specs.Reading.{read_view};
 ghost use Rattle.log_formats.specs.Clocks.Hearing.{heard_view};
 ghost use Rattle.log_formats.specs.Clocks.Moments.{moment_view};
-ghost use Rattle.log_formats.specs.Clocks.Saying.{clocked_at, sent_at, receive_of, send_of, with_receives, is_from, with_sends, with_worded, with_moment, with_said, by_clocks, is_timed};
+ghost use Rattle.log_formats.specs.Clocks.Saying.{clocked_at, sent_at, receive_of, send_of, with_receives, is_from, with_sends, with_worded, with_moment, with_all_moments, by_clocks, is_timed};
 
 use crate::clocks::heard::{Heard, all_heard};
 use crate::clocks::moment::{Moment, any_by_clock, is_by_clock, moments_of};
@@ -39,8 +39,8 @@ fn sent_at<'a>(moments: &[Moment<'a>], own: Clocked<'a>, source: Option<usize>) 
     }
 }
 
-/// The receive of what an event has heard of. Its name is the text of the send, and its id the clock of the send: without
-/// a send in the log they are its own.
+/// The receive of what an event has heard of. Its name is the text of the send, and its id the clock of the send:
+/// without a send in the log they are its own.
 fn receive_of<'a>(moments: &[Moment<'a>], moment: &Moment<'a>, heard: &Heard<'a>) -> Event<'a>
     ensures { event_view result ≡ receive_of (map moment_view moments.now) (moment_view moment.now) (heard_view heard.now) }
 {
@@ -123,7 +123,7 @@ fn add_worded<'a>(moment: &Moment<'a>, read: &mut Read<'a>) -> Result<(), AllocE
     if moment.worded.others.is_some() {
         return read.add(moment.place, LineSays::Other);
     }
-    read.said.extend_from_slice(&moment.worded.said)?;
+    read.logged.extend_from_slice(&moment.worded.logged)?;
     Ok(())
 }
 
@@ -152,7 +152,7 @@ fn add_moments<'a>(
     read: &mut Read<'a>,
 ) -> Result<(), AllocError>
     ensures { OnOk result (read_view read.new
-        ≡ with_said (map moment_view moments.now) (map heard_view all.now) 0 (map moment_view moments.now) (read_view read.old)) }
+        ≡ with_all_moments (map moment_view moments.now) (map heard_view all.now) 0 (map moment_view moments.now) (read_view read.old)) }
 {
     for (at, moment) in moments.iter().enumerate() {
         add_moment(moments, all, at, moment, read)?;
@@ -160,29 +160,29 @@ fn add_moments<'a>(
     Ok(())
 }
 
-/// What is read of a log, with what its events with vector time say: in the words `out M to B` and `in M from A`, or else
-/// by their clocks. An event whose clock doesn't tell which of its host it is, and that says nothing in words, is among
-/// what isn't read. It takes time in proportion to the square of the number of events.
+/// What is read of a log, with what its events with vector time say: in the words `out M to B` and `in M from A`, or
+/// else by their clocks. An event whose clock doesn't tell which of its host it is, and that says nothing in words, is
+/// among what isn't read. It takes time in proportion to the square of the number of events.
 #[tactic(auto, unfolding(crate::specs::Clocks::Saying::by_clocks, crate::specs::Clocks::Saying::is_timed))]
 pub fn by_clocks<'a>(alloc: Global, read: Read<'a>) -> Result<Timed<'a>, AllocError>
     ensures read { IfOk result (λ timed. read_view timed.read ≡ by_clocks (read_view read.entry)) }
     ensures timed { IfOk result (λ timed. timed.is_timed ≡ is_timed (read_view read.entry)) }
 {
     let Read {
-        said,
+        logged,
         clocked,
         others,
     } = read;
     let moments = moments_of(alloc, &clocked)?;
     let all = all_heard(alloc, &moments)?;
-    let mut told = Read {
-        said,
+    let mut joined = Read {
+        logged,
         clocked: Vec::new(alloc),
         others,
     };
-    add_moments(&moments, &all, &mut told)?;
+    add_moments(&moments, &all, &mut joined)?;
     Ok(Timed {
-        read: told,
+        read: joined,
         is_timed: any_by_clock(&moments),
     })
 }

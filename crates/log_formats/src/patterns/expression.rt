@@ -41,9 +41,9 @@ fn bad(text: &str, error: Error) -> BadExpression
 }
 
 impl Expression {
-    /// Reads an expression, in the syntax of Rust's regex crate. Its groups are `host`, `dir`, `peer`, `name` and perhaps
-    /// `id`, or `src`, `dst`, `name` and perhaps `id`, or `host`, `clock` and `event`: the first of these sets that it
-    /// has whole.
+    /// Reads an expression, in the syntax of Rust's regex crate. Its groups are `host`, `dir`, `peer`, `name` and
+    /// perhaps `id`, or `src`, `dst`, `name` and perhaps `id`, or `host`, `clock` and `event`: the first of these sets
+    /// that it has whole.
     pub fn new(alloc: Global, text: &str) -> Result<Expression, BadExpression>
         ensures ok { IfOk result (IsExpression text.now) }
         ensures err { IfErr result (IsBad text.now) }

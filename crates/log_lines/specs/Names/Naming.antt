@@ -2,7 +2,7 @@
 use Rattle.std.specs.Prelude.{ℕ, Bool, true, false, List, [], ◌∷◌, ◌++◌, Option, None, Some, fold, bytes_eq, if◌then◌else◌}
 use Rattle.std.specs.List.{position_or_len}
 use Rattle.diagram_labels.specs.Labels.{Labelling, none, with_label, name_of}
-use Rattle.log_lines.specs.Events.{SaidView}
+use Rattle.log_lines.specs.Events.{LoggedEventView}
 use Rattle.log_lines.specs.Reading.{with_other}
 use Rattle.log_lines.specs.declared.event.Act.{Act}
 use Rattle.log_lines.specs.declared.event.Act.TheVariants.{Send, Receive}
@@ -46,7 +46,7 @@ abbrev pub with_hosts : Labelling → List ℕ → List ℕ → Labelling
 with_hosts hosts host peer = with_label (with_label hosts host) peer
 
 -- with an event of this host, whose other end is at this peer
-abbrev pub with_event : List ℕ → List ℕ → SaidView → NamedView → NamedView
+abbrev pub with_event : List ℕ → List ℕ → LoggedEventView → NamedView → NamedView
 with_event host peer s n = record {
   hosts = with_hosts n.hosts host peer;
   messages = with_label n.messages s.event.name;
@@ -63,18 +63,18 @@ with_event host peer s n = record {
 }
 
 -- with an event, where hosts have these other words
-abbrev pub with_said : List PeerView → SaidView → NamedView → NamedView
-with_said peers s n =
+abbrev pub with_logged : List PeerView → LoggedEventView → NamedView → NamedView
+with_logged peers s n =
     if bytes_eq (host_of peers s.event.host) (host_of peers s.event.peer)
     then record { hosts = n.hosts; messages = n.messages; ids = n.ids; lines = n.lines; own = Some (with_other s.place n.own) }
     else with_event (host_of peers s.event.host) (host_of peers s.event.peer) s n
 
 -- with these events
-abbrev pub with_all : List PeerView → List SaidView → NamedView → NamedView
+abbrev pub with_all : List PeerView → List LoggedEventView → NamedView → NamedView
 with_all peers [] n = n
-with_all peers (s ∷ said) n = with_all peers said (with_said peers s n)
+with_all peers (s ∷ logged) n = with_all peers logged (with_logged peers s n)
 
 -- the events of a log by names: these hosts come first
-unfoldable pub named : List (List ℕ) → List PeerView → List SaidView → NamedView
-named hosts peers said =
-    with_all peers said (record { hosts = fold with_label none hosts; messages = none; ids = []; lines = []; own = None })
+unfoldable pub named : List (List ℕ) → List PeerView → List LoggedEventView → NamedView
+named hosts peers logged =
+    with_all peers logged (record { hosts = fold with_label none hosts; messages = none; ids = []; lines = []; own = None })

@@ -3,7 +3,7 @@ use Rattle.std.specs.Prelude.{ℕ, Bool, ◌&&◌, List, ◌∷◌, Option, None
 use Rattle.std.specs.Bool.{beq}
 use Rattle.race_verdicts.specs.declared.recording.Arrival.{Arrival}
 use Rattle.log_lines.specs.Takes.Messages.{KeyView, key_view, key_of}
-use Rattle.log_lines.specs.Takes.Telling.{ArrivedView}
+use Rattle.log_lines.specs.Takes.Observations.{ArrivedView}
 use Rattle.log_lines.specs.declared.takes.key.Key.{Key}
 
 abbrev pub same_key : KeyView → KeyView → Bool

@@ -1,6 +1,6 @@
 -- The lines of a log that tell of messages from one host to another, in words of the log, where hosts have other words.
 use Rattle.std.specs.Prelude.{ℕ, Bool, not, List, Option, map, filter, is_some, unwrap_or, bytes_eq}
-use Rattle.log_lines.specs.Events.{SaidView}
+use Rattle.log_lines.specs.Events.{LoggedEventView}
 use Rattle.log_lines.specs.declared.event.Act.{Act}
 use Rattle.log_lines.specs.declared.event.Act.TheVariants.{Send, Receive}
 use Rattle.log_lines.specs.Names.Hosts.{PeerView, host_of}
@@ -8,20 +8,20 @@ use Rattle.race_verdicts.specs.Recordings.{WordsView}
 use Rattle.log_lines.specs.declared.takes.key.Key.{Key}
 
 -- the line's message isn't one of a host to itself
-abbrev pub is_between : List PeerView → SaidView → Bool
+abbrev pub is_between : List PeerView → LoggedEventView → Bool
 is_between peers s = not (bytes_eq (host_of peers s.event.host) (host_of peers s.event.peer))
 
 -- the lines of messages from one host to another
-abbrev pub between : List PeerView → List SaidView → List SaidView
-between peers said = filter (is_between peers) said
+abbrev pub between : List PeerView → List LoggedEventView → List LoggedEventView
+between peers logged = filter (is_between peers) logged
 
 -- the words of a line
-abbrev pub line_words : List PeerView → SaidView → WordsView
+abbrev pub line_words : List PeerView → LoggedEventView → WordsView
 line_words peers s = record { host = host_of peers s.event.host; peer = host_of peers s.event.peer; name = s.event.name }
 
 -- the words of all
-unfoldable pub words_in : List PeerView → List SaidView → List WordsView
-words_in peers said = map (line_words peers) (between peers said)
+unfoldable pub words_in : List PeerView → List LoggedEventView → List WordsView
+words_in peers logged = map (line_words peers) (between peers logged)
 
 -- what the lines of a message have in common: its lane, and its id or, where it has none, its name
 pub record KeyView : Type 0 where
@@ -41,9 +41,9 @@ key_by Send host peer name id = key_of host peer name id
 key_by Receive host peer name id = key_of peer host name id
 
 -- that of a line
-abbrev pub line_key : List PeerView → SaidView → KeyView
+abbrev pub line_key : List PeerView → LoggedEventView → KeyView
 line_key peers s = key_by s.event.act (host_of peers s.event.host) (host_of peers s.event.peer) s.event.name s.event.id
 
 -- those of all
-unfoldable pub keys_in : List PeerView → List SaidView → List KeyView
-keys_in peers said = map (line_key peers) (between peers said)
+unfoldable pub keys_in : List PeerView → List LoggedEventView → List KeyView
+keys_in peers logged = map (line_key peers) (between peers logged)

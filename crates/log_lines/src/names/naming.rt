@@ -1,15 +1,15 @@
 //! The names of hosts and of messages.
 ghost use Rattle.std.specs.Prelude.{◌≡◌, map, option_map, IfOk, OnOk};
 ghost use Rattle.diagram_labels.specs.Labels.{with_label, name_of};
-ghost use Rattle.log_lines.specs.Events.{said_view, event_view};
+ghost use Rattle.log_lines.specs.Events.{logged_event_view, event_view};
 ghost use Rattle.log_lines.specs.Reading.{with_other};
 ghost use Rattle.log_lines.specs.Names.Hosts.{peer_view, host_of};
-ghost use Rattle.log_lines.specs.Names.Naming.{sends, named_view, nothing_named, with_hosts, ids_with, id_number, with_event, with_said, named};
+ghost use Rattle.log_lines.specs.Names.Naming.{sends, named_view, nothing_named, with_hosts, ids_with, id_number, with_event, with_logged, named};
 
 use crate::names::hosts::{Peer, host_of};
 use crate::names::ids::Ids;
 use crate::names::line::NamedLine;
-use crate::{Act, Others, Said, one_more};
+use crate::{Act, LoggedEvent, Others, one_more};
 use diagram_labels::LabelNames;
 use std::alloc::{AllocError, Global};
 
@@ -70,41 +70,46 @@ impl NamedLog {
         alloc: Global,
         host: &[u8],
         peer: &[u8],
-        said: &Said<'_>,
+        logged: &LoggedEvent<'_>,
     ) -> Result<(), AllocError>
-        ensures { OnOk result (named_view self.new ≡ with_event host.now peer.now (said_view said.now) (named_view self.old)) }
+        ensures { OnOk result (named_view self.new ≡ with_event host.now peer.now (logged_event_view logged.now) (named_view self.old)) }
     {
         let host = self.hosts.name(alloc, host)?;
         let peer = self.hosts.name(alloc, peer)?;
-        let name = self.messages.name(alloc, said.event.name)?;
-        let id = id_number(alloc, &mut self.ids, said.event.id)?;
+        let name = self.messages.name(alloc, logged.event.name)?;
+        let id = id_number(alloc, &mut self.ids, logged.event.id)?;
         self.lines.push(NamedLine {
             host,
-            sends: sends(said.event.act),
+            sends: sends(logged.event.act),
             peer,
             name,
             id,
-            place: said.place,
+            place: logged.place,
         })?;
         Ok(())
     }
 
     /// Adds what is said, where hosts have these other words.
-    fn add(&mut self, alloc: Global, peers: &[Peer<'_>], said: &Said<'_>) -> Result<(), AllocError>
-        ensures { OnOk result (named_view self.new ≡ with_said (map peer_view peers.now) (said_view said.now) (named_view self.old)) }
+    fn add(
+        &mut self,
+        alloc: Global,
+        peers: &[Peer<'_>],
+        logged: &LoggedEvent<'_>,
+    ) -> Result<(), AllocError>
+        ensures { OnOk result (named_view self.new ≡ with_logged (map peer_view peers.now) (logged_event_view logged.now) (named_view self.old)) }
     {
-        let host = host_of(peers, said.event.host);
-        let peer = host_of(peers, said.event.peer);
+        let host = host_of(peers, logged.event.host);
+        let peer = host_of(peers, logged.event.peer);
         if host == peer {
-            self.own = Some(one_more(self.own, said.place)?);
+            self.own = Some(one_more(self.own, logged.place)?);
             return Ok(());
         }
-        self.add_event(alloc, host, peer, said)
+        self.add_event(alloc, host, peer, logged)
     }
 }
 
-/// The events of a log by names: of hosts and of messages, each by the rule for labels, in the order in which they come,
-/// but that these hosts come first. Of an event of a message of a host to itself it is told that it is left out.
+/// The events of a log by names: of hosts and of messages, each by the rule for labels, in the order in which they
+/// come, but that these hosts come first. Of an event of a message of a host to itself it is told that it is left out.
 ///
 /// F6: it fails only where there is no memory.
 #[tactic(auto, unfolding(crate::specs::Names::Naming::named))]
@@ -112,16 +117,16 @@ pub fn named(
     alloc: Global,
     hosts: &[&[u8]],
     peers: &[Peer<'_>],
-    said: &[Said<'_>],
+    logged: &[LoggedEvent<'_>],
 ) -> Result<NamedLog, AllocError>
     ensures { IfOk result (λ log. named_view log
-        ≡ named (map (λ w. w.now) hosts.now) (map peer_view peers.now) (map said_view said.now)) }
+        ≡ named (map (λ w. w.now) hosts.now) (map peer_view peers.now) (map logged_event_view logged.now)) }
 {
     let mut log = NamedLog::new(alloc);
     for host in hosts {
         log.hosts.name(alloc, host)?;
     }
-    for event in said {
+    for event in logged {
         log.add(alloc, peers, event)?;
     }
     Ok(log)

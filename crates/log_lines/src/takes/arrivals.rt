@@ -3,12 +3,12 @@ ghost use Rattle.std.specs.Prelude.{◌≡◌, ◌++◌, ◌∷◌, [], ℕ, Lis
 ghost use Rattle.std.specs.Map.{lookup};
 ghost use Rattle.log_lines.specs.Takes.Arrivals.{same_key, same_as, stream_of, arrived_key, arrival_of, arrivals_in};
 ghost use Rattle.log_lines.specs.Takes.Messages.{KeyView, key_view};
-ghost use Rattle.log_lines.specs.Takes.Telling.{arrived_view};
+ghost use Rattle.log_lines.specs.Takes.Observations.{arrived_view};
 ghost use Rattle.log_lines.specs.declared.takes.key.Key.{Key};
 
 use crate::takes::key::Key;
 use crate::takes::messages::key_of;
-use crate::takes::told::Arrived;
+use crate::takes::observations::Arrived;
 use indexmap::IndexMap;
 use log_chart::Entry;
 use race_verdicts::Arrival;

@@ -1,31 +1,31 @@
 //! The lines of a log that tell of messages from one host to another.
 ghost use Rattle.std.specs.Prelude.{◌≡◌, map, option_map, IfOk};
-ghost use Rattle.log_lines.specs.Events.{said_view};
+ghost use Rattle.log_lines.specs.Events.{logged_event_view};
 ghost use Rattle.log_lines.specs.Names.Hosts.{peer_view};
 ghost use Rattle.race_verdicts.specs.Recordings.{words_view};
 ghost use Rattle.log_lines.specs.Takes.Messages.{line_words, words_in, key_view, key_of, key_by, line_key, keys_in, is_between};
 
 use crate::names::{Peer, host_of};
 use crate::takes::key::Key;
-use crate::{Act, Said};
+use crate::{Act, LoggedEvent};
 use race_verdicts::LineWords;
 use std::alloc::{AllocError, Global};
 
 /// Whether the line's message isn't one of a host to itself.
-fn is_between(peers: &[Peer<'_>], said: &Said<'_>) -> bool
-    ensures { result ≡ is_between (map peer_view peers.now) (said_view said.now) }
+fn is_between(peers: &[Peer<'_>], logged: &LoggedEvent<'_>) -> bool
+    ensures { result ≡ is_between (map peer_view peers.now) (logged_event_view logged.now) }
 {
-    host_of(peers, said.event.host) != host_of(peers, said.event.peer)
+    host_of(peers, logged.event.host) != host_of(peers, logged.event.peer)
 }
 
 /// The words of a line.
-fn line_words<'a>(peers: &[Peer<'a>], said: &Said<'a>) -> LineWords<'a>
-    ensures { words_view result ≡ line_words (map peer_view peers.now) (said_view said.now) }
+fn line_words<'a>(peers: &[Peer<'a>], logged: &LoggedEvent<'a>) -> LineWords<'a>
+    ensures { words_view result ≡ line_words (map peer_view peers.now) (logged_event_view logged.now) }
 {
     LineWords {
-        host: host_of(peers, said.event.host),
-        peer: host_of(peers, said.event.peer),
-        name: said.event.name,
+        host: host_of(peers, logged.event.host),
+        peer: host_of(peers, logged.event.peer),
+        name: logged.event.name,
     }
 }
 
@@ -34,12 +34,12 @@ fn line_words<'a>(peers: &[Peer<'a>], said: &Said<'a>) -> LineWords<'a>
 pub fn words_in<'a>(
     alloc: Global,
     peers: &[Peer<'a>],
-    said: &[Said<'a>],
+    logged: &[LoggedEvent<'a>],
 ) -> Result<Vec<LineWords<'a>>, AllocError>
-    ensures { IfOk result (λ words. map words_view words.items ≡ words_in (map peer_view peers.now) (map said_view said.now)) }
+    ensures { IfOk result (λ words. map words_view words.items ≡ words_in (map peer_view peers.now) (map logged_event_view logged.now)) }
 {
     let mut words = Vec::new(alloc);
-    for line in said {
+    for line in logged {
         if is_between(peers, line) {
             words.push(line_words(peers, line))?;
         }
@@ -73,14 +73,14 @@ pub(crate) fn key_of<'a>(
 }
 
 /// The key of a line.
-fn line_key<'a>(peers: &[Peer<'a>], said: &Said<'a>) -> Key<'a>
-    ensures { key_view result ≡ line_key (map peer_view peers.now) (said_view said.now) }
+fn line_key<'a>(peers: &[Peer<'a>], logged: &LoggedEvent<'a>) -> Key<'a>
+    ensures { key_view result ≡ line_key (map peer_view peers.now) (logged_event_view logged.now) }
 {
-    let host = host_of(peers, said.event.host);
-    let peer = host_of(peers, said.event.peer);
-    match said.event.act {
-        Act::Send => key_of(host, peer, said.event.name, said.event.id),
-        Act::Receive => key_of(peer, host, said.event.name, said.event.id),
+    let host = host_of(peers, logged.event.host);
+    let peer = host_of(peers, logged.event.peer);
+    match logged.event.act {
+        Act::Send => key_of(host, peer, logged.event.name, logged.event.id),
+        Act::Receive => key_of(peer, host, logged.event.name, logged.event.id),
     }
 }
 
@@ -89,12 +89,12 @@ fn line_key<'a>(peers: &[Peer<'a>], said: &Said<'a>) -> Key<'a>
 pub fn keys_in<'a>(
     alloc: Global,
     peers: &[Peer<'a>],
-    said: &[Said<'a>],
+    logged: &[LoggedEvent<'a>],
 ) -> Result<Vec<Key<'a>>, AllocError>
-    ensures { IfOk result (λ keys. map key_view keys.items ≡ keys_in (map peer_view peers.now) (map said_view said.now)) }
+    ensures { IfOk result (λ keys. map key_view keys.items ≡ keys_in (map peer_view peers.now) (map logged_event_view logged.now)) }
 {
     let mut keys = Vec::new(alloc);
-    for line in said {
+    for line in logged {
         if is_between(peers, line) {
             keys.push(line_key(peers, line))?;
         }

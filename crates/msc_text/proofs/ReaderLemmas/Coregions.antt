@@ -9,7 +9,7 @@ use Rattle.msc_text.specs.declared.reader.state.Region.{Region}
 use Rattle.msc_text.specs.declared.reader.state.Region.TheVariants.{Closed, Empty, Held}
 use Rattle.msc_text.specs.declared.reader.state.Saying.{Saying}
 use Rattle.msc_text.specs.declared.reader.state.Saying.TheVariants as sayings
-use Rattle.msc_text.proofs.ReaderLemmas.TextSayings.{closing, opening, said, event_sayings, body, last_from}
+use Rattle.msc_text.proofs.ReaderLemmas.TextSayings.{closing, opening, event_saying, event_sayings, body, last_from}
 
 -- the open coregion, or 0, of a line whose coregion has come so far
 abbrev pub HasOpen : Region → ℕ → List Event → Type 0
@@ -93,21 +93,21 @@ opening-new r c other begun = let some : c ≢ 0 = omega arith in rw (ne_eqb r c
 
 -- an event of the open coregion: what is said before it, it, and what then is said
 pub tail-more : (names : List (List ℕ)) (region : Region) (line : List Event) (m : Event) → HasOpen region (region_of m) line
-    → event_sayings names (last_from 0 line) m ++ tail_of (after_receive region) (region_of m) ≡ tail_of region (last_from 0 line) ++ said names m ∷ []
+    → event_sayings names (last_from 0 line) m ++ tail_of (after_receive region) (region_of m) ≡ tail_of region (last_from 0 line) ++ event_saying names m ∷ []
 tail-more names Closed line m h = by (region_of m) h
   where
-    by : (c : ℕ) → c ≡ 0 → (closing (last_from 0 line) c ++ (opening (last_from 0 line) c ++ said names m ∷ [])) ++ closing c 0 ≡ closing (last_from 0 line) 0 ++ said names m ∷ []
+    by : (c : ℕ) → c ≡ 0 → (closing (last_from 0 line) c ++ (opening (last_from 0 line) c ++ event_saying names m ∷ [])) ++ closing c 0 ≡ closing (last_from 0 line) 0 ++ event_saying names m ∷ []
     by c none =
         let r = last_from 0 line in
-        rw (none, opening-none r, append-nil (closing r 0 ++ said names m ∷ [])) refl
+        rw (none, opening-none r, append-nil (closing r 0 ++ event_saying names m ∷ [])) refl
 tail-more names Empty line m h =
     let r = last_from 0 line in
     let last : r ≡ last_region line = last_from-is line in
     let within = last-within line in
     let other : r ≢ region_of m = omega arith in
     let begun : 0 < region_of m = omega arith in
-    rw (closing-other r (region_of m) other, opening-new r (region_of m) other begun, append-nil (closing r 0 ++ (sayings.Open ∷ said names m ∷ []))) (sym (append_assoc (closing r 0) (sayings.Open ∷ []) (said names m ∷ [])))
+    rw (closing-other r (region_of m) other, opening-new r (region_of m) other begun, append-nil (closing r 0 ++ (sayings.Open ∷ event_saying names m ∷ []))) (sym (append_assoc (closing r 0) (sayings.Open ∷ []) (event_saying names m ∷ [])))
 tail-more names Held line m h = by (last_from 0 line) (last_from-is line ∙ sym h.2)
   where
-    by : (r : ℕ) → r ≡ region_of m → (closing r (region_of m) ++ (opening r (region_of m) ++ said names m ∷ [])) ++ [] ≡ said names m ∷ []
+    by : (r : ℕ) → r ≡ region_of m → (closing r (region_of m) ++ (opening r (region_of m) ++ event_saying names m ∷ [])) ++ [] ≡ event_saying names m ∷ []
     by r same = rw (same, closing-none (region_of m), opening-same (region_of m)) refl

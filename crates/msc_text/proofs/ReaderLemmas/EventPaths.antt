@@ -23,7 +23,7 @@ use Rattle.msc_text.proofs.ReaderLemmas.Moves.Moves.{sends, receives, opens, shu
 use Rattle.msc_text.proofs.ReaderLemmas.Paths.{Spot, Passes, Path, one_pass, path_then}
 use Rattle.msc_text.proofs.ReaderLemmas.Paths.Path.{stay, pass}
 use Rattle.msc_text.proofs.ReaderLemmas.Standing.{more_line, pushed-more}
-use Rattle.msc_text.proofs.ReaderLemmas.TextSayings.{said, event_sayings, body, last_from, closing, opening}
+use Rattle.msc_text.proofs.ReaderLemmas.TextSayings.{event_saying, event_sayings, body, last_from, closing, opening}
 
 -- an event that can be spelled on the line of the instance p, whose name is own
 pub record IsSpelled (names : List (List ℕ)) (own : List ℕ) (p : ℕ) (m : Event) : Type 0 where
@@ -52,7 +52,7 @@ event-is d line m there other room =
 
 -- an event of the open coregion passes
 event_pass : (names begun : List (List ℕ)) (own : List ℕ) (events : ℕ) (region : Region) (lines : List LineView) (line : LineView) (m : Event) → IsSpelled names own line.instance m → events < MAX_EVENTS → length line.events ≡ events → MayTake region m
-    → Passes names (spot_in begun own events region lines line (region_of m)) (said names m) (spot_in begun own (events + 1) (after_receive region) lines (more_line line m) (region_of m))
+    → Passes names (spot_in begun own events region lines line (region_of m)) (event_saying names m) (spot_in begun own (events + 1) (after_receive region) lines (more_line line m) (region_of m))
 unfolding with_send with_receive known_of
 event_pass names begun own events region lines line (line_events.Send to name) h room many may =
     let d : BuilderView = record { lines = lines; line = Some line; open_region = 0 } in
@@ -93,12 +93,12 @@ closed_takes (line_events.Receive from name d) = tt
 -- an event, with what ends a coregion before it or begins its own
 event_path_of : (names begun : List (List ℕ)) (own : List ℕ) (events : ℕ) (lines : List LineView) (line : LineView) (m : Event) → IsSpelled names own line.instance m → events < MAX_EVENTS → length line.events ≡ events → (r : ℕ) → r ≡ last_region line.events
     → (c : ℕ) → c ≡ region_of m → MayHaveRegion line.events c
-    → Path names (spot_in begun own events (region_at r) lines line r) (closing r c ++ (opening r c ++ said names m ∷ [])) (spot_in begun own (events + 1) (region_at c) lines (more_line line m) c)
+    → Path names (spot_in begun own events (region_at r) lines line r) (closing r c ++ (opening r c ++ event_saying names m ∷ [])) (spot_in begun own (events + 1) (region_at c) lines (more_line line m) c)
 event_path_of names begun own events lines line m h room many r last c is may = by r last c is may
   where
-    event : (region : Region) (c : ℕ) → c ≡ region_of m → MayTake region m → Passes names (spot_in begun own events region lines line c) (said names m) (spot_in begun own (events + 1) (after_receive region) lines (more_line line m) c)
+    event : (region : Region) (c : ℕ) → c ≡ region_of m → MayTake region m → Passes names (spot_in begun own events region lines line c) (event_saying names m) (spot_in begun own (events + 1) (after_receive region) lines (more_line line m) c)
     event region c is takes =
-        let family : ℕ → Type 0 = λ x. Passes names (spot_in begun own events region lines line x) (said names m) (spot_in begun own (events + 1) (after_receive region) lines (more_line line m) x) in
+        let family : ℕ → Type 0 = λ x. Passes names (spot_in begun own events region lines line x) (event_saying names m) (spot_in begun own (events + 1) (after_receive region) lines (more_line line m) x) in
         subst family (sym is) (event_pass names begun own events region lines line m h room many takes)
 
     opened : (c : ℕ) → c ≡ greatest_region line.events + 1 → (before : ℕ) → Passes names (spot_in begun own events regions.Closed lines line before) sayings.Open (spot_in begun own events regions.Empty lines line c)
@@ -113,28 +113,28 @@ event_path_of names begun own events lines line m h room many r last c is may = 
     shape {a} {b} xs ys e p = subst (λ l. Path names a l b) e p
 
     by : (r : ℕ) → r ≡ last_region line.events → (c : ℕ) → c ≡ region_of m → MayHaveRegion line.events c
-        → Path names (spot_in begun own events (region_at r) lines line r) (closing r c ++ (opening r c ++ said names m ∷ [])) (spot_in begun own (events + 1) (region_at c) lines (more_line line m) c)
+        → Path names (spot_in begun own events (region_at r) lines line r) (closing r c ++ (opening r c ++ event_saying names m ∷ [])) (spot_in begun own (events + 1) (region_at c) lines (more_line line m) c)
     by zero last zero is may = one_pass (event regions.Closed 0 is (closed_takes m))
     by (suc r) last zero is may =
-        let words : sayings.Shut ∷ said names m ∷ [] ≡ closing (suc r) 0 ++ (opening (suc r) 0 ++ said names m ∷ []) = rw (closing-open (suc r) (omega arith), opening-none (suc r)) refl in
+        let words : sayings.Shut ∷ event_saying names m ∷ [] ≡ closing (suc r) 0 ++ (opening (suc r) 0 ++ event_saying names m ∷ []) = rw (closing-open (suc r) (omega arith), opening-none (suc r)) refl in
         shape _ _ words (pass (shut (suc r)) (one_pass (event regions.Closed 0 is (closed_takes m))))
     by zero last (suc c) is (inl none) = absurd (omega arith)
     by zero last (suc c) is (inr (inl next)) =
         let other : 0 ≢ suc c = omega arith in
-        let words : sayings.Open ∷ said names m ∷ [] ≡ closing 0 (suc c) ++ (opening 0 (suc c) ++ said names m ∷ []) = rw (closing-other 0 (suc c) other, opening-new 0 (suc c) other (omega arith)) refl in
+        let words : sayings.Open ∷ event_saying names m ∷ [] ≡ closing 0 (suc c) ++ (opening 0 (suc c) ++ event_saying names m ∷ []) = rw (closing-other 0 (suc c) other, opening-new 0 (suc c) other (omega arith)) refl in
         shape _ _ words (pass (opened (suc c) next 0) (one_pass (event regions.Empty (suc c) is (receive_takes regions.Empty m c is))))
     by zero last (suc c) is (inr (inr same)) = absurd (omega (arith, same.2))
     by (suc r) last (suc c) is (inl none) = absurd (omega arith)
     by (suc r) last (suc c) is (inr (inl next)) =
         let within = last-within line.events in
         let other : suc r ≢ suc c = omega arith in
-        let words : sayings.Shut ∷ sayings.Open ∷ said names m ∷ [] ≡ closing (suc r) (suc c) ++ (opening (suc r) (suc c) ++ said names m ∷ []) =
+        let words : sayings.Shut ∷ sayings.Open ∷ event_saying names m ∷ [] ≡ closing (suc r) (suc c) ++ (opening (suc r) (suc c) ++ event_saying names m ∷ []) =
         rw (closing-other (suc r) (suc c) other, closing-open (suc r) (omega arith), opening-new (suc r) (suc c) other (omega arith)) refl in
         shape _ _ words (pass (shut (suc r)) (pass (opened (suc c) next 0) (one_pass (event regions.Empty (suc c) is (receive_takes regions.Empty m c is)))))
     by (suc r) last (suc c) is (inr (inr same)) =
         let one : suc c ≡ suc r = same.2 ∙ sym last in
-        let words : said names m ∷ [] ≡ closing (suc c) (suc c) ++ (opening (suc c) (suc c) ++ said names m ∷ []) = rw (closing-none (suc c), opening-same (suc c)) refl in
-        let family : ℕ → Type 0 = λ x. Path names (spot_in begun own events regions.Held lines line x) (closing x (suc c) ++ (opening x (suc c) ++ said names m ∷ [])) (spot_in begun own (events + 1) regions.Held lines (more_line line m) (suc c)) in
+        let words : event_saying names m ∷ [] ≡ closing (suc c) (suc c) ++ (opening (suc c) (suc c) ++ event_saying names m ∷ []) = rw (closing-none (suc c), opening-same (suc c)) refl in
+        let family : ℕ → Type 0 = λ x. Path names (spot_in begun own events regions.Held lines line x) (closing x (suc c) ++ (opening x (suc c) ++ event_saying names m ∷ [])) (spot_in begun own (events + 1) regions.Held lines (more_line line m) (suc c)) in
         subst family one (shape _ _ words (one_pass (event regions.Held (suc c) is (receive_takes regions.Held m c is))))
 
 -- ---- the events of a line

@@ -95,9 +95,9 @@ pub record IsRead (names : List (List ℕ)) (state : State) (d : BuilderView) (l
   pub last : BuilderView
   pub made : SoFar names names states.Done last
   pub out_is : last.lines ≡ out
-  pub said_all : List Saying
-  pub lines_are : lines ≡ map saying_line said_all
-  pub says : so_far names states.Done last ≡ so_far names state d ++ said_all
+  pub sayings_left : List Saying
+  pub lines_are : lines ≡ map saying_line sayings_left
+  pub says : so_far names states.Done last ≡ so_far names state d ++ sayings_left
   pub nothing : rest ≡ []
 
 -- the second look reads the lines that the first does, or finds an unknown instance
@@ -109,7 +109,7 @@ read_end : (names begun : List (List ℕ)) (state : State) (d : BuilderView) (re
 read_end names begun state d rest s f =
     let done : SoFar names names state d = subst (λ b. SoFar names b state d) f.names_are s in
     let made : SoFar names names states.Done d = subst (λ p. SoFar names names p d) f.state_is done in
-    record { last = d; made = made; out_is = refl; said_all = []; lines_are = refl; says = ap (λ p. so_far names p d) (sym f.state_is) ∙ sym (append-nil (so_far names state d)); nothing = f.nothing }
+    record { last = d; made = made; out_is = refl; sayings_left = []; lines_are = refl; says = ap (λ p. so_far names p d) (sym f.state_is) ∙ sym (append-nil (so_far names state d)); nothing = f.nothing }
 
 built_more : {names more : List (List ℕ)} {state next : State} {d e : BuilderView} {saying : Saying} {line : List ℕ} (lines : List (List ℕ)) (rest : List ℕ) (result : Result (List LineView) Fault)
     → line ≡ saying_line saying → Builds names more state next d saying e → Built names next e lines rest result → Built names state d (line ∷ lines) rest result
@@ -117,9 +117,9 @@ built_more {names} {state = state} {d = d} {saying = saying} lines rest (Ok out)
   last = r.last;
   made = r.made;
   out_is = r.out_is;
-  said_all = saying ∷ r.said_all;
+  sayings_left = saying ∷ r.sayings_left;
   lines_are = ap (λ l. l ∷ lines) is ∙ ap (λ ls. saying_line saying ∷ ls) r.lines_are;
-  says = r.says ∙ ap (λ l. l ++ r.said_all) builds.says ∙ append_assoc (so_far names state d) (saying ∷ []) r.said_all;
+  says = r.says ∙ ap (λ l. l ++ r.sayings_left) builds.says ∙ append_assoc (so_far names state d) (saying ∷ []) r.sayings_left;
   nothing = r.nothing;
 }
 built_more lines rest (Err fault) is builds r = r
@@ -132,11 +132,11 @@ both_look names begun state d n [] rest s e = read_end names begun state d rest 
 both_look names begun state d n (line ∷ lines) rest s e =
     let l = looks begun state n line lines rest names e in
     let p = look-prefix l.more l.step.1 (n + 1) lines rest names l.others in
-    let said = line-is state line l.step (in_line_ok n (step_of state line) l.step l.reads) in
-    let outcome = onward p.later s said.0 l.adds p.is in
+    let event_saying = line-is state line l.step (in_line_ok n (step_of state line) l.step l.reads) in
+    let outcome = onward p.later s event_saying.0 l.adds p.is in
     let first : build_from names state d n (line ∷ lines) ≡ (in_line n (built names d l.step.0) >>= λ more. build_from names l.step.1 more (n + 1) lines) =
     bind_at (in_line n (step_of state line)) (λ step. in_line n (built names d step.0) >>= λ more. build_from names step.1 more (n + 1) lines) l.step l.reads in
-    subst (Built names state d (line ∷ lines) rest) (sym first) (by l said.1 (λ d2 t. both_look names l.more l.step.1 d2 (n + 1) lines rest t l.others) outcome)
+    subst (Built names state d (line ∷ lines) rest) (sym first) (by l event_saying.1 (λ d2 t. both_look names l.more l.step.1 d2 (n + 1) lines rest t l.others) outcome)
   where
     by : (l : Looks begun state n line lines rest names) → (line ≡ saying_line l.step.0) → ((d2 : BuilderView) → SoFar names l.more l.step.1 d2 → Built names l.step.1 d2 lines rest (build_from names l.step.1 d2 (n + 1) lines)) → Outcome names l.more state l.step.1 d l.step.0
         → Built names state d (line ∷ lines) rest (in_line n (built names d l.step.0) >>= λ more. build_from names l.step.1 more (n + 1) lines)
@@ -198,10 +198,10 @@ pub record IsTextOf (bytes : List ℕ) (names : List (List ℕ)) (lines : List L
 
 text_of : (bytes : List ℕ) (names : List (List ℕ)) (lines : List LineView) → IsRead names states.Start blank (lines_of bytes) (end_of bytes) lines → IsTextOf bytes names lines
 text_of bytes names lines r =
-    let whole : r.said_all ≡ chart_sayings names lines = sym r.says ∙ ap (chart_sayings names) r.out_is in
+    let whole : r.sayings_left ≡ chart_sayings names lines = sym r.says ∙ ap (chart_sayings names) r.out_is in
     record {
       has = subst (HasText names) r.out_is (has_text names r.last r.made);
-      spelled = text_is bytes r.said_all r.lines_are r.nothing ∙ ap spell whole ∙ sym (chart_text-is names lines);
+      spelled = text_is bytes r.sayings_left r.lines_are r.nothing ∙ ap spell whole ∙ sym (chart_text-is names lines);
     }
 
 from_start : (bytes : List ℕ) (names : List (List ℕ)) → names_in bytes ≡ Ok names → Built names states.Start blank (lines_of bytes) (end_of bytes) (lines_in names bytes)

@@ -61,8 +61,8 @@ moved names more line leaves is e = others names more line sayings.Foot is refl 
 -- gives the names that its saying does
 pub ahead_goes_on : (names more : List (List ℕ)) (state : State) (line : List ℕ) (lines : List (List ℕ)) (step : Step) → step_of state line ≡ Ok step → names_after names step.0 ≡ Ok more → with_heads names (line ∷ lines) ≡ with_heads more lines
 ahead_goes_on names more state line lines step e f =
-    let said = line-is state line step e in
-    ap (λ l. with_heads l lines) (moved names more line said.0 said.1 f)
+    let event_saying = line-is state line step e in
+    ap (λ l. with_heads l lines) (moved names more line event_saying.0 event_saying.1 f)
 
 -- ---- names that were given stay
 

@@ -57,10 +57,10 @@ goes_first known bytes e = record { ahead = sym e; looks_on = refl; made = start
 outcome_on : (known names more : List (List ℕ)) (state : State) (d : BuilderView) (n : ℕ) (line : List ℕ) (lines : List (List ℕ)) (rest bytes : List ℕ) (step : Step)
     → step_of state line ≡ Ok step → names_after names step.0 ≡ Ok more → Goes known names state d n (line ∷ lines) rest bytes → Outcome known more state step.1 d step.0
 outcome_on known names more state d n line lines rest bytes step reads adds g =
-    let said = line-is state line step reads in
+    let event_saying = line-is state line step reads in
     let p = heads-prefix more lines in
     let whole : known ≡ more ++ p.later = sym g.ahead ∙ ahead_goes_on names more state line lines step reads adds ∙ p.is in
-    onward p.later g.made said.0 adds whole
+    onward p.later g.made event_saying.0 adds whole
 
 -- a line has no fault but one by itself, or an instance that isn't known
 pub may_be_built : (known names : List (List ℕ)) (state : State) (d : BuilderView) (n : ℕ) (line : List ℕ) (lines : List (List ℕ)) (rest bytes : List ℕ) → Goes known names state d n (line ∷ lines) rest bytes → MayBeBuilt known names d state line

@@ -29,8 +29,8 @@ use Rattle.msc_text.specs.declared.reader.state.Saying.TheVariants as sayings
 use Rattle.msc_text.proofs.ReaderLemmas.Coregions.{HasOpen, tail_of, last_from-is, closing-open}
 use Rattle.msc_text.proofs.ReaderLemmas.Moves.{IsEvent, Moves}
 use Rattle.msc_text.proofs.ReaderLemmas.Moves.Moves.{begins, heads, ends, sends, receives, opens, shuts, leaves}
-use Rattle.msc_text.proofs.ReaderLemmas.Standing.{IsLineAmong, IsInside, SoFar, inside_said, so_far, all-push, name_at-there, Pushes, more_line, more_built, event-built, event-inside, event-said}
-use Rattle.msc_text.proofs.ReaderLemmas.TextSayings.{said, body, last_from, closing, part}
+use Rattle.msc_text.proofs.ReaderLemmas.Standing.{IsLineAmong, IsInside, SoFar, inside_sayings, so_far, all-push, name_at-there, Pushes, more_line, more_built, event-built, event-inside, event-event_saying}
+use Rattle.msc_text.proofs.ReaderLemmas.TextSayings.{event_saying, body, last_from, closing, part}
 
 -- one more line is built
 pub record Builds (names more : List (List ℕ)) (state next : State) (d : BuilderView) (saying : Saying) (e : BuilderView) : Type 0 where
@@ -118,7 +118,7 @@ pushes-of {names} {own} {partner} {name} {events} {region} {d} {line} {q} m i ev
     }
 
 event-on : {names begun : List (List ℕ)} {own : List ℕ} {events : ℕ} {region : Region} {d : BuilderView} {line : LineView} {m : Event} (saying : Saying)
-    → SoFar names begun (states.Inside own events region) d → Pushes names own events region d line m → built names d saying ≡ with_event d d.line m → said names m ≡ saying
+    → SoFar names begun (states.Inside own events region) d → Pushes names own events region d line m → built names d saying ≡ with_event d d.line m → event_saying names m ≡ saying
     → Outcome names begun (states.Inside own events region) (states.Inside own (events + 1) (after_receive region)) d saying
 event-on {names} {begun} {own} {events} {region} {d} {line} {m} saying s p by is =
     inr (
@@ -126,7 +126,7 @@ event-on {names} {begun} {own} {events} {region} {d} {line} {m} saying s p by is
       record {
         is_built = by ∙ event-built p;
         made = record { are = s.are; each = s.each; numbered = s.numbered; among = s.among; stands = (s.stands.0, (more_line line m, event-inside p)) };
-        says = event-said p ∙ ap (λ x. so_far names (states.Inside own events region) d ++ x ∷ []) is;
+        says = event-event_saying p ∙ ap (λ x. so_far names (states.Inside own events region) d ++ x ∷ []) is;
       },
     )
 
@@ -163,18 +163,18 @@ region-state c line s i opened = record {
 }
 
 -- what is said there
-said-on : (names : List (List ℕ)) (own : List ℕ) (region other : Region) (d : BuilderView) (line : LineView) (saying : Saying) → d.line ≡ Some line
+event_saying-on : (names : List (List ℕ)) (own : List ℕ) (region other : Region) (d : BuilderView) (line : LineView) (saying : Saying) → d.line ≡ Some line
     → tail_of other (last_from 0 line.events) ≡ tail_of region (last_from 0 line.events) ++ saying ∷ []
-    → sayings.Begin ∷ (flat_map (part names) d.lines ++ inside_said names own other d.line) ≡ (sayings.Begin ∷ (flat_map (part names) d.lines ++ inside_said names own region d.line)) ++ saying ∷ []
-said-on names own region other d line saying there e =
+    → sayings.Begin ∷ (flat_map (part names) d.lines ++ inside_sayings names own other d.line) ≡ (sayings.Begin ∷ (flat_map (part names) d.lines ++ inside_sayings names own region d.line)) ++ saying ∷ []
+event_saying-on names own region other d line saying there e =
     let front = flat_map (part names) d.lines in
     let b = body names 0 line.events in
     let r = last_from 0 line.events in
-    ap (λ o. sayings.Begin ∷ (front ++ inside_said names own other o)) there
+    ap (λ o. sayings.Begin ∷ (front ++ inside_sayings names own other o)) there
     ∙ ap (λ l. sayings.Begin ∷ (front ++ (sayings.Head own ∷ (b ++ l)))) e
     ∙ ap (λ l. sayings.Begin ∷ (front ++ (sayings.Head own ∷ l))) (sym (append_assoc b (tail_of region r) (saying ∷ [])))
     ∙ ap (λ l. sayings.Begin ∷ l) (sym (append_assoc front (sayings.Head own ∷ (b ++ tail_of region r)) (saying ∷ [])))
-    ∙ ap (λ o. (sayings.Begin ∷ (front ++ inside_said names own region o)) ++ saying ∷ []) (sym there)
+    ∙ ap (λ o. (sayings.Begin ∷ (front ++ inside_sayings names own region o)) ++ saying ∷ []) (sym there)
 
 open-on : (names begun : List (List ℕ)) (own : List ℕ) (events : ℕ) (d : BuilderView) → SoFar names begun (states.Inside own events regions.Closed) d
     → Outcome names begun (states.Inside own events regions.Closed) (states.Inside own events regions.Empty) d sayings.Open
@@ -187,7 +187,7 @@ open-on names begun own events d s =
       record {
         is_built = ap (with_coregion d) i.there;
         made = region-state (next_region line) line s i refl;
-        says = said-on names own regions.Closed regions.Empty d line sayings.Open i.there refl;
+        says = event_saying-on names own regions.Closed regions.Empty d line sayings.Open i.there refl;
       },
     )
 
@@ -205,7 +205,7 @@ shut-on names begun own events d s =
       record {
         is_built = refl;
         made = region-state 0 line s i refl;
-        says = said-on names own regions.Held regions.Closed d line sayings.Shut i.there (closing-open (last_from 0 line.events) begun_one);
+        says = event_saying-on names own regions.Held regions.Closed d line sayings.Shut i.there (closing-open (last_from 0 line.events) begun_one);
       },
     )
 
@@ -233,7 +233,7 @@ foot-on names begun own events d s =
         };
         says =
             ap (λ l. sayings.Begin ∷ l) (sym (flat_map_more (part names) [] d.lines line) ∙ ap (λ l. front ++ l) here ∙ sym (append_assoc front (sayings.Head own ∷ (b ++ closing r 0)) (sayings.Foot ∷ [])))
-            ∙ ap (λ o. (sayings.Begin ∷ (front ++ inside_said names own regions.Closed o)) ++ sayings.Foot ∷ []) (sym i.there);
+            ∙ ap (λ o. (sayings.Begin ∷ (front ++ inside_sayings names own regions.Closed o)) ++ sayings.Foot ∷ []) (sym i.there);
       },
     )
 

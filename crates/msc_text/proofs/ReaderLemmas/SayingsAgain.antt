@@ -125,20 +125,20 @@ plain-words opens = (plain_last keywords.Concurrent, tt)
 plain-words shuts = (plain_last keywords.EndConcurrent, tt)
 plain-words leaves = (plain_last keywords.EndInstance, tt)
 
-said-again : (saying : Saying) → ArePlain (saying_words saying) → words_of (saying_line saying) ≡ saying_words saying
-said-again sayings.Begin h = spaced_again _ _ h
-said-again (sayings.Head own) h = spaced_again _ _ h
-said-again (sayings.Send to name) h = spaced_again _ _ h
-said-again (sayings.Receive from name) h = spaced_again _ _ h
-said-again sayings.Open h = spaced_again _ _ h
-said-again sayings.Shut h = spaced_again _ _ h
-said-again sayings.Foot h = spaced_again _ _ h
-said-again sayings.End h = spaced_again _ _ h
+event_saying-again : (saying : Saying) → ArePlain (saying_words saying) → words_of (saying_line saying) ≡ saying_words saying
+event_saying-again sayings.Begin h = spaced_again _ _ h
+event_saying-again (sayings.Head own) h = spaced_again _ _ h
+event_saying-again (sayings.Send to name) h = spaced_again _ _ h
+event_saying-again (sayings.Receive from name) h = spaced_again _ _ h
+event_saying-again sayings.Open h = spaced_again _ _ h
+event_saying-again sayings.Shut h = spaced_again _ _ h
+event_saying-again sayings.Foot h = spaced_again _ _ h
+event_saying-again sayings.End h = spaced_again _ _ h
 
 -- a line is read as what it says
 pub line-again : {state next : State} {saying : Saying} → Moves state saying next → step_of state (saying_line saying) ≡ Ok (saying, next)
 unfolding step_of
-line-again {state} {next} {saying} move = ap (step_by state) (said-again saying (plain-words move)) ∙ words-again move
+line-again {state} {next} {saying} move = ap (step_by state) (event_saying-again saying (plain-words move)) ∙ words-again move
 
 -- it has no line feed
 pub line-lacks : {state next : State} {saying : Saying} → Moves state saying next → Lacks 10 (saying_line saying)

@@ -19,7 +19,7 @@ use Rattle.msc_text.specs.declared.reader.state.Region.{Region}
 use Rattle.msc_text.specs.declared.reader.state.Saying.{Saying}
 use Rattle.msc_text.specs.declared.reader.state.Saying.TheVariants as sayings
 use Rattle.msc_text.proofs.ReaderLemmas.Coregions.{HasOpen, open-may, open-more, tail_of, last_from-push, body-push, tail-more}
-use Rattle.msc_text.proofs.ReaderLemmas.TextSayings.{said, event_sayings, body, last_from, part}
+use Rattle.msc_text.proofs.ReaderLemmas.TextSayings.{event_saying, event_sayings, body, last_from, part}
 
 -- ---- what is built
 
@@ -60,14 +60,14 @@ pub record SoFar (names begun : List (List ℕ)) (state : State) (d : BuilderVie
 
 -- ---- what was said
 
-abbrev pub inside_said : List (List ℕ) → List ℕ → Region → Option LineView → List Saying
-inside_said names own region None = []
-inside_said names own region (Some line) = sayings.Head own ∷ (body names 0 line.events ++ tail_of region (last_from 0 line.events))
+abbrev pub inside_sayings : List (List ℕ) → List ℕ → Region → Option LineView → List Saying
+inside_sayings names own region None = []
+inside_sayings names own region (Some line) = sayings.Head own ∷ (body names 0 line.events ++ tail_of region (last_from 0 line.events))
 
 abbrev pub so_far : List (List ℕ) → State → BuilderView → List Saying
 so_far names states.Start d = []
 so_far names states.Outside d = sayings.Begin ∷ flat_map (part names) d.lines
-so_far names (states.Inside own events region) d = sayings.Begin ∷ (flat_map (part names) d.lines ++ inside_said names own region d.line)
+so_far names (states.Inside own events region) d = sayings.Begin ∷ (flat_map (part names) d.lines ++ inside_sayings names own region d.line)
 so_far names states.Done d = sayings.Begin ∷ (flat_map (part names) d.lines ++ sayings.End ∷ [])
 
 -- ---- lists that grow
@@ -124,18 +124,18 @@ event-inside {names} {own} {events} {region} {d} {line} {m} p =
       };
     }
 
-pub event-said : {names : List (List ℕ)} {own : List ℕ} {events : ℕ} {region : Region} {d : BuilderView} {line : LineView} {m : Event} → Pushes names own events region d line m
-    → so_far names (states.Inside own (events + 1) (after_receive region)) (more_built d line m) ≡ so_far names (states.Inside own events region) d ++ said names m ∷ []
-event-said {names} {own} {events} {region} {d} {line} {m} p =
+pub event-event_saying : {names : List (List ℕ)} {own : List ℕ} {events : ℕ} {region : Region} {d : BuilderView} {line : LineView} {m : Event} → Pushes names own events region d line m
+    → so_far names (states.Inside own (events + 1) (after_receive region)) (more_built d line m) ≡ so_far names (states.Inside own events region) d ++ event_saying names m ∷ []
+event-event_saying {names} {own} {events} {region} {d} {line} {m} p =
     let r = last_from 0 line.events in
     let front = flat_map (part names) d.lines in
     let b = body names 0 line.events in
-    let grown : body names 0 (line.events ++ m ∷ []) ++ tail_of (after_receive region) (last_from 0 (line.events ++ m ∷ [])) ≡ (b ++ tail_of region r) ++ said names m ∷ [] =
+    let grown : body names 0 (line.events ++ m ∷ []) ++ tail_of (after_receive region) (last_from 0 (line.events ++ m ∷ [])) ≡ (b ++ tail_of region r) ++ event_saying names m ∷ [] =
     ap (λ l. l ++ tail_of (after_receive region) (last_from 0 (line.events ++ m ∷ []))) (body-push names 0 line.events m)
     ∙ ap (λ c. (b ++ event_sayings names r m) ++ tail_of (after_receive region) c) (last_from-push 0 line.events m)
     ∙ append_assoc b (event_sayings names r m) (tail_of (after_receive region) (region_of m))
     ∙ ap (λ l. b ++ l) (tail-more names region line.events m p.open_is)
-    ∙ sym (append_assoc b (tail_of region r) (said names m ∷ [])) in
+    ∙ sym (append_assoc b (tail_of region r) (event_saying names m ∷ [])) in
     ap (λ l. sayings.Begin ∷ (front ++ (sayings.Head own ∷ l))) grown
-    ∙ ap (λ l. sayings.Begin ∷ l) (sym (append_assoc front (sayings.Head own ∷ (b ++ tail_of region r)) (said names m ∷ [])))
-    ∙ ap (λ o. (sayings.Begin ∷ (front ++ inside_said names own region o)) ++ said names m ∷ []) (sym p.inside.there)
+    ∙ ap (λ l. sayings.Begin ∷ l) (sym (append_assoc front (sayings.Head own ∷ (b ++ tail_of region r)) (event_saying names m ∷ [])))
+    ∙ ap (λ o. (sayings.Begin ∷ (front ++ inside_sayings names own region o)) ++ event_saying names m ∷ []) (sym p.inside.there)

@@ -23,13 +23,13 @@ abbrev pub opening : ℕ → ℕ → List Saying
 opening r c = cond (eqb r c || eqb c 0) [] (Open ∷ [])
 
 -- an event
-abbrev pub said : List (List ℕ) → Event → Saying
-said names (line_events.Send to name) = Send (name_at names to) name
-said names (line_events.Receive from name region) = Receive (name_at names from) name
+abbrev pub event_saying : List (List ℕ) → Event → Saying
+event_saying names (line_events.Send to name) = Send (name_at names to) name
+event_saying names (line_events.Receive from name region) = Receive (name_at names from) name
 
 -- an event behind one in the coregion r
 abbrev pub event_sayings : List (List ℕ) → ℕ → Event → List Saying
-event_sayings names r m = closing r (region_of m) ++ (opening r (region_of m) ++ said names m ∷ [])
+event_sayings names r m = closing r (region_of m) ++ (opening r (region_of m) ++ event_saying names m ∷ [])
 
 -- events behind one in the coregion r, with the last coregion left open
 abbrev pub body : List (List ℕ) → ℕ → List Event → List Saying
@@ -75,17 +75,17 @@ spell-opening r c = by (eqb r c || eqb c 0)
     by true = refl
     by false = refl
 
-spell-said : (names : List (List ℕ)) (m : Event) → spell (said names m ∷ []) ≡ event_text names m
+spell-event_saying : (names : List (List ℕ)) (m : Event) → spell (event_saying names m ∷ []) ≡ event_text names m
 unfolding event_text event_line
-spell-said names (line_events.Send to name) = simp (append_assoc, append-nil)
-spell-said names (line_events.Receive from name region) = simp (append_assoc, append-nil)
+spell-event_saying names (line_events.Send to name) = simp (append_assoc, append-nil)
+spell-event_saying names (line_events.Receive from name region) = simp (append_assoc, append-nil)
 
 spell-event_sayings : (names : List (List ℕ)) (r : ℕ) (m : Event) → spell (event_sayings names r m) ≡ event_lines_text names r m
 unfolding event_lines_text
 spell-event_sayings names r m =
-    spell-append (closing r (region_of m)) (opening r (region_of m) ++ said names m ∷ [])
-    ∙ ap (λ l. l ++ spell (opening r (region_of m) ++ said names m ∷ [])) (spell-closing r (region_of m))
-    ∙ ap (λ l. ending r (region_of m) ++ l) (spell-append (opening r (region_of m)) (said names m ∷ []) ∙ ap (λ l. l ++ spell (said names m ∷ [])) (spell-opening r (region_of m)) ∙ ap (λ l. beginning r (region_of m) ++ l) (spell-said names m))
+    spell-append (closing r (region_of m)) (opening r (region_of m) ++ event_saying names m ∷ [])
+    ∙ ap (λ l. l ++ spell (opening r (region_of m) ++ event_saying names m ∷ [])) (spell-closing r (region_of m))
+    ∙ ap (λ l. ending r (region_of m) ++ l) (spell-append (opening r (region_of m)) (event_saying names m ∷ []) ∙ ap (λ l. l ++ spell (event_saying names m ∷ [])) (spell-opening r (region_of m)) ∙ ap (λ l. beginning r (region_of m) ++ l) (spell-event_saying names m))
 
 spell-body : (names : List (List ℕ)) (r : ℕ) (line : List Event) → spell (body names r line) ++ ending (last_from r line) 0 ≡ events_text names r line
 spell-body names r [] = refl

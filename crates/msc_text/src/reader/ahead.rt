@@ -1,5 +1,5 @@
-//! The names of a text's instances, which are looked for ahead of its other lines: so a partner's number is known when its
-//! event is read.
+//! The names of a text's instances, which are looked for ahead of its other lines: so a partner's number is known
+//! when its event is read.
 ghost use Rattle.std.specs.Prelude.{◌≡◌, IfOk};
 ghost use Rattle.texts.specs.Instances.{with_name};
 ghost use Rattle.msc_text.specs.Reader.Ahead.{begins, given_or, with_begun, with_step, names_ahead};

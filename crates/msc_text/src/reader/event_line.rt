@@ -1,5 +1,5 @@
-//! Lines of events that are read at once: their words stand where those of an event do, and both names were mostly read
-//! before. What a line is that isn't read so is for [`crate::reader::step`] to say.
+//! Lines of events that are read at once: their words stand where those of an event do, and both names were mostly
+//! read before. What a line is that isn't read so is for [`crate::reader::step`] to say.
 ghost use Rattle.std.specs.Prelude.{◌≡◌, ℕ, ◌<◌, IfSome};
 ghost use Rattle.chart.specs.declared.keyword.Keyword.TheVariants as keywords;
 ghost use Rattle.chart.specs.declared.line.TheConstants.{MAX_EVENTS};

@@ -3,7 +3,7 @@ use Rattle.std.specs.Prelude.{◌≡◌, ℕ, List, Option, None, Some, Ok}
 use Rattle.chart.specs.Names.{name_of}
 use Rattle.diagram_join.specs.Joins.{JoinView}
 use Rattle.texts.specs.Lines.{parts}
-use Rattle.mscview_requests.specs.Words.Words.{is_equals, round, AreSaid}
+use Rattle.mscview_requests.specs.Words.Words.{is_equals, round, AreRead}
 use Rattle.mscview_requests.specs.declared.words.joins.JoinWord.{JoinWord}
 
 -- the word is the name
@@ -12,7 +12,7 @@ IsName word name = name_of word ≡ Ok name
 
 -- these are the names that commas (byte 44) join
 abbrev pub AreNames : List ℕ → List (List ℕ) → Type 0
-AreNames word names = AreSaid IsName (parts 44 word) names
+AreNames word names = AreRead IsName (parts 44 word) names
 
 -- what stands before `=` is the instance's name, and what stands behind it are those of its lines
 abbrev pub IsJoinAt : Option (List ℕ × List ℕ) → JoinView → Type 0

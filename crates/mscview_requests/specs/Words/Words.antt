@@ -16,26 +16,26 @@ abbrev pub round : (ℕ → Bool) → List ℕ → Option (List ℕ × List ℕ)
 round is_it word = round_at word (position is_it word)
 
 -- each of these words says the value at its place, and nothing else is said
-abbrev pub AreSaid : {A B : Type 0} → (A → B → Type 0) → List A → List B → Type 0
-AreSaid Says [] [] = Unit {0}
-AreSaid Says (word ∷ words) (value ∷ values) = Says word value × AreSaid Says words values
-AreSaid Says [] (value ∷ values) = ⊥
-AreSaid Says (word ∷ words) [] = ⊥
+abbrev pub AreRead : {A B : Type 0} → (A → B → Type 0) → List A → List B → Type 0
+AreRead Says [] [] = Unit {0}
+AreRead Says (word ∷ words) (value ∷ values) = Says word value × AreRead Says words values
+AreRead Says [] (value ∷ values) = ⊥
+AreRead Says (word ∷ words) [] = ⊥
 
 -- the words say nothing that a command could do (G1)
 abbrev pub SayNothing : {A : Type 0} → (A → Type 0) → ProgramError → Type 0
-SayNothing IsSaid error = (error ≡ Usage) × ((value : _) → IsSaid value → ⊥)
+SayNothing IsRead error = (error ≡ Usage) × ((value : _) → IsRead value → ⊥)
 
 -- that, or memory ran out while they were read (F6)
 abbrev pub AreNotRead : {A : Type 0} → (A → Type 0) → ProgramError → Type 0
-AreNotRead IsSaid error = (error ≡ Memory) ⊎ SayNothing IsSaid error
+AreNotRead IsRead error = (error ≡ Memory) ⊎ SayNothing IsRead error
 
 -- what the words say, or they say nothing
 abbrev pub Says : {A : Type 0} → (A → Type 0) → Result A ProgramError → Type 0
-Says IsSaid (Ok value) = IsSaid value
-Says IsSaid (Err error) = SayNothing IsSaid error
+Says IsRead (Ok value) = IsRead value
+Says IsRead (Err error) = SayNothing IsRead error
 
 -- the same where it is read into memory, and a value stands for what is said
 abbrev pub Reads : {A B : Type 0} → Result A ProgramError → (A → B) → (B → Type 0) → Type 0
-Reads (Ok read) view IsSaid = IsSaid (view read)
-Reads (Err error) view IsSaid = AreNotRead IsSaid error
+Reads (Ok read) view IsRead = IsRead (view read)
+Reads (Err error) view IsRead = AreNotRead IsRead error

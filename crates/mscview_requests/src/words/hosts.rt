@@ -3,7 +3,7 @@ ghost use Rattle.std.specs.Prelude.{◌≡◌, map, option_map, IfOk};
 ghost use Rattle.std.specs.List.{list_any};
 ghost use Rattle.log_lines.specs.Names.Hosts.{peer_view};
 ghost use Rattle.mscview_requests.specs.Words.Hosts.{is_empty, AreHosts, AreFirst, IsPeer, peer_word_view};
-ghost use Rattle.mscview_requests.specs.Words.Words.{AreSaid, Reads};
+ghost use Rattle.mscview_requests.specs.Words.Words.{AreRead, Reads};
 
 use crate::words::parts::{comma_parts, round_equals};
 use cmd_base::ProgramError;
@@ -76,7 +76,7 @@ fn peer_by<'a>(alloc: Global, word: &'a [u8]) -> Result<PeerWord<'a>, ProgramErr
 
 /// What all words of `--peer` say. G1: one of them isn't `NAME=NAME,NAME..`.
 pub fn peer_words<'a>(alloc: Global, words: &[&'a str]) -> Result<Vec<PeerWord<'a>>, ProgramError>
-    ensures { Reads result (λ peers. map peer_word_view peers.items) (AreSaid IsPeer (map (λ w. w.now) words.now)) }
+    ensures { Reads result (λ peers. map peer_word_view peers.items) (AreRead IsPeer (map (λ w. w.now) words.now)) }
 {
     let mut peers = Vec::new(alloc);
     for word in words {

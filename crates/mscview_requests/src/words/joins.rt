@@ -2,7 +2,7 @@
 ghost use Rattle.std.specs.Prelude.{◌≡◌, map, IfOk};
 ghost use Rattle.diagram_join.specs.Joins.{join_view};
 ghost use Rattle.mscview_requests.specs.Words.Joins.{IsName, AreNames, IsJoin, join_word_view};
-ghost use Rattle.mscview_requests.specs.Words.Words.{AreSaid, Says, Reads};
+ghost use Rattle.mscview_requests.specs.Words.Words.{AreRead, Says, Reads};
 
 use crate::words::parts::{comma_parts, round_equals};
 use chart::Name;
@@ -29,7 +29,7 @@ fn name_by(word: &[u8]) -> Result<Name, ProgramError>
 
 /// The names that these words are. G1: one of them is none.
 fn names_in(alloc: Global, words: &[&[u8]]) -> Result<Vec<Name>, ProgramError>
-    ensures { Reads result (λ names. names.items) (AreSaid IsName (map (λ w. w.now) words.now)) }
+    ensures { Reads result (λ names. names.items) (AreRead IsName (map (λ w. w.now) words.now)) }
 {
     let mut names = Vec::new(alloc);
     for word in words {
@@ -66,7 +66,7 @@ fn join_by(alloc: Global, word: &[u8]) -> Result<JoinWord, ProgramError>
 
 /// What all words of `--join` say. G1: one of them isn't `NAME=NAME,NAME..`.
 pub fn join_words(alloc: Global, words: &[&str]) -> Result<Vec<JoinWord>, ProgramError>
-    ensures { Reads result (λ joins. map join_word_view joins.items) (AreSaid IsJoin (map (λ w. w.now) words.now)) }
+    ensures { Reads result (λ joins. map join_word_view joins.items) (AreRead IsJoin (map (λ w. w.now) words.now)) }
 {
     let mut joins = Vec::new(alloc);
     for word in words {

@@ -1,5 +1,5 @@
 use Rattle.std.proofs.Common.{◌≡◌, ◌+◌, ◌-◌, arith}
-use Rattle.online_races.proofs.PassingLemmas.{HasFound-passed, HasFound-races, IsRaces-done}
+use Rattle.online_races.proofs.PassingLemmas.{HasFound-passed, HasFound-races, AreLineRaces-done}
 use Rattle.online_races.proofs.last_races.Goals as goal
 
 pub loop-last-preserved : goal.loop-last-preserved
@@ -18,4 +18,4 @@ returns-in-Races-clause-found c end found has =
     (HasFound-races line end c.in-Races.start last earlier c.args.entry c.args.sender c.args.region found c.in-Races.ensures (omega (arith, c.max-earlier.ensures)) (omega (arith, c.max-earlier.ensures)) (omega (arith, c.max-earlier.ensures, c.in-Races.ensures.less)) (c.loop-last.invariant.1 end found has))
 
 pub returns-clause-found : goal.returns-clause-found
-returns-clause-found c end found has = IsRaces-done c.args.line.now.line end c.loop-last.last c.args.entry c.args.sender c.args.region found c.loop-last-test.false (c.loop-last.invariant.1 end found has)
+returns-clause-found c end found has = AreLineRaces-done c.args.line.now.line end c.loop-last.last c.args.entry c.args.sender c.args.region found c.loop-last-test.false (c.loop-last.invariant.1 end found has)

@@ -1,4 +1,4 @@
-use Rattle.online_races.proofs.PassingLemmas.{ArePassed-in, ArePassed-from, IsRace-asked}
+use Rattle.online_races.proofs.PassingLemmas.{ArePassed-in, ArePassed-from, IsCandidate-asked}
 use Rattle.online_races.proofs.stretch_to.Goals as goal
 
 pub returns-then-is_in : goal.returns-then-is_in
@@ -12,4 +12,4 @@ returns-then-is_receive_from c =
 pub returns-else-is_receive_from : goal.returns-else-is_receive_from
 returns-else-is_receive_from c =
     c.races_start.ensures c.args.sender
-    (IsRace-asked c.args.line.now.line.events c.args.index c.args.sender c.args.region c.is_in.result c.is_receive_from.result c.requires.begun c.requires.within c.is_in.ensures c.if-is_in.false c.is_receive_from.ensures c.if-is_receive_from.false)
+    (IsCandidate-asked c.args.line.now.line.events c.args.index c.args.sender c.args.region c.is_in.result c.is_receive_from.result c.requires.begun c.requires.within c.is_in.ensures c.if-is_in.false c.is_receive_from.ensures c.if-is_receive_from.false)

@@ -1,7 +1,7 @@
 -- One step of a walk along the instances that get a column.
 use Rattle.std.proofs.Common.{◌≡◌, ℕ, suc, ◌+◌, ◌<◌, List, [], ◌∷◌, ◌++◌, length, get_or, drop, sym, ap, ◌∙◌, add-one}
 use Rattle.std.proofs.Math.Seq.{drop-cons}
-use Rattle.picture_parts.specs.declared.columns.column.Column.{Column}
+use Rattle.picture_parts.specs.declared.columns.columns.Column.{Column}
 use Rattle.picture_parts.specs.Columns.Placing.{PlanView, next_column, columns_from}
 
 -- the columns so far, and one more

@@ -6,7 +6,7 @@ use Rattle.chart_layout.specs.declared.row.Row.{Row}
 use Rattle.chart_layout.specs.declared.row.Row.TheVariants as variants
 use Rattle.chart_layout.specs.Ends.{end_of as other_end}
 use Rattle.chart_layout.specs.Layouts.{row_of}
-use Rattle.picture_parts.specs.declared.columns.column.Column.{Column}
+use Rattle.picture_parts.specs.declared.columns.columns.Column.{Column}
 
 -- what events are chosen by
 pub record ChoiceView : Type 0 where

@@ -7,10 +7,10 @@ use Rattle.chart.specs.Events.{partner_of, name_of}
 use Rattle.chart.specs.Charts.{LineView, chart_lines}
 use Rattle.chart.specs.Reports.{ReportView}
 use Rattle.texts.specs.Instances.{name_at}
-use Rattle.picture_parts.specs.declared.columns.column.Column.{Column}
-use Rattle.picture_parts.specs.declared.columns.column.Room.{Room}
-use Rattle.picture_parts.specs.Columns.Widths.{name_width, cut_width, number_width}
-use Rattle.picture_parts.specs.Columns.Rooms.{plus, has_races_on, is_turned, room_of}
+use Rattle.picture_parts.specs.declared.columns.columns.Column.{Column}
+use Rattle.picture_parts.specs.declared.columns.columns.Room.{Room}
+use Rattle.picture_parts.specs.Columns.TextWidths.{name_width, cut_width, number_width}
+use Rattle.picture_parts.specs.Columns.Rooms.{plus, has_races_on, is_mirrored, room_of}
 
 -- what columns are placed by
 pub record PlanView : Type 0 where
@@ -68,7 +68,7 @@ distance plan near c q room =
 -- the room of q's line, on the right of these columns
 abbrev pub room_beside : PlanView → List Column → ℕ → Room
 room_beside plan columns q =
-    room_of (has_races_on q plan.reports) plan.numbers (is_turned columns (chart_lines plan.lines q))
+    room_of (has_races_on q plan.reports) plan.numbers (is_mirrored columns (chart_lines plan.lines q))
     (number_width (length (chart_lines plan.lines q)))
 
 -- the least place of q's line on the right of these columns

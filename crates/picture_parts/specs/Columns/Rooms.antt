@@ -4,9 +4,9 @@ use Rattle.std.specs.List.{list_any}
 use Rattle.chart.specs.declared.event.Event.{Event}
 use Rattle.chart.specs.Events.{partner_of}
 use Rattle.chart.specs.Reports.{ReportView}
-use Rattle.picture_parts.specs.declared.columns.column.Column.{Column}
-use Rattle.picture_parts.specs.declared.columns.column.Room.{Room}
-use Rattle.picture_parts.specs.Columns.Widths.{number_width}
+use Rattle.picture_parts.specs.declared.columns.columns.Column.{Column}
+use Rattle.picture_parts.specs.declared.columns.columns.Room.{Room}
+use Rattle.picture_parts.specs.Columns.TextWidths.{number_width}
 
 -- more pixels; what is more than 32 bits hold isn't counted
 abbrev pub plus : ℕ → ℕ → ℕ
@@ -25,8 +25,8 @@ abbrev pub events_with : List Column → List Event → ℕ
 events_with columns line = fold (λ n m. if has_column (partner_of m) columns then plus n 1 else n) 0 line
 
 -- brackets stand on the right of a line where most of its arrows are on the left
-abbrev pub is_turned : List Column → List Event → Bool
-is_turned columns line = nat_lt (length line) (2 * events_with columns line)
+abbrev pub is_mirrored : List Column → List Event → Bool
+is_mirrored columns line = nat_lt (length line) (2 * events_with columns line)
 
 -- the room that brackets need, and that of a number beside the line; w is the width of the line's greatest number
 abbrev pub bracket_room : ℕ → ℕ
@@ -37,9 +37,9 @@ number_room w = w + 10
 
 -- the room of a line: whether it has races, whether numbers are wanted, whether its brackets are on the right
 unfoldable pub room_of : Bool → Bool → Bool → ℕ → Room
-room_of races numbers turned w = record {
-  left = if races then (if turned then number_room w else bracket_room w) else 7;
-  right = if races then (if turned then bracket_room w else number_room w) else (if numbers then number_room w else 7);
+room_of races numbers mirrored w = record {
+  left = if races then (if mirrored then number_room w else bracket_room w) else 7;
+  right = if races then (if mirrored then bracket_room w else number_room w) else (if numbers then number_room w else 7);
   step = w / 2 + 2;
-  turned = if races then turned else false;
+  mirrored = if races then mirrored else false;
 }

@@ -1,6 +1,6 @@
 -- The elements of a picture as text (SVG 1.1; which there are is this project's profile).
 use Rattle.std.specs.Prelude.{ℕ, ◌+◌, ◌-◌, ◌/◌, ◌==◌, Bool, List, [], ◌∷◌, ◌++◌, length, take, drop, codes, decimal, if◌then◌else◌}
-use Rattle.picture_parts.specs.Columns.Widths.{line_break, name_width}
+use Rattle.picture_parts.specs.Columns.TextWidths.{line_break, name_width}
 use Rattle.picture_parts.specs.declared.elements.spot.Spot.{Spot}
 
 -- an arrow between two spots

@@ -3,7 +3,7 @@ ghost use Rattle.std.specs.Prelude.{◌≡◌, ◌==◌, ◌<◌, length, positi
 ghost use Rattle.picture_parts.specs.Columns.Choices.{column_of, end_of, is_between, is_row_chosen, is_chosen, is_chosen_end};
 ghost use Rattle.picture_parts.specs.Columns.Choices.{is_shown, is_drawn, is_drawn_row, places_from, count_from};
 
-use crate::columns::column::Column;
+use crate::columns::columns::Column;
 use chart::{EventNo, InstanceNo};
 use chart_layout::{Ends, Layout, Row};
 use std::alloc::{AllocError, Global};

@@ -4,13 +4,13 @@ ghost use Rattle.texts.specs.Instances.{name_at};
 ghost use Rattle.picture_parts.specs.Columns.Placing.{wider, widest_with, between, wider_cut, widest_cut, head_half};
 ghost use Rattle.picture_parts.specs.Columns.Placing.{label_distance, near_distance, distance, room_beside, least};
 ghost use Rattle.picture_parts.specs.Columns.Placing.{next_column, columns_from, columns_of, edge, width_of};
-ghost use Rattle.picture_parts.specs.Columns.Widths.{name_width};
+ghost use Rattle.picture_parts.specs.Columns.TextWidths.{name_width};
 ghost use Rattle.std.specs.List.{list_any};
 
-use crate::columns::column::{Column, Room};
+use crate::columns::columns::{Column, Room};
 use crate::columns::plan::Plan;
-use crate::columns::rooms::{has_races_on, is_turned, plus, room_of};
-use crate::columns::widths::{cut_width, name_width, number_width};
+use crate::columns::rooms::{has_races_on, is_mirrored, plus, room_of};
+use crate::columns::text_widths::{cut_width, name_width, number_width};
 use chart::{Event, InstanceNo, Names};
 use std::alloc::{AllocError, Global};
 use texts::named;
@@ -136,8 +136,8 @@ fn room_beside(plan: &Plan<'_>, columns: &[Column], instance: InstanceNo) -> Roo
 {
     let events = plan.events_of(instance);
     let races = has_races_on(plan.reports, instance);
-    let turned = is_turned(columns, events);
-    room_of(races, plan.numbers, turned, number_width(events.len()))
+    let mirrored = is_mirrored(columns, events);
+    room_of(races, plan.numbers, mirrored, number_width(events.len()))
 }
 
 /// The least place of an instance's line on the right of these columns.

@@ -1,9 +1,9 @@
 //! What is kept free beside a line.
 ghost use Rattle.std.specs.Prelude.{◌≡◌, ◌≤◌};
-ghost use Rattle.picture_parts.specs.Columns.Rooms.{plus, has_races_on, has_column, events_with, is_turned, bracket_room};
+ghost use Rattle.picture_parts.specs.Columns.Rooms.{plus, has_races_on, has_column, events_with, is_mirrored, bracket_room};
 ghost use Rattle.picture_parts.specs.Columns.Rooms.{number_room, room_of};
 
-use crate::columns::column::{Column, Room};
+use crate::columns::columns::{Column, Room};
 use chart::{Event, InstanceNo, Report};
 
 /// More pixels. What is more than 32 bits hold isn't counted.
@@ -42,8 +42,8 @@ fn events_with(columns: &[Column], events: &[Event]) -> u32
 }
 
 /// Whether brackets stand on the right of a line with these events, which is on the right of these columns.
-pub(crate) fn is_turned(columns: &[Column], events: &[Event]) -> bool
-    ensures { result ≡ is_turned columns.now events.now }
+pub(crate) fn is_mirrored(columns: &[Column], events: &[Event]) -> bool
+    ensures { result ≡ is_mirrored columns.now events.now }
 {
     (events.len() as u64) < 2 * u64::from(events_with(columns, events))
 }
@@ -66,9 +66,9 @@ fn number_room(width: u32) -> u32
 
 /// The room of a line whose greatest number has this width.
 #[tactic(auto, unfolding(crate::specs::Columns::Rooms::room_of))]
-pub(crate) fn room_of(races: bool, numbers: bool, turned: bool, width: u32) -> Room
+pub(crate) fn room_of(races: bool, numbers: bool, mirrored: bool, width: u32) -> Room
     requires { width ≤ 22 }
-    ensures { result ≡ room_of races numbers turned width }
+    ensures { result ≡ room_of races numbers mirrored width }
 {
     let brackets = bracket_room(width);
     let number = number_room(width);
@@ -79,22 +79,22 @@ pub(crate) fn room_of(races: bool, numbers: bool, turned: bool, width: u32) -> R
             left: 7,
             right,
             step,
-            turned: false,
+            mirrored: false,
         };
     }
-    if turned {
+    if mirrored {
         Room {
             left: number,
             right: brackets,
             step,
-            turned,
+            mirrored,
         }
     } else {
         Room {
             left: brackets,
             right: number,
             step,
-            turned,
+            mirrored,
         }
     }
 }

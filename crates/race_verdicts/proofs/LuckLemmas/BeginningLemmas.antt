@@ -85,16 +85,16 @@ module _ (lines : List LineView) (rec : RecordingView) (known : List (Option ℕ
       (at (suc its.line) its.index, record { item = one.item; is = one.is; unlogged = one.unlogged }, its.up)
 
   -- a receive comes behind an invented send where its send is known to
-  pub known_before : (s r : Place) (place : ℕ) (first : Option ℕ) (told : Bool) → BelongsTo (chart_lines lines) s r → s.instance ≡ suc place → place < length lines → first ≡ get_or known place None
-      → (IsTrue told ↔ IsUpToFirst first s.index) → IsTrue told ↔ ((e : Place) × IsInvented rec e × Before (chart_lines lines) e r)
-  known_before s r place first told belongs at_place within is tells = (
+  pub known_before : (s r : Place) (place : ℕ) (first : Option ℕ) (stated : Bool) → BelongsTo (chart_lines lines) s r → s.instance ≡ suc place → place < length lines → first ≡ get_or known place None
+      → (IsTrue stated ↔ IsUpToFirst first s.index) → IsTrue stated ↔ ((e : Place) × IsInvented rec e × Before (chart_lines lines) e r)
+  known_before s r place first stated belongs at_place within is states = (
     λ yes.
-        let w = known_invented s (both.1 (tells.0 yes)) in
+        let w = known_invented s (both.1 (states.0 yes)) in
         (w.0, w.1, before_its_receive (chart_lines lines) w.0 s r w.2 belongs),
     λ w.
         elim ((before_received (chart_lines lines) w.0 s r belongs).0 w.2) [
           | inl received ↦ let sent = invented_send w.0 w.1 in absurd (not_both (chart_lines lines) sent.0 s.instance w.0 sent.1 received.1)
-          | inr up ↦ tells.1 (both.0 (invented_first s w.0 w.1 send up))
+          | inr up ↦ states.1 (both.0 (invented_first s w.0 w.1 send up))
         ],
   )
     where

@@ -167,12 +167,12 @@ above_less lines above are q p o its = go (get_or above o None) (are.each o q p 
 -- whether it would have been taken, part by part
 module _ (rec : RecordingView) (k : ℕ) (own : MessageNo) (s : ℕ) (takes : Bool) where
   pub would_not_take : (IsTrue takes ↔ WouldTake rec k s) → takes ≡ false → IsTrue false ↔ WouldHaveTaken rec k own s
-  would_not_take told fails = (λ yes. absurd (false≢true yes), λ would. absurd (false≢true (sym fails ∙ told.1 would.takes)))
+  would_not_take stated fails = (λ yes. absurd (false≢true yes), λ would. absurd (false≢true (sym fails ∙ stated.1 would.takes)))
 
   pub would_yes : (first : Bool) → IsThere rec k s → (IsTrue takes ↔ WouldTake rec k s) → takes ≡ true → (IsTrue first ↔ CameFirst rec (messages.Sent s) own)
       → IsTrue (not first) ↔ WouldHaveTaken rec k own s
-  would_yes first there told holds came = go first came
+  would_yes first there stated holds came = go first came
     where
       go : (its : Bool) → (IsTrue its ↔ CameFirst rec (messages.Sent s) own) → IsTrue (not its) ↔ WouldHaveTaken rec k own s
       go true came_it = (λ yes. absurd (false≢true yes), λ would. absurd (would.kept (came_it.0 refl)))
-      go false came_it = (λ yes. record { there = there; takes = told.0 holds; kept = λ came_too. false≢true (came_it.1 came_too) }, λ would. refl)
+      go false came_it = (λ yes. record { there = there; takes = stated.0 holds; kept = λ came_too. false≢true (came_it.1 came_too) }, λ would. refl)

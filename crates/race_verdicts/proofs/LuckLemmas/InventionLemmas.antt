@@ -73,12 +73,12 @@ module _ (c : Chart) (invented : List (Option ℕ)) (q : ℕ) where
 
   -- the last send tells of all before it
   pub known_last : (count index : ℕ) (r : Bool) → IsLast (IsSendAt (c q)) (count + 1) (Some index) → (IsTrue r ↔ IsKnownSend c invented q index) → IsTrue r ↔ IsKnownBy c invented q count
-  known_last count index r last told = (
-    λ yes. (index, (let low = last.0 in omega arith), told.0 yes),
+  known_last count index r last stated = (
+    λ yes. (index, (let low = last.0 in omega arith), stated.0 yes),
     λ known.
         elim (cases_lt index known.0) [
           | inl past ↦ let send = known.2 in absurd (last.2 known.0 past (let low = known.1 in omega arith) send.send)
-          | inr low ↦ told.1 (known_later known.0 index low last.1 known.2)
+          | inr low ↦ stated.1 (known_later known.0 index low last.1 known.2)
         ],
   )
 

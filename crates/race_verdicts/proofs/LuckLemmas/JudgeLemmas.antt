@@ -25,7 +25,7 @@ use Rattle.race_verdicts.specs.declared.verdict.Verdict.{Verdict}
 use Rattle.race_verdicts.specs.declared.verdict.Verdict.TheVariants.{Luck, EarlierIsSend, BegunInTheMiddle, OrderedByLeftOut, WouldNotTake, PassedOver, BehindAnother}
 
 pub false_not : {P : Type 0} (r : Bool) → (IsTrue r ↔ P) → r ≡ false → P → ⊥
-false_not r told fails p = false≢true (sym fails ∙ told.1 p)
+false_not r stated fails p = false≢true (sym fails ∙ stated.1 p)
 
 -- the number of the line that names a message is one of the log's
 pub named_within : (lines : List LogLine) (m : MessageNo) → IsNamed lines m → naming_line m < length lines

@@ -125,8 +125,8 @@ module _ (lines : List LogLine) (tables : List (List (Option ℕ))) (are : AreOr
     its_firsts : AreFirsts lines (get_or lines s d).entry.host table
     its_firsts = subst (AreFirsts lines (get_or lines s d).entry.host) same_table firsts_at
 
-    pub told_some : (m : ℕ) → get_or table a None ≡ Some m → IsTrue (leb m s) ↔ IsAhead lines a s
-    told_some m found = ahead_some lines are.log s send (get_or lines s d) send_at table its_firsts a m found (leb m s) (leb-true m s, le-leb m s)
+    pub known_some : (m : ℕ) → get_or table a None ≡ Some m → IsTrue (leb m s) ↔ IsAhead lines a s
+    known_some m found = ahead_some lines are.log s send (get_or lines s d) send_at table its_firsts a m found (leb m s) (leb-true m s, le-leb m s)
 
-    pub told_none : get_or table a None ≡ None → IsTrue false ↔ IsAhead lines a s
-    told_none none = ahead_none lines are.log s send (get_or lines s d) send_at table its_firsts a none
+    pub known_none : get_or table a None ≡ None → IsTrue false ↔ IsAhead lines a s
+    known_none none = ahead_none lines are.log s send (get_or lines s d) send_at table its_firsts a none

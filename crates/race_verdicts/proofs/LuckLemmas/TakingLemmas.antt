@@ -37,12 +37,12 @@ pub placed_more : (taken : List Taken) (count i : ℕ) (old new : List (Option �
     → ((k : ℕ) → k < count → IsFirst (IsOfLine (map taken_view taken) k) i (get_or old k None)) → (k : ℕ) → k < count → IsFirst (IsOfLine (map taken_view taken) k) (i + 1) (get_or new k None)
 placed_more taken count i old new d within old_whole noted =
     first_noted (IsOfLine (map taken_view taken)) count i (get_or taken i d).line old new old_whole noted (λ k its. sym its.line ∙ line_of k its)
-    (record { told = taken_view (get_or taken i d); is = here; line = refl })
+    (record { stated = taken_view (get_or taken i d); is = here; line = refl })
   where
     here : slice_get (map taken_view taken) i ≡ Some (taken_view (get_or taken i d))
     here = slice_get-map taken_view taken i ∙ ap (option_map taken_view) (slice_get-get_or taken i d within)
 
-    line_of : (k : ℕ) → (its : IsOfLine (map taken_view taken) k i) → its.told.line ≡ (get_or taken i d).line
+    line_of : (k : ℕ) → (its : IsOfLine (map taken_view taken) k i) → its.stated.line ≡ (get_or taken i d).line
     line_of k its = ap (λ (t : TakenView). t.line) (some_same (sym its.is ∙ here))
 
 -- and all
@@ -54,7 +54,7 @@ placed_all taken count i table past table_whole each = record {
 }
   where
     inside : (j k : ℕ) → IsOfLine (map taken_view taken) k j → j < length (map taken_view taken)
-    inside j k its = slice_get_within (map taken_view taken) j its.told its.is
+    inside j k its = slice_get_within (map taken_view taken) j its.stated its.is
 
     low : length (map taken_view taken) ≤ i
     low = let same = length-map taken taken_view in omega arith
@@ -73,18 +73,18 @@ unfit_more taken k i w t is not are =
 -- none fits, where none before the place does and there the next line's begin, or all were gone over
 pub none_fitting : (taken : List TakenView) (k i : ℕ) (w : WordsView) → ((j : ℕ) (t : TakenView) → i ≤ j → slice_get taken j ≡ Some t → t.line ≡ k → ⊥) → AreUnfit taken k w i → IsFitting taken k w → ⊥
 none_fitting taken k i w none are f =
-    let is = slice_get-get_or taken f.among.0 f.told f.among.1 ∙ ap (λ t. Some t) f.among.2 in
+    let is = slice_get-get_or taken f.among.0 f.stated f.among.1 ∙ ap (λ t. Some t) f.among.2 in
     elim (cases_lt f.among.0 i) [
-      | inl less ↦ are f.among.0 f.told less is f.line f.fits
-      | inr past ↦ none f.among.0 f.told past is f.line
+      | inl less ↦ are f.among.0 f.stated less is f.line f.fits
+      | inr past ↦ none f.among.0 f.stated past is f.line
     ]
 
 -- the first of the line stands before this place, at which another line's stands
 pub past_line : (taken : List TakenView) (k first i : ℕ) (t : TakenView) → AllPairs (λ a b. a.line ≤ b.line) taken → IsFirst (IsOfLine taken k) (length taken) (Some first) → first ≤ i
     → slice_get taken i ≡ Some t → (t.line ≡ k → ⊥) → (j : ℕ) (u : TakenView) → i ≤ j → slice_get taken j ≡ Some u → u.line ≡ k → ⊥
 past_line taken k first i t rising is_first before is other j u past u_is line =
-    let told = is_first.1 in
-    let first_line : (get_or taken first t).line ≡ k = ap (λ (v : TakenView). v.line) (get_or_from_slice_get taken first told.told t told.is) ∙ told.line in
+    let stated = is_first.1 in
+    let first_line : (get_or taken first t).line ≡ k = ap (λ (v : TakenView). v.line) (get_or_from_slice_get taken first stated.stated t stated.is) ∙ stated.line in
     let i_in : i < length taken = slice_get_within taken i t is in
     let j_in : j < length taken = slice_get_within taken j u u_is in
     let here : get_or taken i t ≡ t = get_or_from_slice_get taken i t t is in
@@ -105,18 +105,18 @@ past_line taken k first i t rising is_first before is other j u past u_is line =
 
 -- what was told at a place
 module _ (taken : List Taken) (i : ℕ) (d : Taken) (within : i < length taken) where
-  pub told_at : slice_get (map taken_view taken) i ≡ Some (taken_view (get_or taken i d))
-  told_at = slice_get-map taken_view taken i ∙ ap (option_map taken_view) (slice_get-get_or taken i d within)
+  pub known_at : slice_get (map taken_view taken) i ≡ Some (taken_view (get_or taken i d))
+  known_at = slice_get-map taken_view taken i ∙ ap (option_map taken_view) (slice_get-get_or taken i d within)
 
-  pub told_among : Contains (map taken_view taken) (taken_view (get_or taken i d))
-  told_among = (i, slice_get_within (map taken_view taken) i _ told_at, get_or_from_slice_get (map taken_view taken) i (taken_view (get_or taken i d)) (taken_view (get_or taken i d)) told_at)
+  pub known_among : Contains (map taken_view taken) (taken_view (get_or taken i d))
+  known_among = (i, slice_get_within (map taken_view taken) i _ known_at, get_or_from_slice_get (map taken_view taken) i (taken_view (get_or taken i d)) (taken_view (get_or taken i d)) known_at)
 
 module _ (taken : List Taken) (k first : ℕ) (w : WordsView) (is_first : IsFirst (IsOfLine (map taken_view taken) k) (length taken) (Some first)) where
   same_length : length (map taken_view taken) ≡ length taken
   same_length = length-map taken taken_view
 
   pub fits_begin : AreUnfit (map taken_view taken) k w first
-  fits_begin = λ j t less is line fits. is_first.2 j less (record { told = t; is = is; line = line })
+  fits_begin = λ j t less is line fits. is_first.2 j less (record { stated = t; is = is; line = line })
 
   -- another line's stands there
   pub fits_past : (i : ℕ) (d : Taken) → AllPairs (λ a b. a.line ≤ b.line) (map taken_view taken) → first ≤ i → i < length taken → ((get_or taken i d).line ≡ k → ⊥) → AreUnfit (map taken_view taken) k w i
@@ -125,15 +125,15 @@ module _ (taken : List Taken) (k first : ℕ) (w : WordsView) (is_first : IsFirs
     λ is. absurd (false≢true is),
     λ f. absurd
         (none_fitting (map taken_view taken) k i w
-        (past_line (map taken_view taken) k first i (taken_view (get_or taken i d)) rising (omega (arith, is_first.0, same_length), is_first.1, is_first.2) low (told_at taken i d within) other) are f),
+        (past_line (map taken_view taken) k first i (taken_view (get_or taken i d)) rising (omega (arith, is_first.0, same_length), is_first.1, is_first.2) low (known_at taken i d within) other) are f),
   )
 
   -- one fits
   pub fits_here : (i : ℕ) (d : Taken) → i < length taken → ((get_or taken i d).line ≡ k) → Fits (taken_view (get_or taken i d)).pattern w → IsTrue true ↔ IsFitting (map taken_view taken) k w
-  fits_here i d within line fits = (λ is. record { told = taken_view (get_or taken i d); among = told_among taken i d within; line = line; fits = fits }, λ f. refl)
+  fits_here i d within line fits = (λ is. record { stated = taken_view (get_or taken i d); among = known_among taken i d within; line = line; fits = fits }, λ f. refl)
 
   pub fits_more : (i : ℕ) (d : Taken) → i < length taken → (Fits (taken_view (get_or taken i d)).pattern w → ⊥) → AreUnfit (map taken_view taken) k w i → AreUnfit (map taken_view taken) k w (i + 1)
-  fits_more i d within not are = unfit_more (map taken_view taken) k i w (taken_view (get_or taken i d)) (told_at taken i d within) not are
+  fits_more i d within not are = unfit_more (map taken_view taken) k i w (taken_view (get_or taken i d)) (known_at taken i d within) not are
 
   pub fits_none : (i : ℕ) → length taken ≤ i → AreUnfit (map taken_view taken) k w i → IsTrue false ↔ IsFitting (map taken_view taken) k w
   fits_none i past are = (
@@ -142,34 +142,34 @@ module _ (taken : List Taken) (k first : ℕ) (w : WordsView) (is_first : IsFirs
   )
 
 -- in the words of the whole recording
-pub takes_untold : (rec : RecordingView) (k s : ℕ) → IsFirst (IsOfLine rec.taken k) (length rec.taken) None → IsTrue true ↔ WouldTake rec k s
-takes_untold rec k s none = (λ is. anything (λ t among line. untold rec.taken k none t among line), λ takes. refl)
+pub takes_unknown : (rec : RecordingView) (k s : ℕ) → IsFirst (IsOfLine rec.taken k) (length rec.taken) None → IsTrue true ↔ WouldTake rec k s
+takes_unknown rec k s none = (λ is. anything (λ t among line. unknown rec.taken k none t among line), λ takes. refl)
   where
-    untold : (taken : List TakenView) (k : ℕ) → IsFirst (IsOfLine taken k) (length taken) None → (t : TakenView) → Contains taken t → t.line ≡ k → ⊥
-    untold taken k none t among line =
-        none among.0 among.1 (record { told = t; is = slice_get-get_or taken among.0 t among.1 ∙ ap (λ u. Some u) among.2; line = line })
+    unknown : (taken : List TakenView) (k : ℕ) → IsFirst (IsOfLine taken k) (length taken) None → (t : TakenView) → Contains taken t → t.line ≡ k → ⊥
+    unknown taken k none t among line =
+        none among.0 among.1 (record { stated = t; is = slice_get-get_or taken among.0 t among.1 ∙ ap (λ u. Some u) among.2; line = line })
 
-pub takes_told : (rec : RecordingView) (k s first : ℕ) (w : WordsView) (r : Bool) → IsFirst (IsOfLine rec.taken k) (length rec.taken) (Some first) → slice_get rec.words s ≡ Some w
+pub takes_known : (rec : RecordingView) (k s first : ℕ) (w : WordsView) (r : Bool) → IsFirst (IsOfLine rec.taken k) (length rec.taken) (Some first) → slice_get rec.words s ≡ Some w
     → IsTrue r ↔ IsFitting rec.taken k w → IsTrue r ↔ WouldTake rec k s
-takes_told rec k s first w r is_first is fitting = (
-  λ yes. let f = fitting.0 yes in fitting_one f.told w f.among f.line is f.fits,
+takes_known rec k s first w r is_first is fitting = (
+  λ yes. let f = fitting.0 yes in fitting_one f.stated w f.among f.line is f.fits,
   back,
 )
   where
     back : WouldTake rec k s → IsTrue r
-    back (anything untold) =
-        let told = is_first.1 in
-        absurd (untold told.told (first, slice_get_within rec.taken first told.told told.is, get_or_from_slice_get rec.taken first told.told told.told told.is) told.line)
+    back (anything unknown) =
+        let stated = is_first.1 in
+        absurd (unknown stated.stated (first, slice_get_within rec.taken first stated.stated stated.is, get_or_from_slice_get rec.taken first stated.stated stated.stated stated.is) stated.line)
     back (fitting_one t v among line v_is fits) =
-        fitting.1 (record { told = t; among = among; line = line; fits = subst (Fits t.pattern) (some_same (sym v_is ∙ is)) fits })
+        fitting.1 (record { stated = t; among = among; line = line; fits = subst (Fits t.pattern) (some_same (sym v_is ∙ is)) fits })
 
 -- the tables' entries, and the words of a line
 pub entry_placed : (taken : List TakenView) (count : ℕ) (places : List (Option ℕ)) → ArePlaced taken count places → (k : ℕ) → k < count → (entry : Option ℕ) → get_or places k None ≡ entry
     → IsFirst (IsOfLine taken k) (length taken) entry
 entry_placed taken count places placed k within entry is = subst (IsFirst (IsOfLine taken k) (length taken)) is (placed.each k within)
 
-pub first_told : (taken : List Taken) (k first : ℕ) → IsFirst (IsOfLine (map taken_view taken) k) (length (map taken_view taken)) (Some first) → IsFirst (IsOfLine (map taken_view taken) k) (length taken) (Some first)
-first_told taken k first are = let same = length-map taken taken_view in (omega (arith, are.0), are.1, are.2)
+pub first_known : (taken : List Taken) (k first : ℕ) → IsFirst (IsOfLine (map taken_view taken) k) (length (map taken_view taken)) (Some first) → IsFirst (IsOfLine (map taken_view taken) k) (length taken) (Some first)
+first_known taken k first are = let same = length-map taken taken_view in (omega (arith, are.0), are.1, are.2)
 
 pub words_at : (words : List LineWords) (s : ℕ) (d : LineWords) → s < length (map words_view words) → slice_get (map words_view words) s ≡ Some (words_view (get_or words s d))
 words_at words s d within = slice_get-map words_view words s ∙ ap (option_map words_view) (slice_get-get_or words s d (let same = length-map words words_view in omega arith))

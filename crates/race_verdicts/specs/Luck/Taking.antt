@@ -19,11 +19,11 @@ pub record Fits (p : PatternView) (w : WordsView) : Type 0 where
   pub name : FitsName p.names w.name
 
 -- nothing is told of the receive of line k
-abbrev pub IsUntold : RecordingView → ℕ → Type 0
-IsUntold rec k = (t : TakenView) → Contains rec.taken t → t.line ≡ k → ⊥
+abbrev pub IsUnknown : RecordingView → ℕ → Type 0
+IsUnknown rec k = (t : TakenView) → Contains rec.taken t → t.line ≡ k → ⊥
 
 -- the receive of line k would have taken the message that line s sends: nothing is told of it, or the message fits
 pub data WouldTake (rec : RecordingView) (k s : ℕ) : Type 0 where
-  anything : IsUntold rec k → WouldTake rec k s
+  anything : IsUnknown rec k → WouldTake rec k s
   fitting : (t : TakenView) (w : WordsView) → Contains rec.taken t → t.line ≡ k → slice_get rec.words s ≡ Some w
       → Fits t.pattern w → WouldTake rec k s

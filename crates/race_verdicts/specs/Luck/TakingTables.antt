@@ -6,9 +6,9 @@ use Rattle.race_verdicts.specs.Recordings.{TakenView, WordsView, RecordingView}
 
 -- what stands at this place is told of line k
 pub record IsOfLine (taken : List TakenView) (k i : ℕ) : Type 0 where
-  pub told : TakenView
-  pub is : slice_get taken i ≡ Some told
-  pub line : told.line ≡ k
+  pub stated : TakenView
+  pub is : slice_get taken i ≡ Some stated
+  pub line : stated.line ≡ k
 
 -- the table has for each of so many lines the first place of what is told of it
 pub record ArePlaced (taken : List TakenView) (count : ℕ) (places : List (Option ℕ)) : Type 0 where
@@ -17,10 +17,10 @@ pub record ArePlaced (taken : List TakenView) (count : ℕ) (places : List (Opti
 
 -- a message of these words fits what is told of line k
 pub record IsFitting (taken : List TakenView) (k : ℕ) (w : WordsView) : Type 0 where
-  pub told : TakenView
-  pub among : Contains taken told
-  pub line : told.line ≡ k
-  pub fits : Fits told.pattern w
+  pub stated : TakenView
+  pub among : Contains taken stated
+  pub line : stated.line ≡ k
+  pub fits : Fits stated.pattern w
 
 -- the table is of this recording, whose receives' patterns stand in the order of their lines
 pub record IsTaking (rec : RecordingView) (places : List (Option ℕ)) : Type 0 where

@@ -1,5 +1,5 @@
 -- What is before what in the whole log, with the messages that its chart leaves out (after the order of Lamport 1978; which
--- pairs of one host are in order is this project's profile). It may have circles.
+-- pairs of one host are in order is this project's profile). It may have cycles.
 use Rattle.std.specs.Prelude.{◌≡◌, ℕ, ◌<◌, true, false, List, Some, Contains}
 use Rattle.log_chart.specs.Entries.{is_send}
 use Rattle.log_chart.specs.declared.matching.LogLine.{LogLine}

@@ -112,7 +112,8 @@ impl<'a> Judge<'a> {
         Verdict::Luck
     }
 
-    /// What is said of a receive and an earlier event of its line. It takes no memory, and nearly the same time for each.
+    /// What is said of a receive and an earlier event of its line. It takes no memory, and nearly the same time for
+    /// each.
     pub fn verdict(&self, receive: EventNo, earlier: EventNo) -> Verdict
         requires receive { (q : ℕ) × IsReceiveFrom (chart_lines self.now.lines) q (place_of receive) }
         requires earlier { IsEvent (chart_lines self.now.lines) (place_of earlier) }

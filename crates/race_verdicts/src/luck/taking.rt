@@ -39,11 +39,11 @@ fn any_fits(taken: &[Taken<'_>], first: usize, line: usize, words: &LineWords<'_
     ensures { IsTrue result ↔ IsFitting (map taken_view taken.now) line (words_view words.now) }
 {
     for place in first..taken.len() {
-        let told = &taken[place];
-        if told.line != line {
+        let stated = &taken[place];
+        if stated.line != line {
             return false;
         }
-        if fits(&told.pattern, words) {
+        if fits(&stated.pattern, words) {
             return true;
         }
     }
@@ -55,8 +55,8 @@ fn places_of(alloc: Global, count: usize, taken: &[Taken<'_>]) -> Result<Table, 
     ensures { IfOk result (ArePlaced (map taken_view taken.now) count) }
 {
     let mut places = Table::none(alloc, count)?;
-    for (place, told) in taken.iter().enumerate() {
-        places.note(told.line, place);
+    for (place, stated) in taken.iter().enumerate() {
+        places.note(stated.line, place);
     }
     Ok(places)
 }

@@ -7,23 +7,23 @@ use Rattle.chart.specs.declared.instance.EventNo.{EventNo}
 use Rattle.chart.specs.Charts.{LineView, chart_lines}
 use Rattle.chart.specs.Reports.{ReportView, AreReports}
 use Rattle.race_verdicts.specs.declared.verdict.Verdict.{Verdict}
-use Rattle.races_text.specs.Named.Telling.{Manner, is_asked}
+use Rattle.races_text.specs.Named.Listing.{Manner, is_asked}
 use Rattle.races_text.specs.Named.Kept.{is_kept, is_later, later_than, kept_events}
 use Rattle.races_text.specs.declared.judged.part.Part.{Part}
 use Rattle.races_text.specs.Judged.Parts.{Judges}
-use Rattle.races_text.specs.Judged.Telling.{PartedReport, IsParted, HasBegun, HasParted, AreParted, HaveParted, ArePartedTo, IsRaceIn, told_events}
-use Rattle.races_text.specs.Judged.Telling.AreParted.{none, more}
-use Rattle.races_text.specs.Judged.Telling.HaveParted.{none as none_begun, last as last_begun, more as more_begun}
+use Rattle.races_text.specs.Judged.Listing.{PartedReport, IsParted, HasBegun, HasParted, AreParted, HaveParted, ArePartedTo, IsRaceIn, selected_events}
+use Rattle.races_text.specs.Judged.Listing.AreParted.{none, more}
+use Rattle.races_text.specs.Judged.Listing.HaveParted.{none as none_begun, last as last_begun, more as more_begun}
 
 -- the events that are told are among the earlier ones
-told_if : (P : EventNo → Type 0) (b : Bool) (events : List Event) (only : Bool) (earlier : List EventNo) → All P earlier → All P (cond b (kept_events events only earlier) [])
-told_if P true events only earlier all = All-filter (is_kept events only) P earlier all
-told_if P false events only earlier all = All-nil P
+selected_if : (P : EventNo → Type 0) (b : Bool) (events : List Event) (only : Bool) (earlier : List EventNo) → All P earlier → All P (cond b (kept_events events only earlier) [])
+selected_if P true events only earlier all = All-filter (is_kept events only) P earlier all
+selected_if P false events only earlier all = All-nil P
 
-pub all_told : (P : EventNo → Type 0) (manner : Manner) (lines : List LineView) (receive : EventNo) (passed : ℕ) (earlier : List EventNo) → All P earlier
-    → All P (told_events manner lines (record { receive = receive; earlier = later_than passed earlier }))
-all_told P manner lines receive passed earlier all =
-    told_if P (is_asked manner (record { receive = receive; earlier = later_than passed earlier })) (chart_lines lines receive.instance) manner.receives (later_than passed earlier)
+pub all_selected : (P : EventNo → Type 0) (manner : Manner) (lines : List LineView) (receive : EventNo) (passed : ℕ) (earlier : List EventNo) → All P earlier
+    → All P (selected_events manner lines (record { receive = receive; earlier = later_than passed earlier }))
+all_selected P manner lines receive passed earlier all =
+    selected_if P (is_asked manner (record { receive = receive; earlier = later_than passed earlier })) (chart_lines lines receive.instance) manner.receives (later_than passed earlier)
     (All-filter (is_later passed) P earlier all)
 
 -- the earlier events of a report are races
@@ -35,7 +35,7 @@ are_races race lines each reports are report its =
 
 module _ (is : EventNo → EventNo → Verdict → Type 0) (manner : Manner) (lines : List LineView) where
   -- a receive's ranges are those of its report
-  pub parted_so : {T E : Type 0} (report : ReportView) (r : Result T E) (parts : List Part) → Judges (is report.receive) (told_events manner lines report) r parts
+  pub parted_so : {T E : Type 0} (report : ReportView) (r : Result T E) (parts : List Part) → Judges (is report.receive) (selected_events manner lines report) r parts
       → HasParted is manner lines report r (record { receive = report.receive; parts = parts })
   parted_so report (Ok x) parts are = record { receive = refl; are = are }
   parted_so report (Err e) parts are = record { receive = refl; begun = are }

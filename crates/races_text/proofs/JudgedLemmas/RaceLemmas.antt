@@ -14,7 +14,7 @@ use Rattle.chart.specs.declared.event.Event.TheVariants.{Send, Receive}
 use Rattle.chart.specs.declared.instance.EventNo.{EventNo}
 use Rattle.chart.proofs.Tally.{ith_within}
 use Rattle.closure.specs.Faults.{place_of}
-use Rattle.races_text.specs.Judged.Telling.{IsRaceIn}
+use Rattle.races_text.specs.Judged.Listing.{IsRaceIn}
 
 all_unmap : {X Y : Type 0} (f : X → Y) (P : Y → Type 0) (xs : List X) → All P (map f xs) → All (λ x. P (f x)) xs
 all_unmap f P [] all = All-nil (λ x. P (f x))

@@ -11,10 +11,10 @@ use Rattle.texts.specs.Outs.{Sink}
 use Rattle.texts.specs.Writing.{Buffers, Stops, Adds}
 use Rattle.texts.specs.declared.text_buffer.TextBuffer.{TextBuffer}
 use Rattle.texts.proofs.Writes.{adds_then}
-use Rattle.races_text.specs.declared.named.telling.Form.{Form}
+use Rattle.races_text.specs.declared.named.listing.Form.{Form}
 use Rattle.races_text.specs.declared.judged.part.Part.{Part}
 use Rattle.races_text.specs.Judged.Parts.{is_shown, shown_parts, has_parts}
-use Rattle.races_text.specs.Judged.Telling.{first_text, later_text, begun_text, added_text}
+use Rattle.races_text.specs.Judged.Listing.{first_text, later_text, begun_text, added_text}
 
 -- the exit of a `?` at the last part
 pub adds_failed : {S T E : Type 0} {sink : S → Sink} {a b : TextBuffer S} {text : List ℕ} (r : Result T E) → is_err r ≡ true → Stops sink a b text → Adds sink a b r text
@@ -22,8 +22,8 @@ adds_failed (Ok x) failed stops = cc
 adds_failed (Err e) failed stops = stops
 
 -- what is told where there is a value, by another word for it
-pub told_as : {E : Type 0} {a b : Bool} (r : Result Bool E) → a ≡ b → IfOk r (λ has. has ≡ a) → IfOk r (λ has. has ≡ b)
-told_as r same told = subst (λ x. IfOk r (λ has. has ≡ x)) same told
+pub selected_as : {E : Type 0} {a b : Bool} (r : Result Bool E) → a ≡ b → IfOk r (λ has. has ≡ a) → IfOk r (λ has. has ≡ b)
+selected_as r same query = subst (λ x. IfOk r (λ has. has ≡ x)) same query
 
 -- those that are shown, of some and one more
 abbrev shown_if : Bool → Part → List Part

@@ -10,13 +10,13 @@ use Rattle.chart.specs.declared.ranges.EventRange.{EventRange}
 use Rattle.texts.specs.Outs.{Sink}
 use Rattle.texts.specs.Writing.{Buffers, Breaks, Stops, Adds, Wrote}
 use Rattle.texts.specs.declared.text_buffer.TextBuffer.{TextBuffer}
-use Rattle.races_text.specs.Named.Telling.{has_ranges}
+use Rattle.races_text.specs.Named.Listing.{has_ranges}
 use Rattle.texts.proofs.Writes.{buffers_then, stops_then, adds_early, wrote_then}
 
 -- what holds where there is a value holds of an error
-pub not_told : {T E : Type 0} (P : T → Type 0) (r : Result T E) → is_err r ≡ true → IfOk r P
-not_told P (Ok x) failed = cc
-not_told P (Err e) failed = tt
+pub vacuous : {T E : Type 0} (P : T → Type 0) (r : Result T E) → is_err r ≡ true → IfOk r P
+vacuous P (Ok x) failed = cc
+vacuous P (Err e) failed = tt
 
 or_once : (a b : Bool) → (a || (b || false)) ≡ (a || b)
 or_once true b = refl

@@ -13,8 +13,8 @@ use Rattle.reordering.proofs.CompletionLemmas.LeftRaces.{left_of}
 use Rattle.reordering.proofs.CompletionLemmas.OrderLemmas.{number_of}
 use Rattle.reordering.proofs.CompletionLemmas.Possible.{IsSound, is_sound}
 use Rattle.races_text.specs.Named.Kept.{is_kept, is_later, later_than, is_kept_after, kept_events, kept_ranges, kept_after}
-use Rattle.races_text.specs.Named.Telling.{AreTold, IsToldOf, AreToldOf, without_first}
-use Rattle.races_text.specs.Named.Telling.AreToldOf.{none, more}
+use Rattle.races_text.specs.Named.Listing.{AreSelected, IsSelectedOf, AreSelectedOf, without_first}
+use Rattle.races_text.specs.Named.Listing.AreSelectedOf.{none, more}
 
 -- two filters, one after the other
 filter_both : (a b : EventNo → Bool) (xs : List EventNo) → filter (λ e. cond (a e) (b e) false) xs ≡ filter b (filter a xs)
@@ -53,55 +53,55 @@ all_later (x ∷ xs) begun =
 -- Of a chart's reports.
 
 module _ (c : Chart) where
-  same_told : (report told : ReportView) → IsReportIn c report → IsToldOf false c report told → told ≡ report
-  same_told report told is (passed, nothing, same) =
+  same_selected : (report selected : ReportView) → IsReportIn c report → IsSelectedOf false c report selected → selected ≡ report
+  same_selected report selected is (passed, nothing, same) =
       let begun = λ (j : ℕ) (here : Contains (map (λ (e : EventNo). e.index) report.earlier) j). let m = ((is.exact.exact j).0 here).1 in (ith_within (c report.receive.instance) j m.0 m.1).0 in
       same ∙ ap (λ (k : ℕ). without_first k report) nothing ∙ ap (λ (es : List EventNo). record { receive = report.receive; earlier = es }) (all_later report.earlier begun)
 
-  all_told : {reports told : List ReportView} → AreToldOf false c reports told → All (IsReportIn c) reports → told ≡ reports
-  all_told none each = refl
-  all_told (more {report = r} {told = t} {reports = rs} {others = ts} is rest) each =
-      ap₂ (λ x xs. x ∷ xs) (same_told r t (All-head (IsReportIn c) r rs each) is) (all_told rest (All-tail (IsReportIn c) r rs each))
+  all_selected : {reports selected : List ReportView} → AreSelectedOf false c reports selected → All (IsReportIn c) reports → selected ≡ reports
+  all_selected none each = refl
+  all_selected (more {report = r} {selected = t} {reports = rs} {others = ts} is rest) each =
+      ap₂ (λ x xs. x ∷ xs) (same_selected r t (All-head (IsReportIn c) r rs each) is) (all_selected rest (All-tail (IsReportIn c) r rs each))
 
   module _ (sound : IsSound c) where
-    left_told : (report told : ReportView) → IsReportIn c report → IsToldOf true c report told → IsCompletedReportIn c told
-    left_told report told is (passed, up_to, same) =
+    left_selected : (report selected : ReportView) → IsReportIn c report → IsSelectedOf true c report selected → IsCompletedReportIn c selected
+    left_selected report selected is (passed, up_to, same) =
         let place = at report.receive.instance report.receive.index in
         subst (IsCompletedReportIn c) (sym same) (record {
           exact = subst (λ xs. IsCompletedReport c place xs) (sym (map_later passed report.earlier)) (left_of c sound report.receive.instance report.receive.index passed (map (λ (e : EventNo). e.index) report.earlier) is.exact up_to);
           line = All-filter (is_later passed) (λ (race : EventNo). race.instance ≡ report.receive.instance) report.earlier is.line;
         })
 
-    all_left : {reports told : List ReportView} → AreToldOf true c reports told → All (IsReportIn c) reports → All (IsCompletedReportIn c) told
+    all_left : {reports selected : List ReportView} → AreSelectedOf true c reports selected → All (IsReportIn c) reports → All (IsCompletedReportIn c) selected
     all_left none each = All-nil (IsCompletedReportIn c)
-    all_left (more {report = r} {told = t} {reports = rs} {others = ts} is rest) each =
-        All-cons (IsCompletedReportIn c) t ts (left_told r t (All-head (IsReportIn c) r rs each) is) (all_left rest (All-tail (IsReportIn c) r rs each))
+    all_left (more {report = r} {selected = t} {reports = rs} {others = ts} is rest) each =
+        All-cons (IsCompletedReportIn c) t ts (left_selected r t (All-head (IsReportIn c) r rs each) is) (all_left rest (All-tail (IsReportIn c) r rs each))
 
-    same_receives : {reports told : List ReportView} → AreToldOf true c reports told → map (λ (r : ReportView). r.receive) told ≡ map (λ (r : ReportView). r.receive) reports
+    same_receives : {reports selected : List ReportView} → AreSelectedOf true c reports selected → map (λ (r : ReportView). r.receive) selected ≡ map (λ (r : ReportView). r.receive) reports
     same_receives none = refl
     same_receives (more is rest) = ap₂ (λ x xs. x ∷ xs) (ap (λ (r : ReportView). r.receive) is.2) (same_receives rest)
 
     -- there is something to tell of each report
-    pub told_exist : (completed : Bool) (reports : List ReportView) → (told : List ReportView) × AreToldOf completed c reports told
-    told_exist completed [] = ([], none)
-    told_exist false (r ∷ reports) = let w = told_exist false reports in (without_first 0 r ∷ w.0, more (0, refl, refl) w.1)
-    told_exist true (r ∷ reports) =
-        let w = told_exist true reports in
+    pub selected_exist : (completed : Bool) (reports : List ReportView) → (selected : List ReportView) × AreSelectedOf completed c reports selected
+    selected_exist completed [] = ([], none)
+    selected_exist false (r ∷ reports) = let w = selected_exist false reports in (without_first 0 r ∷ w.0, more (0, refl, refl) w.1)
+    selected_exist true (r ∷ reports) =
+        let w = selected_exist true reports in
         let k = number_of c sound (at r.receive.instance r.receive.index) in
         (without_first k.0 r ∷ w.0, more (k.0, k.1, refl) w.1)
 
   -- what is told of some and of others
-  pub told_append : {completed : Bool} {xs ts ys us : List ReportView} → AreToldOf completed c xs ts → AreToldOf completed c ys us → AreToldOf completed c (xs ++ ys) (ts ++ us)
-  told_append none others = others
-  told_append (more is rest) others = more is (told_append rest others)
+  pub selected_append : {completed : Bool} {xs ts ys us : List ReportView} → AreSelectedOf completed c xs ts → AreSelectedOf completed c ys us → AreSelectedOf completed c (xs ++ ys) (ts ++ us)
+  selected_append none others = others
+  selected_append (more is rest) others = more is (selected_append rest others)
 
-  pub told_push : {completed : Bool} {xs ts : List ReportView} (x t : ReportView) → AreToldOf completed c xs ts → IsToldOf completed c x t → AreToldOf completed c (xs ++ x ∷ []) (ts ++ t ∷ [])
-  told_push x t are is = told_append are (more is none)
+  pub selected_push : {completed : Bool} {xs ts : List ReportView} (x t : ReportView) → AreSelectedOf completed c xs ts → IsSelectedOf completed c x t → AreSelectedOf completed c (xs ++ x ∷ []) (ts ++ t ∷ [])
+  selected_push x t are is = selected_append are (more is none)
 
 -- what is told of all is what is to be told
-pub told_are : (completed : Bool) (n : ℕ) (lines : List LineView) (reports told : List ReportView) → IsPossible n (chart_lines lines) → AreReports lines reports → AreToldOf completed (chart_lines lines) reports told → AreTold completed lines told
-told_are false n lines reports told possible reported are = subst (AreReports lines) (sym (all_told (chart_lines lines) are reported.are.each)) reported
-told_are true n lines reports told possible reported are =
+pub selected_are : (completed : Bool) (n : ℕ) (lines : List LineView) (reports selected : List ReportView) → IsPossible n (chart_lines lines) → AreReports lines reports → AreSelectedOf completed (chart_lines lines) reports selected → AreSelected completed lines selected
+selected_are false n lines reports selected possible reported are = subst (AreReports lines) (sym (all_selected (chart_lines lines) are reported.are.each)) reported
+selected_are true n lines reports selected possible reported are =
     let sound = is_sound n (chart_lines lines) possible in
     record { receives = same_receives (chart_lines lines) sound are ∙ reported.are.receives; each = all_left (chart_lines lines) sound are reported.are.each }
 

@@ -19,8 +19,8 @@ fn add_why<W: Out>(text: &mut TextBuffer<'_, W>, verdict: &Verdict) -> Result<()
     text.add_all(&[b"; ", word_of(verdict), b"\n"])
 }
 
-/// Adds a line for a range of a receive's races, `INSTANCE: RECEIVE may come before RANGE; WORD`, of the line with these
-/// events.
+/// Adds a line for a range of a receive's races, `INSTANCE: RECEIVE may come before RANGE; WORD`, of the line with
+/// these events.
 #[tactic(auto, using(texts::proofs::Writes::joining), unfolding(crate::specs::Judged::PlainText::line_text))]
 pub(crate) fn add_line<W: Out>(
     text: &mut TextBuffer<'_, W>,

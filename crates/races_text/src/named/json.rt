@@ -7,7 +7,7 @@ ghost use Rattle.texts.specs.Writing.{Adds};
 ghost use Rattle.msc_text.specs.ChartText.{message_at};
 ghost use Rattle.races_text.specs.Named.JsonText.{partner_at, number_text, message_and_sender, range_front, comma_before};
 ghost use Rattle.races_text.specs.Named.JsonText.{message_text, range_text, next_text, object_text};
-ghost use Rattle.races_text.specs.Named.Telling.{has_ranges};
+ghost use Rattle.races_text.specs.Named.Listing.{has_ranges};
 ghost use Rattle.races_text.specs.Named.Words.{word_text};
 
 use crate::named::kept::{KeptRanges, event_at};

@@ -5,7 +5,7 @@ ghost use Rattle.chart.specs.Ranges.{IsRange};
 ghost use Rattle.texts.specs.Writing.{Adds};
 ghost use Rattle.races_text.specs.Named.PlainText.{last_of, numbers_text, between, several_text, range_text, line_text};
 ghost use Rattle.races_text.specs.Named.PlainText.{lines_text};
-ghost use Rattle.races_text.specs.Named.Telling.{has_ranges};
+ghost use Rattle.races_text.specs.Named.Listing.{has_ranges};
 
 use crate::named::kept::{KeptRanges, event_at};
 use crate::named::words::{Word, add_event_at, add_message_at, add_name, add_word};
@@ -85,8 +85,8 @@ pub fn add_range<W: Out>(
     }
 }
 
-/// Adds a line for a range of a receive's races, `INSTANCE: RECEIVE may come before RANGE`, of the line with these events.
-/// F24: a put failed.
+/// Adds a line for a range of a receive's races, `INSTANCE: RECEIVE may come before RANGE`, of the line with these
+/// events. F24: a put failed.
 #[tactic(auto, using(texts::proofs::Writes::joining), unfolding(crate::specs::Named::PlainText::line_text))]
 pub fn add_line<W: Out>(
     text: &mut TextBuffer<'_, W>,

@@ -134,7 +134,8 @@ fn add_event<W: Out>(
     }
 }
 
-/// Adds `MESSAGE (INDEX, from NAME)` or `MESSAGE (INDEX, to NAME)`, or nothing where there is no event. F24: a put failed.
+/// Adds `MESSAGE (INDEX, from NAME)` or `MESSAGE (INDEX, to NAME)`, or nothing where there is no event. F24: a put
+/// failed.
 pub fn add_event_at<W: Out>(
     text: &mut TextBuffer<'_, W>,
     names: &Names,

@@ -129,7 +129,7 @@ module _ (c : Chart) (sound : IsSound c) where
         | inr le ↦
             elim (cases_eq d t) [
               | inl same ↦ absurd (never_both (c p) t (subst (λ x. IsReceiveAt (c p) x) same handled.received) sends)
-              | inr differs ↦ absurd (sound.no_circle (at p t, before_from_above c to_t.0 (at p t) (at p t) (at p d) to_t.1 (record { line = refl; begun = begun; less = omega arith }) (inr before)))
+              | inr differs ↦ absurd (sound.no_cycle (at p t, before_from_above c to_t.0 (at p t) (at p t) (at p d) to_t.1 (record { line = refl; begun = begun; less = omega arith }) (inr before)))
             ]
       ]
 
@@ -178,7 +178,7 @@ module _ (c : Chart) (sound : IsSound c) where
               | inr le ↦ omega arith
               | inl above ↦
                   let sends = finished_sends finished in
-                  absurd (sound.no_circle (s, before_from_above c sends.0 s s (at p j) sends.1 (record { line = finished.earlier.line; begun = finished.earlier.begun; less = above }) up))
+                  absurd (sound.no_cycle (s, before_from_above c sends.0 s s (at p j) sends.1 (record { line = finished.earlier.line; begun = finished.earlier.begun; less = above }) up))
             ]
 
         left : Ends c (at p j) (at p i) → Before c (at p j) (at p i) ⊎ (j ≤ k)
@@ -240,12 +240,12 @@ module _ (c : Chart) (sound : IsSound c) where
   ]
 
   -- nothing is before itself
-  pub no_circle : (e : Place) → Completed c e e → ⊥
-  no_circle e is = go (to_ends is)
+  pub no_cycle : (e : Place) → Completed c e e → ⊥
+  no_cycle e is = go (to_ends is)
     where
       go : Ends c e e → ⊥
-      go (inl before) = sound.no_circle (e, before)
-      go (inr (s, finished, up)) = let sends = finished_sends finished in sound.no_circle (s, before_from_above c sends.0 s s e sends.1 finished.earlier up)
+      go (inl before) = sound.no_cycle (e, before)
+      go (inr (s, finished, up)) = let sends = finished_sends finished in sound.no_cycle (s, before_from_above c sends.0 s s e sends.1 finished.earlier up)
 
 pub same_number : (c : Chart) (r : Place) (k l : ℕ) → IsFinishedUpTo c r k → IsFinishedUpTo c r l → l ≡ k
 same_number c r k l a b = let x = no_less k l a b in let y = no_less l k b a in omega arith

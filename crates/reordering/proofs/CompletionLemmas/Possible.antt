@@ -15,9 +15,9 @@ use Rattle.chart.proofs.Cycles.{acyclic}
 use Rattle.chart.proofs.Sends.{sends_of}
 use Rattle.chart.proofs.Existence.{known_exists}
 
--- its order has no circle, its coregions are in order, and each receive has a send, which knows a number of its line
+-- its order has no cycle, its coregions are in order, and each receive has a send, which knows a number of its line
 pub record IsSound (c : Chart) : Type 0 where
-  pub no_circle : IsCyclic c → ⊥
+  pub no_cycle : IsCyclic c → ⊥
   pub regions : (p : ℕ) → HasRegionsInOrder (c p)
   pub knows : (q : ℕ) (r : Place) → IsReceiveFrom c q r → (s : Place) × BelongsTo c s r × ((k : ℕ) × IsKnown c s r.instance k)
 
@@ -38,7 +38,7 @@ regions_of n k (Close a b ∷ h) legal p = subst HasRegionsInOrder (sym (append-
 
 pub is_sound : (n : ℕ) (c : Chart) → IsPossible n c → IsSound c
 is_sound n c (h, k, legal, same) = subst IsSound (fun_ext same) (record {
-  no_circle = acyclic n k h legal;
+  no_cycle = acyclic n k h legal;
   regions = regions_of n k h legal;
   knows = λ q r from.
       let s = sends_of n k h legal q r from in

@@ -122,8 +122,8 @@ witness_within n k c (h, legal, same) q r =
     (λ from. let s = sends_of n k h legal q r from in first_within n k h legal s.0 r s.1)
 
 -- an event isn't before the receive just where the receive can overtake it
-pub turned_within : (n k : ℕ) (c : Chart) → IsPossibleWithin n k c → (q : ℕ) (r : Place) → IsReceiveFrom c q r → (e : Place) → IsEvent c e → e ≢ r → (BeforeWithin k c e r → ⊥) ↔ CanBeOvertakenWithin n k c e r
-turned_within n k c possible q r from e here differs = (
+pub reordered_within : (n k : ℕ) (c : Chart) → IsPossibleWithin n k c → (q : ℕ) (r : Place) → IsReceiveFrom c q r → (e : Place) → IsEvent c e → e ≢ r → (BeforeWithin k c e r → ⊥) ↔ CanBeOvertakenWithin n k c e r
+reordered_within n k c possible q r from e here differs = (
   λ apart.
       let w = witness_within n k c possible q r from in
       let moment = w.2 in

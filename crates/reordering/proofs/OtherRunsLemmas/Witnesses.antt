@@ -161,8 +161,8 @@ module _ (n : ℕ) (c : Chart) (possible : IsPossible n c) (q : ℕ) (r : Place)
   overtaken g (h, begins, exactly) e differs apart = (h, begins, (exactly r).1 (inl refl), λ come. ⊎_elim (λ same. differs same) (λ before. apart before) ((exactly e).0 come))
 
   -- an event isn't before r just where r can overtake it
-  pub turned : (e : Place) → IsEvent c e → e ≢ r → (Before c e r → ⊥) ↔ CanBeOvertaken n c e r
-  turned e here differs = (
+  pub reordered : (e : Place) → IsEvent c e → e ≢ r → (Before c e r → ⊥) ↔ CanBeOvertaken n c e r
+  reordered e here differs = (
     λ apart. let w = witness n c possible q r from in (w.0, w.1, overtaken w.0 w.2 e differs apart),
     λ can before. can.2.3 (order_kept can.0 can.2.0 can.1.1.causes can.2.1 before can.2.2),
   )
@@ -190,7 +190,7 @@ module _ (n : ℕ) (c : Chart) (possible : IsPossible n c) (q : ℕ) (r : Place)
   )
     where
       turns : (j : ℕ) → j < r.index → IsEvent c (at r.instance j) → (Before c (at r.instance j) r → ⊥) ↔ CanBeOvertaken n c (at r.instance j) r
-      turns j less here = turned (at r.instance j) here (earlier_differs j less)
+      turns j less here = reordered (at r.instance j) here (earlier_differs j less)
 
   -- in one run r overtakes all that its report lists
   pub one_run : (report : List ℕ) → IsReport c r report → (g : List Occurrence) × IsRunOf n c g × All (λ j. IsOvertaken c g (at r.instance j) r) report

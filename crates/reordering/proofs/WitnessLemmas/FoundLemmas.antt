@@ -19,9 +19,9 @@ use Rattle.reordering.proofs.OtherRunsLemmas.Sound.{wanted_first, sound}
 use Rattle.reordering.proofs.OtherRunsLemmas.Slots.{is_run, comes_first_there, wants_up}
 use Rattle.chart.specs.declared.run_steps.step.Step.{Step}
 use Rattle.chart.specs.declared.run_steps.step.Step.TheVariants.{Send, Receive}
-use Rattle.reordering.specs.declared.witness.turned.Turned.{Turned}
+use Rattle.reordering.specs.declared.witness.numbered.NumberedStep.{NumberedStep}
 use Rattle.reordering.specs.Witness.Orders.{picked, IsInOrder}
-use Rattle.reordering.specs.Witness.Steps.{AreTurned, is_within, with_step, nothing, comes}
+use Rattle.reordering.specs.Witness.Steps.{AreNumbered, is_within, with_step, nothing, comes}
 use Rattle.chart.specs.RunSteps.Steps.{occurrence_of, after, history_of, turn_of, place_after}
 use Rattle.reordering.proofs.WitnessLemmas.PickLemmas.{comes-is}
 use Rattle.chart.proofs.RunStepsLemmas.StepLemmas.{after-append, history-next}
@@ -119,9 +119,9 @@ module _ (n k : ℕ) (steps : List Step) (legal : IsLegal n k (history_of steps)
         )
 
 -- the step that a table has at a number, and its turn
-pub turned-at : (steps : List Step) (turned : List Turned) (i : ℕ) (t : Turned) (x : Step) → AreTurned steps (length steps) turned → t ≡ slice_index_or turned i t → slice_get steps i ≡ Some x → (t.step ≡ x) × (t.turn ≡ turn_of (history_of (take i steps)) x)
-turned-at steps turned i t x are read is =
-    let its = are.each i t (slice_get_read turned (length turned) i t refl (omega (arith, are.whole, slice_get_within steps i x is)) read) in
+pub numbered-at : (steps : List Step) (numbered : List NumberedStep) (i : ℕ) (t : NumberedStep) (x : Step) → AreNumbered steps (length steps) numbered → t ≡ slice_index_or numbered i t → slice_get steps i ≡ Some x → (t.step ≡ x) × (t.turn ≡ turn_of (history_of (take i steps)) x)
+numbered-at steps numbered i t x are read is =
+    let its = are.each i t (slice_get_read numbered (length numbered) i t refl (omega (arith, are.whole, slice_get_within steps i x is)) read) in
     let same = same_Some t.step x (sym its.0 ∙ is) in
     (same, its.1 ∙ ap (turn_of (history_of (take i steps))) same)
 
@@ -139,10 +139,10 @@ in_order n k steps legal i a b c is w wants run made = record {
   first = comes w steps;
   right = λ j x at_j.
       let here = comes-is w steps j x (turn_of (history_of (take j steps)) x) at_j refl (is_within w x (turn_of (history_of (take j steps)) x)) refl in
-      let told : comes w steps j ≡ is_within (wanted k (history_of steps) (with_step k nothing (Receive a b c) (turn_of (history_of (take i steps)) (Receive a b c)))) x (turn_of (history_of (take j steps)) x) =
+      let is_receive : comes w steps j ≡ is_within (wanted k (history_of steps) (with_step k nothing (Receive a b c) (turn_of (history_of (take i steps)) (Receive a b c)))) x (turn_of (history_of (take j steps)) x) =
       here ∙ ap (λ v. is_within v x (turn_of (history_of (take j steps)) x)) wants in (
-        λ its. found_none n k steps legal i a b c is j x at_j (sym told ∙ its),
-        λ up. told ∙ wanted_up n k steps legal i a b c is j x at_j up,
+        λ its. found_none n k steps legal i a b c is j x at_j (sym is_receive ∙ its),
+        λ up. is_receive ∙ wanted_up n k steps legal i a b c is j x at_j up,
       );
   order = made;
 }

@@ -11,8 +11,8 @@ use Rattle.chart.specs.Histories.{is_lane, sent, received}
 use Rattle.reordering.specs.OtherRuns.Walks.{sends_in, raise}
 use Rattle.chart.specs.declared.run_steps.step.Step.{Step}
 use Rattle.chart.specs.declared.run_steps.step.Step.TheVariants.{Send, Receive}
-use Rattle.reordering.specs.declared.witness.turned.Turned.{Turned}
-use Rattle.reordering.specs.Witness.Steps.{AreTurned}
+use Rattle.reordering.specs.declared.witness.numbered.NumberedStep.{NumberedStep}
+use Rattle.reordering.specs.Witness.Steps.{AreNumbered}
 use Rattle.chart.specs.RunSteps.Steps.{history_of, turn_of}
 use Rattle.chart.proofs.Places.{each-push}
 
@@ -39,12 +39,12 @@ receives-raised h a b c q p = go (is_lane b a q p) refl
     go false lane = refl
 
 -- no step has a turn at first
-pub turned-none : (steps : List Step) → AreTurned steps 0 []
-turned-none steps = record { whole = refl; each = λ i t is. absurd (omega (arith, slice_get_within [] i t is)) }
+pub numbered-none : (steps : List Step) → AreNumbered steps 0 []
+numbered-none steps = record { whole = refl; each = λ i t is. absurd (omega (arith, slice_get_within [] i t is)) }
 
 -- one step more, with its turn
-pub turned-push : (steps : List Step) (many : ℕ) (turned : List Turned) (t : Turned) → AreTurned steps many turned → slice_get steps many ≡ Some t.step → t.turn ≡ turn_of (history_of (take many steps)) t.step → AreTurned steps (many + 1) (turned ++ t ∷ [])
-turned-push steps many turned t are is turn = record {
-  whole = length_push turned t ∙ ap (λ x. x + 1) are.whole;
-  each = each-push (λ i (x : Turned). (slice_get steps i ≡ Some x.step) × (x.turn ≡ turn_of (history_of (take i steps)) x.step)) turned t are.each (subst (λ i. (slice_get steps i ≡ Some t.step) × (t.turn ≡ turn_of (history_of (take i steps)) t.step)) (sym are.whole) (is, turn));
+pub numbered-push : (steps : List Step) (many : ℕ) (numbered : List NumberedStep) (t : NumberedStep) → AreNumbered steps many numbered → slice_get steps many ≡ Some t.step → t.turn ≡ turn_of (history_of (take many steps)) t.step → AreNumbered steps (many + 1) (numbered ++ t ∷ [])
+numbered-push steps many numbered t are is turn = record {
+  whole = length_push numbered t ∙ ap (λ x. x + 1) are.whole;
+  each = each-push (λ i (x : NumberedStep). (slice_get steps i ≡ Some x.step) × (x.turn ≡ turn_of (history_of (take i steps)) x.step)) numbered t are.each (subst (λ i. (slice_get steps i ≡ Some t.step) × (t.turn ≡ turn_of (history_of (take i steps)) t.step)) (sym are.whole) (is, turn));
 }

@@ -33,8 +33,8 @@ OneNumberLaw = (n : ℕ) (c : Chart) → IsPossible n c → (r : Place)
     → (k : ℕ) × IsFinishedUpTo c r k × ((l : ℕ) → IsFinishedUpTo c r l → l ≡ k)
 
 -- nothing is before itself
-abbrev pub NoCircleLaw : Type 0
-NoCircleLaw = (n : ℕ) (c : Chart) → IsPossible n c → (e : Place) → Completed c e e → ⊥
+abbrev pub NoCycleLaw : Type 0
+NoCycleLaw = (n : ℕ) (c : Chart) → IsPossible n c → (e : Place) → Completed c e e → ⊥
 
 -- the races that are left are among the others
 abbrev pub OthersLaw : Type 0

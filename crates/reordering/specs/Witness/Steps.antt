@@ -7,15 +7,15 @@ use Rattle.chart.specs.Charts.{Place}
 use Rattle.chart.specs.declared.run_steps.step.Step.{Step}
 use Rattle.chart.specs.declared.run_steps.step.Step.TheVariants.{Send, Receive}
 use Rattle.chart.specs.RunSteps.Steps.{history_of, maker_of, turn_of}
-use Rattle.reordering.specs.declared.witness.turned.Turned.{Turned}
+use Rattle.reordering.specs.declared.witness.numbered.NumberedStep.{NumberedStep}
 use Rattle.reordering.specs.Witness.Tables.{AreCounts, AreFlags}
 use Rattle.reordering.specs.OtherRuns.Walks.{Wanted, raise}
 use Rattle.reordering.specs.OtherRuns.OtherRuns.{IsRunWithin, IsOvertaken, BeforeWithin}
 
 -- each of the first steps has its turn
-pub record AreTurned (steps : List Step) (many : ℕ) (turned : List Turned) : Type 0 where
-  pub whole : length turned ≡ many
-  pub each : (i : ℕ) (t : Turned) → slice_get turned i ≡ Some t
+pub record AreNumbered (steps : List Step) (many : ℕ) (numbered : List NumberedStep) : Type 0 where
+  pub whole : length numbered ≡ many
+  pub each : (i : ℕ) (t : NumberedStep) → slice_get numbered i ≡ Some t
       → (slice_get steps i ≡ Some t.step) × (t.turn ≡ turn_of (history_of (take i steps)) t.step)
 
 -- tables that have how many sends and receives each lane had

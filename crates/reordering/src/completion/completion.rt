@@ -112,10 +112,10 @@ impl<'a> Completion<'a> {
         within.max(same_sender)
     }
 
-    /// The number of the last send of a receive's line that is finished before it, 0 where there is none. Where instances
-    /// finish, all events of the line up to that one come before the receive, and of the later ones those alone that
-    /// the chart puts before it anyhow. Nothing is finished before another event, so the answer is 0 there. The ranges
-    /// are the races of the receive's report.
+    /// The number of the last send of a receive's line that is finished before it, 0 where there is none. Where
+    /// instances finish, all events of the line up to that one come before the receive, and of the later ones those
+    /// alone that the chart puts before it anyhow. Nothing is finished before another event, so the answer is 0 there.
+    /// The ranges are the races of the receive's report.
     ///
     /// It takes two looks, however long the line is.
     pub fn finished_before(&self, receive: &EventNo, earlier: &[EventRange]) -> u32

@@ -1,5 +1,5 @@
 //! The laws of the order where instances finish, each the contract of a function that does nothing.
-ghost use Rattle.reordering.specs.Completion.Laws.{PartLaw, ClosedFormLaw, OwnLineLaw, OneNumberLaw, NoCircleLaw, OthersLaw};
+ghost use Rattle.reordering.specs.Completion.Laws.{PartLaw, ClosedFormLaw, OwnLineLaw, OneNumberLaw, NoCycleLaw, OthersLaw};
 ghost use Rattle.reordering.specs.Completion.Laws.{CompletedReportLaw, RunLaw, OwnRunLaw};
 
 /// What is enforced is a part of it.
@@ -13,7 +13,7 @@ pub fn closed_form_law()
     ensures events { ClosedFormLaw }
     ensures line { OwnLineLaw }
     ensures number { OneNumberLaw }
-    ensures acyclic { NoCircleLaw }
+    ensures acyclic { NoCycleLaw }
 {}
 
 /// The races that are left are among the others.

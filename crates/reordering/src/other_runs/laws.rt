@@ -20,7 +20,7 @@ pub fn witness_law()
 /// The two don't change places in each respect: where the earlier event is a send, the receive comes before it in that
 /// run, and so has become one of its causes there.
 pub fn real_races_law()
-    ensures turned { TurningLaw }
+    ensures reordered { TurningLaw }
     ensures report { ReportLaw }
     ensures one_run { OneRunLaw }
 {}
@@ -31,5 +31,5 @@ pub fn real_races_law()
 pub fn slots_law()
     ensures order { SlotsOrderLaw }
     ensures witness { SlotsWitnessLaw }
-    ensures turned { SlotsTurningLaw }
+    ensures reordered { SlotsTurningLaw }
 {}

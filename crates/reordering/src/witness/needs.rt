@@ -1,11 +1,11 @@
 //! What has to come with a receive.
 ghost use Rattle.std.specs.Prelude.{◌≡◌, List, length, IfOk};
 ghost use Rattle.reordering.specs.OtherRuns.Walks.{Wanted, wanted};
-ghost use Rattle.reordering.specs.Witness.Steps.{AreTurned, is_within, is_wanted, with_step, nothing, StandFor};
+ghost use Rattle.reordering.specs.Witness.Steps.{AreNumbered, is_within, is_wanted, with_step, nothing, StandFor};
 ghost use Rattle.chart.specs.RunSteps.Steps.{history_of};
 
 use crate::witness::counts::Counts;
-use crate::witness::turned::Turned;
+use crate::witness::numbered::NumberedStep;
 use chart::MAX_INSTANCES;
 use chart::run_steps::Step;
 use std::alloc::{AllocError, Global};
@@ -33,58 +33,58 @@ impl Needs {
     }
 
     /// Whether a step is among those that have to come.
-    pub fn has(&self, turned: &Turned) -> bool
+    pub fn has(&self, numbered: &NumberedStep) -> bool
         ensures { (w : Wanted) → StandFor self.now.sends self.now.receives self.now.lines w
-            → result ≡ is_within w turned.now.step turned.now.turn }
+            → result ≡ is_within w numbered.now.step numbered.now.turn }
     {
-        match &turned.step {
-            Step::Send { from, to, .. } => turned.turn <= self.sends.at(*from, *to),
-            Step::Receive { at, from, .. } => turned.turn <= self.receives.at(*from, *at),
+        match &numbered.step {
+            Step::Send { from, to, .. } => numbered.turn <= self.sends.at(*from, *to),
+            Step::Receive { at, from, .. } => numbered.turn <= self.receives.at(*from, *at),
         }
     }
 
     /// Whether the newest step that is left has to come.
-    fn wants(&self, turned: &Turned) -> bool
+    fn wants(&self, numbered: &NumberedStep) -> bool
         ensures { (w : Wanted) → StandFor self.now.sends self.now.receives self.now.lines w
-            → result ≡ is_wanted w turned.now.step turned.now.turn }
+            → result ≡ is_wanted w numbered.now.step numbered.now.turn }
     {
-        let line = match &turned.step {
+        let line = match &numbered.step {
             Step::Send { from, .. } => self.lines[from.place()],
             Step::Receive { at, .. } => self.lines[at.place()],
         };
-        line || self.has(turned)
+        line || self.has(numbered)
     }
 
     /// The step has to come, where lanes have so many slots: with a send all that is left of its line, and the receive
     /// that frees its slot; with a receive its send.
-    pub fn want(&mut self, turned: &Turned, slots: usize)
+    pub fn want(&mut self, numbered: &NumberedStep, slots: usize)
         ensures { (w : Wanted) → StandFor self.old.sends self.old.receives self.old.lines w
             → StandFor self.new.sends self.new.receives self.new.lines
-            (with_step slots w turned.now.step turned.now.turn) }
+            (with_step slots w numbered.now.step numbered.now.turn) }
     {
-        match &turned.step {
+        match &numbered.step {
             Step::Send { from, to, .. } => {
-                self.sends.raise(*from, *to, turned.turn);
+                self.sends.raise(*from, *to, numbered.turn);
                 self.receives
-                    .raise(*from, *to, turned.turn.saturating_sub(slots));
+                    .raise(*from, *to, numbered.turn.saturating_sub(slots));
                 self.lines[from.place()] = true;
             }
             Step::Receive { at, from, .. } => {
-                self.sends.raise(*from, *at, turned.turn);
-                self.receives.raise(*from, *at, turned.turn);
+                self.sends.raise(*from, *at, numbered.turn);
+                self.receives.raise(*from, *at, numbered.turn);
             }
         }
     }
 
     /// All that has to come with what has to come, from the last step to the first.
-    pub fn complete(&mut self, steps: &[Step], turned: &[Turned], slots: usize)
-        requires { AreTurned steps.now (length steps.now) turned.now }
+    pub fn complete(&mut self, steps: &[Step], numbered: &[NumberedStep], slots: usize)
+        requires { AreNumbered steps.now (length steps.now) numbered.now }
         ensures { (w : Wanted) → StandFor self.old.sends self.old.receives self.old.lines w
             → StandFor self.new.sends self.new.receives self.new.lines (wanted slots (history_of steps.now) w) }
     {
         let many = steps.len();
         for place in 0..many {
-            let newest = &turned[many - 1 - place];
+            let newest = &numbered[many - 1 - place];
             if self.wants(newest) {
                 self.want(newest, slots);
             }

@@ -7,8 +7,8 @@ ghost use Rattle.reordering.specs.Witness.Steps.{IsFound};
 ghost use Rattle.chart.specs.RunSteps.Steps.{history_of, place_after, IsReceive, IsOutside};
 
 use crate::witness::needs::Needs;
+use crate::witness::numbered::with_turns;
 use crate::witness::parting::part;
-use crate::witness::turned::with_turns;
 use chart::run_steps::Step;
 use std::alloc::{AllocError, Global};
 
@@ -37,12 +37,12 @@ pub fn overtake(
         → IsInOrder slots steps.now (place_after steps.now receive y) run.items)) }
     ensures outside { IfOk result (λ found. IfSome found (λ run. All IsOutside run.items)) }
 {
-    let turned = with_turns(alloc, steps)?;
+    let numbered = with_turns(alloc, steps)?;
     let mut needs = Needs::nothing(alloc)?;
-    needs.want(&turned[receive], slots);
-    needs.complete(steps, turned.as_slice(), slots);
-    if needs.has(&turned[earlier]) {
+    needs.want(&numbered[receive], slots);
+    needs.complete(steps, numbered.as_slice(), slots);
+    if needs.has(&numbered[earlier]) {
         return Ok(None);
     }
-    Ok(Some(part(alloc, steps, turned.as_slice(), &needs)?))
+    Ok(Some(part(alloc, steps, numbered.as_slice(), &needs)?))
 }

@@ -2,11 +2,11 @@
 ghost use Rattle.std.specs.Prelude.{◌≡◌, ◌++◌, length, not, IfOk, All};
 ghost use Rattle.reordering.specs.OtherRuns.Walks.{Wanted, parted};
 ghost use Rattle.reordering.specs.Witness.Orders.{picked};
-ghost use Rattle.reordering.specs.Witness.Steps.{AreTurned, StandFor, comes};
+ghost use Rattle.reordering.specs.Witness.Steps.{AreNumbered, StandFor, comes};
 ghost use Rattle.chart.specs.RunSteps.Steps.{history_of, IsOutside};
 
 use crate::witness::needs::Needs;
-use crate::witness::turned::Turned;
+use crate::witness::numbered::NumberedStep;
 use chart::run_steps::Step;
 use std::alloc::{AllocError, Global};
 
@@ -16,10 +16,10 @@ use std::alloc::{AllocError, Global};
 pub fn part(
     alloc: Global,
     steps: &[Step],
-    turned: &[Turned],
+    numbered: &[NumberedStep],
     needs: &Needs,
 ) -> Result<Vec<Step>, AllocError>
-    requires { AreTurned steps.now (length steps.now) turned.now }
+    requires { AreNumbered steps.now (length steps.now) numbered.now }
     ensures history { IfOk result (λ run. (w : Wanted) → StandFor needs.now.sends needs.now.receives needs.now.lines w
         → history_of run.items ≡ parted w.sends w.receives (history_of steps.now) (history_of steps.now)) }
     ensures order { IfOk result (λ run. (w : Wanted) → StandFor needs.now.sends needs.now.receives needs.now.lines w
@@ -31,7 +31,7 @@ pub fn part(
     let mut others = Vec::new(alloc);
     for place in 0..steps.len() {
         let step = steps[place].outside_regions();
-        if needs.has(&turned[place]) {
+        if needs.has(&numbered[place]) {
             first.push(step)?;
         } else {
             others.push(step)?;

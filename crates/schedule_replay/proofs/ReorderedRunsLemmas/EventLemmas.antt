@@ -11,7 +11,7 @@ use Rattle.chart.specs.Charts.{Chart, Place, chart_event, IsReceiveFrom}
 use Rattle.chart.specs.Places.{IsEvent}
 use Rattle.chart.proofs.Belongs.{IsEvent-from_event}
 use Rattle.chart.proofs.Tally.{ith_at}
-use Rattle.schedule_replay.specs.ReorderedRuns.Turns.{receives}
+use Rattle.schedule_replay.specs.ReorderedRuns.Reorderings.{receives}
 
 -- there is an event where the read finds one
 pub event_there : (c : Chart) (e : Place) (b : Bool) → b ≡ is_some (chart_event c e) → IsTrue b ↔ IsEvent c e

@@ -23,7 +23,7 @@ use Rattle.closure.proofs.ReadLemmas.{empty_line, line_short, partner_within, pa
 use Rattle.closure.proofs.RunLemmas.{entry-raised}
 use Rattle.chart.specs.declared.run_steps.step.Step.{Step}
 use Rattle.chart.specs.RunSteps.Steps.{occurrence_of, history_of, maker_of, step_made}
-use Rattle.schedule_replay.specs.ReorderedRuns.Runs.{IsDrawn, IsInTurn, IsNext, IsStopped, IsHeld, MayCome}
+use Rattle.schedule_replay.specs.ReorderedRuns.Runs.{IsChartRun, IsInTurn, IsNext, IsStopped, IsHeld, MayCome}
 use Rattle.schedule_replay.proofs.ReorderedRunsLemmas.Partners.{partner-begun, first_named}
 
 -- a legal history with no close has made so many events of each line of the chart, and no others
@@ -148,8 +148,8 @@ module _ (lines : List LineView) (k : ℕ) (h : List Occurrence) (made : List �
       go (Receive q name region) is may = next-receive q name region is may
 
 -- where all were made, the chart is the history's
-pub IsDrawn-done : (lines : List LineView) (k : ℕ) (steps : List Step) (made : List ℕ) → IsGoing (length lines) k (chart_lines lines) (history_of steps) made → ((p : ℕ) → p < length lines → length (chart_lines lines (suc p)) ≤ slice_index made p) → IsInTurn (chart_lines lines) (length lines) k (history_of steps) → IsDrawn (length lines) k (chart_lines lines) steps
-IsDrawn-done lines k steps made old all turn = record {
+pub IsChartRun-done : (lines : List LineView) (k : ℕ) (steps : List Step) (made : List ℕ) → IsGoing (length lines) k (chart_lines lines) (history_of steps) made → ((p : ℕ) → p < length lines → length (chart_lines lines (suc p)) ≤ slice_index made p) → IsInTurn (chart_lines lines) (length lines) k (history_of steps) → IsChartRun (length lines) k (chart_lines lines) steps
+IsChartRun-done lines k steps made old all turn = record {
   legal = old.legal;
   turn = turn;
   chart = λ p. let g = old.grows p in sym (nothing_more (chart_of (history_of steps) p) g.0 (chart_lines lines p) g.1 (subst (λ j. length (chart_lines lines p) ≤ j) (sym (old.many p)) (whole p)));

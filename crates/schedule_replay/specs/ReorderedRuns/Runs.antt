@@ -47,7 +47,7 @@ IsInTurn c n k (x ∷ h) = GoesOn c n k h x × IsInTurn c n k h
 
 -- The steps are a run of the chart, each of its lines as drawn, over lanes of k slots: each line goes on as long as it
 -- can, and then the first that can.
-pub record IsDrawn (n k : ℕ) (c : Chart) (steps : List Step) : Type 0 where
+pub record IsChartRun (n k : ℕ) (c : Chart) (steps : List Step) : Type 0 where
   pub legal : IsLegal n k (history_of steps)
   pub chart : (p : ℕ) → chart_of (history_of steps) p ≡ c p
   pub turn : IsInTurn c n k (history_of steps)
@@ -55,13 +55,13 @@ pub record IsDrawn (n k : ℕ) (c : Chart) (steps : List Step) : Type 0 where
 -- what is found within k slots: such a run, or that there is none
 abbrev pub IsRunFound : ℕ → ℕ → Chart → Option (List Step) → Type 0
 IsRunFound n k c None = IsPossibleWithin n k c → ⊥
-IsRunFound n k c (Some steps) = IsDrawn n k c steps
+IsRunFound n k c (Some steps) = IsChartRun n k c steps
 
 -- k is the least number of slots, from 1 on, over which there is such a run, and the steps are one
 pub record IsLeastRun (n k : ℕ) (c : Chart) (steps : List Step) : Type 0 where
   pub begun : 1 ≤ k
   pub limit : k ≤ MAX_EVENTS
-  pub drawn : IsDrawn n k c steps
+  pub chart_run : IsChartRun n k c steps
   pub least : (l : ℕ) → 1 ≤ l → l < k → IsPossibleWithin n l c → ⊥
 
 -- so many events of the line at p were made: the step makes the next one, and may

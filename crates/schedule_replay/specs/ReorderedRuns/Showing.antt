@@ -8,10 +8,10 @@ use Rattle.schedule.specs.Plans.{Plan}
 use Rattle.schedule_replay.specs.declared.reordered_runs.scheduling.TheConstants.{FIRST_LINE}
 use Rattle.schedule_replay.specs.declared.reordered_runs.showing.Shown.{Shown}
 use Rattle.schedule_replay.specs.declared.reordered_runs.showing.Shown.TheVariants.{Replay, Enforced, TooManySlots}
-use Rattle.schedule_replay.specs.declared.reordered_runs.turning.Turned.{Turned}
-use Rattle.schedule_replay.specs.declared.reordered_runs.turning.Turned.TheVariants as turns
+use Rattle.schedule_replay.specs.declared.reordered_runs.overtaking.Reordered.{Reordered}
+use Rattle.schedule_replay.specs.declared.reordered_runs.overtaking.Reordered.TheVariants as turns
 use Rattle.schedule_replay.specs.ReorderedRuns.Schedules.{commands_of}
-use Rattle.schedule_replay.specs.ReorderedRuns.Turns.{IsLeastTurn}
+use Rattle.schedule_replay.specs.ReorderedRuns.Reorderings.{IsLeastTurn}
 
 -- the plan refuses no command, and means a run of the chart's events over its lanes in which r overtakes e
 pub record ShowsTurn (n : ℕ) (c : Chart) (e r : Place) (plan : Plan) : Type 0 where
@@ -28,7 +28,7 @@ IsShown names first c e r (TooManySlots k) = (MAX_CAPACITY < k) × CanBeOvertake
     × IsLeastTurn (length names) first k c e r
 
 -- the plan that is shown has a command for each step of the run, in their order, and its slots
-abbrev pub HasSteps : Turned → Shown → Type 0
+abbrev pub HasSteps : Reordered → Shown → Type 0
 HasSteps (turns.Run slots steps) (Replay plan) = (plan.capacity ≡ slots)
     × (plan.commands ≡ commands_of FIRST_LINE steps.items)
 HasSteps turns.Enforced (Replay plan) = ⊥

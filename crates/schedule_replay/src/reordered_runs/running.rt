@@ -12,8 +12,8 @@ use std::alloc::{AllocError, Global};
 /// A run of a possible chart, its lines as drawn, over lanes of so many slots. There is none exactly where the answer
 /// is `None`: no history with this chart is legal over such lanes.
 ///
-/// Each line goes on as far as it can, and then the first that can: so it is one run. It makes each step once, and looks
-/// at each line once for each time that one stops. F6: it fails only where there is no memory.
+/// Each line goes on as far as it can, and then the first that can: so it is one run. It makes each step once, and
+/// looks at each line once for each time that one stops. F6: it fails only where there is no memory.
 pub fn run_within(
     alloc: Global,
     chart: &Chart,

@@ -1,11 +1,11 @@
 //! What there is to show of a receive and an event that it may overtake.
 ghost use Rattle.std.specs.Prelude.{ℕ, ◌≤◌, length, IfOk};
 ghost use Rattle.chart.specs.Charts.{Chart, Place};
-ghost use Rattle.schedule_replay.specs.ReorderedRuns.Turns.{IsTurned};
+ghost use Rattle.schedule_replay.specs.ReorderedRuns.Reorderings.{IsReordered};
 ghost use Rattle.schedule_replay.specs.ReorderedRuns.Showing.{IsShown, HasSteps};
 
+use crate::reordered_runs::overtaking::Reordered;
 use crate::reordered_runs::scheduling::schedule_of;
-use crate::reordered_runs::turning::Turned;
 use chart::Names;
 use schedule::{Capacity, Schedule};
 use std::alloc::{AllocError, Global};
@@ -25,17 +25,17 @@ pub enum Shown {
 /// which has a command for each step of the run, in their order.
 ///
 /// F6: it fails only where there is no memory.
-pub fn show(alloc: Global, names: &Names, turned: &Turned) -> Result<Shown, AllocError>
+pub fn show(alloc: Global, names: &Names, reordered: &Reordered) -> Result<Shown, AllocError>
     requires several { 2 ≤ length names.now }
-    requires turned { (first : ℕ) × (c : Chart) × (e : Place) × (r : Place)
-        × IsTurned (length names.now) first c e r turned.now }
-    ensures steps { IfOk result (HasSteps turned.now) }
+    requires reordered { (first : ℕ) × (c : Chart) × (e : Place) × (r : Place)
+        × IsReordered (length names.now) first c e r reordered.now }
+    ensures steps { IfOk result (HasSteps reordered.now) }
     ensures shown { IfOk result (λ shown. (first : ℕ) (c : Chart) (e r : Place) → 1 ≤ first
-        → IsTurned (length names.now) first c e r turned.now → IsShown names.now first c e r shown) }
+        → IsReordered (length names.now) first c e r reordered.now → IsShown names.now first c e r shown) }
 {
-    match turned {
-        Turned::Enforced => Ok(Shown::Enforced),
-        Turned::Run { slots, steps } => match Capacity::new(*slots) {
+    match reordered {
+        Reordered::Enforced => Ok(Shown::Enforced),
+        Reordered::Run { slots, steps } => match Capacity::new(*slots) {
             None => Ok(Shown::TooManySlots(*slots)),
             Some(capacity) => {
                 let schedule = schedule_of(alloc, names, capacity, steps.as_slice())?;

@@ -5,7 +5,7 @@ ghost use Rattle.chart.specs.Histories.{chart_of, IsLegal};
 ghost use Rattle.chart.specs.Places.{IsEvent};
 ghost use Rattle.chart.specs.declared.run_steps.step.Step.{Step};
 ghost use Rattle.chart.specs.RunSteps.Steps.{history_of, place_after};
-ghost use Rattle.schedule_replay.specs.ReorderedRuns.Turns.{receives};
+ghost use Rattle.schedule_replay.specs.ReorderedRuns.Reorderings.{receives};
 ghost use Rattle.closure.specs.Faults.{place_of};
 
 use chart::run_steps::Step;

@@ -87,7 +87,7 @@ fn run_two<R: Threads + Abort + Sync>(
     match run(rt, posts, behaviours, 20, &Open) {
         Ok(run) => Some(run),
         Err(RunError::Memory) => None,
-        Err(RunError::Unfit(..)) => panic!(rt; "two posts and two behaviours"),
+        Err(RunError::InvalidInput(..)) => panic!(rt; "two posts and two behaviours"),
     }
 }
 

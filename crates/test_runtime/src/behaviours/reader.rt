@@ -45,7 +45,7 @@ fn sends(rt: &impl Abort, alloc: Global, post: &mut Post) {
 }
 
 #[test]
-fn readers_are_told_bodies(rt: HostRuntime) {
+fn readers_get_bodies(rt: HostRuntime) {
     let alloc = rt.alloc();
     let mut board = Board::new(alloc, 2, 1).expect(&rt, "a board");
     let mut posts = board.posts().expect(&rt, "posts");

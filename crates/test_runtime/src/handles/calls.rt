@@ -1,6 +1,6 @@
 //! Calls on handles, as tests make them, and what is asserted of what they answer.
 
-use board::Glance;
+use board::Peek;
 use c_board::{Arrived, Handle, Refusal, Which, open};
 use chart::EventNo;
 use std::alloc::Global;
@@ -50,7 +50,7 @@ pub fn is_refused(rt: &impl Abort, sent: Result<EventNo, Refusal>, number: u32) 
 }
 
 /// What is told before any message came.
-pub fn nothing_told() -> Arrived {
+pub fn no_arrival() -> Arrived {
     Arrived {
         from: 0,
         event: 0,
@@ -89,9 +89,9 @@ pub fn gets(
     body: &[u8],
     races: &[u32],
 ) {
-    let mut told = nothing_told();
-    let found = post.receive(alloc, from, &mut told);
-    holds(rt, "a message", matches!(found, Ok(Glance::Message)));
-    holds(rt, "the sender", told.from == from);
+    let mut output = no_arrival();
+    let found = post.receive(alloc, from, &mut output);
+    holds(rt, "a message", matches!(found, Ok(Peek::Message)));
+    holds(rt, "the sender", output.from == from);
     has_come(rt, alloc, post, body, races);
 }

@@ -1,13 +1,13 @@
 //! Calls on handles that keep no post.
 
-use crate::handles::calls::{holds, nothing_told, pair};
+use crate::handles::calls::{holds, no_arrival, pair};
 use c_board::{Handle, Refusal, Which, open};
 use std::alloc::Global;
 use std::process::Abort;
 
 /// Each call is a misuse, and the handle keeps nothing after it.
 fn misuses(rt: &impl Abort, alloc: Global, handle: &mut Handle) {
-    let mut told = nothing_told();
+    let mut output = no_arrival();
     let mut bytes = [0; 8];
     let mut events = [0; 8];
     holds(
@@ -18,7 +18,7 @@ fn misuses(rt: &impl Abort, alloc: Global, handle: &mut Handle) {
     holds(
         rt,
         "a receive",
-        matches!(handle.receive(alloc, 2, &mut told), Err(Refusal::Misuse)),
+        matches!(handle.receive(alloc, 2, &mut output), Err(Refusal::Misuse)),
     );
     holds(rt, "any", matches!(handle.any(alloc), Err(Refusal::Misuse)));
     holds(

@@ -1,11 +1,11 @@
 //! Messages over handles.
 
-use crate::handles::calls::{gets, holds, is_refused, nothing_told, pair, sends};
-use board::Glance;
+use crate::handles::calls::{gets, holds, is_refused, no_arrival, pair, sends};
+use board::Peek;
 use c_board::Found;
 
-/// Messages that cross: each receive has races with what its instance did before, which the message's sender doesn't know
-/// of. The lane is full by its second message, and it ends.
+/// Messages that cross: each receive has races with what its instance did before, which the message's sender doesn't
+/// know of. The lane is full by its second message, and it ends.
 #[test]
 fn messages_both_ways(rt: HostRuntime) {
     let alloc = rt.alloc();
@@ -18,10 +18,10 @@ fn messages_both_ways(rt: HostRuntime) {
     gets(&rt, alloc, &mut second, 1, b"", &[1]);
     gets(&rt, alloc, &mut first, 2, b"now", &[1, 2]);
     holds(&rt, "it is closed", first.close(alloc, 2).is_ok());
-    let mut told = nothing_told();
-    let found = second.receive(alloc, 1, &mut told);
-    holds(&rt, "it has ended", matches!(found, Ok(Glance::Ended)));
-    holds(&rt, "nothing is told", told.from == 0);
+    let mut output = no_arrival();
+    let found = second.receive(alloc, 1, &mut output);
+    holds(&rt, "it has ended", matches!(found, Ok(Peek::Ended)));
+    holds(&rt, "nothing is told", output.from == 0);
     let found = second.any(alloc);
     holds(&rt, "all have ended", matches!(found, Ok(Found::Ended)));
     first.end(alloc);

@@ -2,7 +2,7 @@
 mod machines;
 
 use lane_core::answers::{Found, ReceiverStep, Room, SenderStep};
-use machines::{IndexLane, Machine, Queue, Shown, SlotLane, Step};
+use machines::{FlagLane, IndexLane, Machine, Queue, Shown, Step};
 use std::alloc::{AllocError, Global};
 use std::process::Abort;
 use std::test::Fail;
@@ -90,8 +90,8 @@ fn every_short_run_is_one_of_a_queue(rt: HostRuntime) -> Result<(), Fail> {
     let alloc = rt.alloc();
     agrees_with_a_queue::<IndexLane>(&rt, alloc, 1)?;
     agrees_with_a_queue::<IndexLane>(&rt, alloc, 2)?;
-    agrees_with_a_queue::<SlotLane>(&rt, alloc, 1)?;
-    agrees_with_a_queue::<SlotLane>(&rt, alloc, 2)?;
+    agrees_with_a_queue::<FlagLane>(&rt, alloc, 1)?;
+    agrees_with_a_queue::<FlagLane>(&rt, alloc, 2)?;
     Ok(())
 }
 
@@ -163,7 +163,7 @@ fn fills_closes_and_drains<M: Machine>(rt: &impl Abort, capacity: u32) {
 fn full_lanes_close_and_drain(rt: HostRuntime) {
     for capacity in [1u32, 2, 64] {
         fills_closes_and_drains::<IndexLane>(&rt, capacity);
-        fills_closes_and_drains::<SlotLane>(&rt, capacity);
+        fills_closes_and_drains::<FlagLane>(&rt, capacity);
     }
 }
 

@@ -122,8 +122,8 @@ fn next_board(
     let mut board = Board::new(alloc, 3, 2).expect(rt, "a board");
     let mut posts = board.posts().expect(rt, "posts");
     let taking = posts.as_mut_slice();
-    let told = carried(rt, alloc, taking, left, closed.as_slice());
-    assert_eq!(rt; told.as_slice(), sends);
+    let counted = carried(rt, alloc, taking, left, closed.as_slice());
+    assert_eq!(rt; counted.as_slice(), sends);
     do_all(rt, alloc, taking, deeds);
     gathered(rt, alloc, posts)
 }

@@ -1,5 +1,5 @@
-//! The names that words are. Most words were read before, and then neither their bytes are looked at one by one nor a table
-//! of names is.
+//! The names that words are. Most words were read before, and then neither their bytes are looked at one by one nor
+//! a table of names is.
 ghost use Rattle.std.specs.Prelude.{◌≡◌, ◌<◌, Ok, IfSome, IsTrue};
 ghost use Rattle.chart.specs.Names.{IsName};
 ghost use Rattle.texts.specs.Instances.{known_of};
@@ -13,8 +13,8 @@ use chart::{InstanceNo, MAX_INSTANCES, Name, Names};
 /// How many guesses there are of each kind.
 const GUESSES: usize = 64;
 
-/// Guesses for words by their last bytes: at which place the instance may be that they name, and which name they may be. A
-/// guess is tried before it is believed, so it may be anything.
+/// Guesses for words by their last bytes: at which place the instance may be that they name, and which name they may
+/// be. A guess is tried before it is believed, so it may be anything.
 #[derive(Drop)]
 pub struct Guesses {
     places: [u8; GUESSES],

@@ -1,12 +1,12 @@
 use Rattle.std.proofs.Common.{◌+◌, ◌++◌, ◌∷◌, [], List, length, length-append, sym, ap, ◌∙◌, subst, arith}
 use Rattle.chart.specs.Messages.{Content}
-use Rattle.board.specs.Parting.{HasDrawn}
-use Rattle.board.proofs.Drawing.{drawn_first, drawn_next}
+use Rattle.board.specs.Parting.{HasDrained}
+use Rattle.board.proofs.Drawing.{drained_first, drained_next}
 use Rattle.board.proofs.parting.draw_all.Goals as goal
 
 pub draw-requires-clause-first : goal.draw-requires-clause-first
 draw-requires-clause-first c =
-    drawn_first c.args.room.lane c.args.room.taken c.args.room.many c.loop-place.place c.args.seat.now.me.1 c.loop-place.seat.me.1 c.loop-place.messages.items c.loop-place.invariant.drawn c.loop-place-test.true c.requires.first
+    drained_first c.args.room.lane c.args.room.taken c.args.room.many c.loop-place.place c.args.seat.now.me.1 c.loop-place.seat.me.1 c.loop-place.messages.items c.loop-place.invariant.drained c.loop-place-test.true c.requires.first
 
 pub loop-place-preserved : goal.loop-place-preserved
 loop-place-preserved c =
@@ -14,12 +14,12 @@ loop-place-preserved c =
     let room = c.args.room in
     let place = c.loop-place.place in
     let first = c.args.seat.now.me.1 in
-    let drawn = c.draw.ensures.drawn in
+    let drained = c.draw.ensures.drained in
     let pushed = c.push_reserved.ensures in
     record {
       table = c.draw.ensures.table ∙ its.table;
-      drawn = subst (λ (ms : List Content). HasDrawn room.lane room.taken room.many (place + 1) first c.draw.new.seat.me.1 ms) (ap (λ (m : Content). c.loop-place.messages.items ++ m ∷ []) (sym drawn.2) ∙ sym pushed.items)
-          (drawn_next room.lane room.taken room.many place first c.loop-place.seat.me.1 c.loop-place.messages.items its.drawn c.loop-place-test.true drawn.0 c.draw.new.seat.me.1 drawn.1 c.draw.ensures.turned);
+      drained = subst (λ (ms : List Content). HasDrained room.lane room.taken room.many (place + 1) first c.draw.new.seat.me.1 ms) (ap (λ (m : Content). c.loop-place.messages.items ++ m ∷ []) (sym drained.2) ∙ sym pushed.items)
+          (drained_next room.lane room.taken room.many place first c.loop-place.seat.me.1 c.loop-place.messages.items its.drained c.loop-place-test.true drained.0 c.draw.new.seat.me.1 drained.1 c.draw.ensures.turned);
       reserved = omega (arith, pushed.capacity, its.reserved);
       counted = omega (arith, ap length pushed.items, length-append c.loop-place.messages.items (c.draw.result ∷ []), its.counted);
     }

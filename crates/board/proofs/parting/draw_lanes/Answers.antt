@@ -6,7 +6,7 @@ use Rattle.board.specs.declared.parting.Leaver.{Leaver}
 use Rattle.board.specs.declared.parting.Room.{Room}
 use Rattle.board.specs.Gathering.{left_view, left_on}
 use Rattle.board.specs.Parting.{room_lane, IsLaneRoom, AreReady}
-use Rattle.board.proofs.DrawnLanes.{is_first, ready_next, now_of, left_is}
+use Rattle.board.proofs.DrainedLanes.{is_first, ready_next, now_of, left_is}
 use Rattle.board.proofs.parting.draw_lanes.Goals as goal
 
 nothing_left : {X : Type 0} (xs : List X) → length xs ≡ 0 → xs ≡ []
@@ -18,7 +18,7 @@ draw_all-requires-clause-table c =
     let its = c.requires.ready in
     let room = c.in-Some.room in
     let gives = c.into_iter-room-iterator.ensures.into_iter_gives.0 in
-    let so = c.loop-room.invariant.drawn its.0 its.1 its.2 (subst (λ (rs : List Room). AreReady its.0 its.1 c.args.words.now.table_id its.2 (map room_lane rs) c.args.leavers.now) (sym gives) its.3) (subst (λ (rs : List Room). All (IsLaneRoom its.2 its.0 its.1) rs) (sym gives) its.4) in
+    let so = c.loop-room.invariant.drained its.0 its.1 its.2 (subst (λ (rs : List Room). AreReady its.0 its.1 c.args.words.now.table_id its.2 (map room_lane rs) c.args.leavers.now) (sym gives) its.3) (subst (λ (rs : List Room). All (IsLaneRoom its.2 its.0 its.1) rs) (sym gives) its.4) in
     let now = now_of its.0 its.1 c.args.words.now.table_id its.2 (into_iter_items c.loop-room.room-iterator) room (into_iter_items c.next.new.self) c.loop-room.leavers c.place.result c.index-leavers-place.result so.0 so.1 c.in-Some.ensures.steps.0 c.place.ensures.value in
     now.ready.seated c.place.result _ now.at
 
@@ -30,7 +30,7 @@ draw_all-requires-clause-first c =
     let table = c.args.words.now.table_id in
     let rooms = into_iter_items c.next.new.self in
     let leaver : Leaver = get_or c.loop-room.leavers c.place.result c.index-leavers-place.result in
-    let so = c.loop-room.invariant.drawn its.0 its.1 its.2 (subst (λ (rs : List Room). AreReady its.0 its.1 table its.2 (map room_lane rs) c.args.leavers.now) (sym gives) its.3) (subst (λ (rs : List Room). All (IsLaneRoom its.2 its.0 its.1) rs) (sym gives) its.4) in
+    let so = c.loop-room.invariant.drained its.0 its.1 its.2 (subst (λ (rs : List Room). AreReady its.0 its.1 table its.2 (map room_lane rs) c.args.leavers.now) (sym gives) its.3) (subst (λ (rs : List Room). All (IsLaneRoom its.2 its.0 its.1) rs) (sym gives) its.4) in
     let now = now_of its.0 its.1 table its.2 (into_iter_items c.loop-room.room-iterator) room rooms c.loop-room.leavers c.place.result c.index-leavers-place.result so.0 so.1 c.in-Some.ensures.steps.0 c.place.ensures.value in
     let first = is_first its.0 its.1 table its.2 room (map room_lane rooms) c.loop-room.leavers now.ready now.its c.place.result c.place.ensures.value leaver now.at in
     (first.packets, first.others, first.come, first.many)
@@ -55,15 +55,15 @@ loop-room-preserved c =
           omega (arith, was, gone, short);
       enough = omega (arith, inv.enough, c.push_reserved.ensures.capacity);
       many = omega (arith, ap length pushed, length-append at.left.items (c.draw_all.result ∷ []), length-append at.yielded (room ∷ []), inv.many);
-      drawn = λ n k h begun all.
-          let so = inv.drawn n k h begun all in
+      drained = λ n k h begun all.
+          let so = inv.drained n k h begun all in
           let now = now_of n k table h (into_iter_items at.room-iterator) room rooms at.leavers j c.index-leavers-place.result so.0 so.1 steps c.place.ensures.value in
           let first = is_first n k table h room (map room_lane rooms) at.leavers now.ready now.its j c.place.ensures.value leaver now.at in
-          let its = c.draw_all.ensures.drawn first.packets first.others first.come first.many in (
+          let its = c.draw_all.ensures.drained first.packets first.others first.come first.many in (
             ready_next n k table h room (map room_lane rooms) at.leavers now.ready now.its j c.place.ensures.value leaver now.at (record leaver { seat = c.draw_all.new.seat }) c.draw_all.ensures.table its.1.0 its.1.1,
             now.others,
             ap (map left_view) pushed ∙ map_push left_view at.left.items c.draw_all.result
-                ∙ ap₂ (λ xs x. xs ++ x ∷ []) so.2 (left_is h room c.draw_all.result c.draw_all.ensures.sender c.draw_all.ensures.receiver (its.0 ∙ first.said))
+                ∙ ap₂ (λ xs x. xs ++ x ∷ []) so.2 (left_is h room c.draw_all.result c.draw_all.ensures.sender c.draw_all.ensures.receiver (its.0 ∙ first.stated))
                 ∙ sym (map_push (left_on h) (map room_lane at.yielded) (room_lane room)) ∙ ap (map (left_on h)) (sym (map_push room_lane at.yielded room)),
           );
     }
@@ -75,5 +75,5 @@ returns c = λ n k h begun all.
     let gives = c.into_iter-room-iterator.ensures.into_iter_gives.0 in
     let empty : into_iter_items at.room-iterator ≡ [] = nothing_left _ (sym at.invariant.rest ∙ none.0) in
     let whole : at.yielded ≡ c.args.rooms.items = sym (append-nil at.yielded) ∙ rw empty at at.invariant.all ∙ gives in
-    let so = at.invariant.drawn n k h (subst (λ (rs : List Room). AreReady n k c.args.words.now.table_id h (map room_lane rs) c.args.leavers.now) (sym gives) begun) (subst (λ (rs : List Room). All (IsLaneRoom h n k) rs) (sym gives) all) in
+    let so = at.invariant.drained n k h (subst (λ (rs : List Room). AreReady n k c.args.words.now.table_id h (map room_lane rs) c.args.leavers.now) (sym gives) begun) (subst (λ (rs : List Room). All (IsLaneRoom h n k) rs) (sym gives) all) in
     so.2 ∙ ap (λ (rs : List Room). map (left_on h) (map room_lane rs)) whole

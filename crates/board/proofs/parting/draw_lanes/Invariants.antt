@@ -12,6 +12,6 @@ invariant-loop-room l = record {
   rest : into_iter_len l.room-iterator ≡ length (into_iter_items l.room-iterator);
   enough : length (into_iter_items l.initial.room-iterator) ≤ vec_capacity l.left;
   many : length l.left.items ≡ length l.yielded;
-  drawn : (n k : ℕ) (h : List Occurrence) → AreReady n k l.words.table_id h (map room_lane (into_iter_items l.initial.room-iterator)) l.initial.leavers → All (IsLaneRoom h n k) (into_iter_items l.initial.room-iterator)
+  drained : (n k : ℕ) (h : List Occurrence) → AreReady n k l.words.table_id h (map room_lane (into_iter_items l.initial.room-iterator)) l.initial.leavers → All (IsLaneRoom h n k) (into_iter_items l.initial.room-iterator)
       → AreReady n k l.words.table_id h (map room_lane (into_iter_items l.room-iterator)) l.leavers × All (IsLaneRoom h n k) (into_iter_items l.room-iterator) × (map left_view l.left.items ≡ map (left_on h) (map room_lane l.yielded));
 }

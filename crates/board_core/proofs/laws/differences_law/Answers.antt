@@ -1,4 +1,4 @@
-use Rattle.board_core.proofs.Differing.{exist, restore, tell, runs}
+use Rattle.board_core.proofs.Differing.{exist, restore, know, runs}
 use Rattle.board_core.proofs.laws.differences_law.Goals as goal
 
 pub returns-clause-exist : goal.returns-clause-exist
@@ -7,8 +7,8 @@ returns-clause-exist c = exist
 pub returns-clause-restore : goal.returns-clause-restore
 returns-clause-restore c = restore
 
-pub returns-clause-tell : goal.returns-clause-tell
-returns-clause-tell c = tell
+pub returns-clause-know : goal.returns-clause-know
+returns-clause-know c = know
 
 pub returns-clause-runs : goal.returns-clause-runs
 returns-clause-runs c = runs

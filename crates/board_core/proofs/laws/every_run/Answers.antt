@@ -1,4 +1,4 @@
-use Rattle.board_core.proofs.Told.{legal, lanes, clocks, reports, recorders}
+use Rattle.board_core.proofs.Knowledge.{legal, lanes, clocks, reports, recorders}
 use Rattle.board_core.proofs.laws.every_run.Goals as goal
 
 pub returns-clause-legal : goal.returns-clause-legal

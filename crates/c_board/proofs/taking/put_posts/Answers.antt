@@ -15,8 +15,8 @@ use Rattle.c_board.proofs.Lists.{mid_at, put_next, drop_next, drop_less}
 use Rattle.c_board.proofs.ChairLemmas.{length-seats, length-fit, fits_next, seats_left, all_put, fit-drop}
 use Rattle.c_board.proofs.taking.put_posts.Goals as goal
 
-pub seat-requires : goal.seat-requires
-seat-requires c =
+pub state-requires : goal.state-requires
+state-requires c =
     let its = c.loop-chair.invariant in
     let steps = c.in-Some.ensures.steps in
     let chairs = into_iter_items (zip_first c.into_iter-chair-iterator.result) in
@@ -65,7 +65,7 @@ loop-chair-preserved c =
     record {
       put = map-set (λ (handle : Handle). handle.slot.value) c.loop-chair.handles place c.put.new.self
           ∙ ap (λ (xs : List (Option Kept)). set xs place c.put.new.self.slot.value) its.put
-          ∙ ap (λ (one : Option Kept). set (take place all ++ drop place olds) place one) (c.put.ensures ∙ ap (λ (kept : Kept). Some kept) c.seat.ensures)
+          ∙ ap (λ (one : Option Kept). set (take place all ++ drop place olds) place one) (c.put.ensures ∙ ap (λ (kept : Kept). Some kept) c.state.ensures)
           ∙ put_next all olds place (Some (Post (seat_with c.in-Some.chair c.in-Some.post))) _ less (seats_left chairs rest posts more c.in-Some.chair c.in-Some.post place fit first second);
       first = sym (drop_next chairs place _ _ first);
       second = sym (drop_next posts place _ _ second);

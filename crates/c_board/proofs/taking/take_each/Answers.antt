@@ -44,13 +44,13 @@ loop-place-preserved c =
     let less : place < length olds = omega (arith, c.loop-place-test.true, length-kept_by c.args.handles.now) in
     let here : slice_get (kept_by c.loop-place.handles) place ≡ Some one = kept_at c.loop-place.handles place c.index-handles-place.result (omega (arith, c.loop-place-test.true, c.loop-place.auto.handles)) in
     let was : slice_get olds place ≡ Some one = sym (mid_at (nones olds) olds place (omega (arith, less, length-nones olds)) less) ∙ subst (λ (xs : List (Option Kept)). slice_get xs place ≡ Some one) its.put here in
-    let seat : slice_get olds place ≡ Some (Some (Post (seat_with chair post))) = was ∙ ap (λ (it : Option Kept). Some it) (c.in-Some.ensures.some ∙ ap (λ (it : Kept). Some it) c.of-chair.ensures.same) in
+    let state : slice_get olds place ≡ Some (Some (Post (seat_with chair post))) = was ∙ ap (λ (it : Option Kept). Some it) (c.in-Some.ensures.some ∙ ap (λ (it : Kept). Some it) c.of-chair.ensures.same) in
     record {
       put = map-set (λ (handle : Handle). handle.slot.value) c.loop-place.handles place c.take.new.self
           ∙ ap (λ (xs : List (Option Kept)). set xs place c.take.new.self.slot.value) its.put
           ∙ ap (λ (it : Option Kept). set (take place (nones olds) ++ drop place olds) place it) c.take.ensures.empty
           ∙ put_next (nones olds) olds place None _ less (drop_at (nones olds) place None (none_at olds place less));
-      seats = seats_more olds c.loop-place.chairs.items _ c.loop-place.posts.items _ chair post place its.fit its.seats seat c.push_reserved.ensures.items c.push_reserved-in-loop-place.ensures.items;
+      seats = seats_more olds c.loop-place.chairs.items _ c.loop-place.posts.items _ chair post place its.fit its.seats state c.push_reserved.ensures.items c.push_reserved-in-loop-place.ensures.items;
       fit = fit_more c.loop-place.chairs.items _ c.loop-place.posts.items _ chair post its.fit c.of-chair.ensures.fits c.push_reserved.ensures.items c.push_reserved-in-loop-place.ensures.items;
       chairs = omega (arith, ap length c.push_reserved.ensures.items, length-append c.loop-place.chairs.items (chair ∷ []), its.chairs);
       posts = omega (arith, ap length c.push_reserved-in-loop-place.ensures.items, length-append c.loop-place.posts.items (post ∷ []), its.posts);

@@ -13,7 +13,7 @@ returns c =
     (record { status = c.view_request-status.result; out = c.copy_out.result; err = c.copy_out-2.result }) c.copy_out.new.out c.copy_out-2.new.out = search rules in (
       c.view_request-status.new.out,
       c.view_request-status.new.err,
-      subst₂ (λ (written told : Stored). Views (λ place file answer. answer ≡ given_at (slice_get c.args.texts.now place)) (stream in_memory written c.view_request-status.new.out) (stream in_memory told c.view_request-status.new.err) c.args.request.now c.view_request-status.result)
-          c.new-written.ensures c.new-told.ensures c.view_request-status.ensures,
+      subst₂ (λ (written diagnostics : Stored). Views (λ place file answer. answer ≡ given_at (slice_get c.args.texts.now place)) (stream in_memory written c.view_request-status.new.out) (stream in_memory diagnostics c.view_request-status.new.err) c.args.request.now c.view_request-status.result)
+          c.new-written.ensures c.new-diagnostics.ensures c.view_request-status.ensures,
       copied,
     )

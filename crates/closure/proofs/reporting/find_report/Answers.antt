@@ -1,7 +1,7 @@
 use Rattle.std.proofs.Common.{◌≡◌, suc, List, map, take, All, ap, ◌∙◌, subst, add-one}
 use Rattle.chart.specs.declared.event.Event.{Event}
 use Rattle.chart.specs.Charts.{at, LineView, chart_lines}
-use Rattle.chart.specs.Order.{IsRaces}
+use Rattle.chart.specs.Order.{AreLineRaces}
 use Rattle.chart.specs.Ranges.{events_in}
 use Rattle.closure.proofs.KnowLemmas.{known_entry}
 use Rattle.closure.proofs.ReportLemmas.{IsReportIn-from_races}
@@ -17,8 +17,8 @@ returns-clause-report c =
     let s = at (suc receive.sender) receive.index in
     let found = events_in c.find_races.new.found.items in
     let xs = map (λ e. e.index) found in
-    let in_line = subst (λ (line : List Event). IsRaces (take receive.place line) c.value_at-entry.result c.at_place.result c.region-region.result xs) (ap (λ (l : LineView). l.events) c.as_growing.ensures ∙ c.line_of.ensures.events) c.find_races.ensures.races in
-    let races = subst (λ q. IsRaces (take receive.place (chart_lines lines (suc receive.line))) c.value_at-entry.result q c.region-region.result xs) c.at_place.ensures in_line in
+    let in_line = subst (λ (line : List Event). AreLineRaces (take receive.place line) c.value_at-entry.result c.at_place.result c.region-region.result xs) (ap (λ (l : LineView). l.events) c.as_growing.ensures ∙ c.line_of.ensures.events) c.find_races.ensures.races in
+    let races = subst (λ q. AreLineRaces (take receive.place (chart_lines lines (suc receive.line))) c.value_at-entry.result q c.region-region.result xs) c.at_place.ensures in_line in
     let own = subst (λ p. All (λ e. e.instance ≡ p) found) (ap (λ (l : LineView). l.instance) c.as_growing.ensures ∙ c.line_of.ensures.number) c.find_races.ensures.own in
     rw c.at_place-2.ensures (
       (suc receive.sender, sent.1.received),

@@ -30,5 +30,5 @@ returns-in_err-closure g c =
 pub returns : goal.returns
 returns g c =
     let draws = λ (turns : List ℕ) (ns : List (List ℕ)) (ls : List LineView). Draws g.W.Out.sink c.args.out.now c.draw_columns.new.out c.draw_columns.result c.args.wanted.now turns [] (ns, ls) in
-    let turned = subst (λ (turns : List ℕ). draws turns c.names-names.result.now c.in_ok-closure.closure) (c.as_slice.ensures.value ∙ c.in-Ok-turns_in.ensures) c.draw_columns.ensures in
-    subst₂ (λ (ns : List (List ℕ)) (ls : List LineView). draws (turns_in c.args.source.now) ns ls) c.names-names.ensures (c.in_ok-closure.ensures.closure ∙ c.chart.ensures.value) turned
+    let by_turns = subst (λ (turns : List ℕ). draws turns c.names-names.result.now c.in_ok-closure.closure) (c.as_slice.ensures.value ∙ c.in-Ok-turns_in.ensures) c.draw_columns.ensures in
+    subst₂ (λ (ns : List (List ℕ)) (ls : List LineView). draws (turns_in c.args.source.now) ns ls) c.names-names.ensures (c.in_ok-closure.ensures.closure ∙ c.chart.ensures.value) by_turns

@@ -2,13 +2,13 @@ use Rattle.std.proofs.Common.{ℕ, List, length, Ok, Err, sym, ◌∙◌, subst,
 use Rattle.std.proofs.lemmas.Result.{err_from_is_err_and}
 use Rattle.chart.specs.Charts.{LineView, chart_lines}
 use Rattle.closure.specs.Faults.{place_of}
-use Rattle.schedule_replay.specs.ReorderedRuns.Turns.{IsTurned}
+use Rattle.schedule_replay.specs.ReorderedRuns.Reorderings.{IsReordered}
 use Rattle.cmd_base.specs.Pairs.Pairs.{IsPair}
 use Rattle.cmd_explain_race.specs.Finding.{IsFoundOf}
-use Rattle.cmd_explain_race.specs.Turning.{IsAskedFor}
-use Rattle.cmd_explain_race.specs.Turning.Origin.{recorded}
+use Rattle.cmd_explain_race.specs.Reordering.{IsAskedFor}
+use Rattle.cmd_explain_race.specs.Reordering.Origin.{recorded}
 use Rattle.cmd_base.proofs.PairsLemmas.PairLemmas.{IsPair-from_words}
-use Rattle.cmd_explain_race.proofs.TurningLemmas.{found_from}
+use Rattle.cmd_explain_race.proofs.ReorderingLemmas.{found_from}
 use Rattle.cmd_explain_race.proofs.finding.found_in_run.Goals as goal
 
 pub returns-in_err-pair : goal.returns-in_err-pair
@@ -23,14 +23,14 @@ overtake_of_schedule-requires-clause-receive c =
     (subst (λ (l : List LineView). IsPair (chart_lines l) c.in_ok-pair.pair) (c.chart.ensures.value ∙ c.requires.chart)
     (IsPair-from_words c.names.result.now c.chart.result.now asked c.in_ok-pair.pair c.in_ok-pair.ensures.0)).receive
 
-pub found_of-requires-clause-turned : goal.found_of-requires-clause-turned
-found_of-requires-clause-turned c =
+pub found_of-requires-clause-reordered : goal.found_of-requires-clause-reordered
+found_of-requires-clause-reordered c =
     let pair = c.in_ok-pair.pair in
     let capacity = c.args.schedule.now.capacity in (
       capacity,
       omega (arith, c.slots.ensures.first, c.slots.ensures.value, c.capacity.ensures),
-      subst₂ (λ (ns : List (List ℕ)) (ls : List LineView). IsTurned (length ns) capacity (chart_lines ls) (place_of pair.earlier) (place_of pair.receive) c.in-Ok.turned)
-          (sym (c.names-2.ensures ∙ c.requires.names)) (sym (c.chart-2.ensures.value ∙ c.requires.chart)) c.in-Ok.ensures.turned,
+      subst₂ (λ (ns : List (List ℕ)) (ls : List LineView). IsReordered (length ns) capacity (chart_lines ls) (place_of pair.earlier) (place_of pair.receive) c.in-Ok.reordered)
+          (sym (c.names-2.ensures ∙ c.requires.names)) (sym (c.chart-2.ensures.value ∙ c.requires.chart)) c.in-Ok.ensures.reordered,
     )
 
 pub returns : goal.returns
@@ -39,9 +39,9 @@ returns c =
     let o = c.args.outcome.now in
     let plan = c.args.schedule.now in
     let pair = c.in_ok-pair.pair in
-    let turned = subst₂ (λ (ns : List (List ℕ)) (ls : List LineView). IsTurned (length ns) plan.capacity (chart_lines ls) (place_of pair.earlier) (place_of pair.receive) c.in-Ok.turned)
-    (sym (c.names-2.ensures ∙ c.requires.names)) (sym (c.chart-2.ensures.value ∙ c.requires.chart)) c.in-Ok.ensures.turned in
+    let reordered = subst₂ (λ (ns : List (List ℕ)) (ls : List LineView). IsReordered (length ns) plan.capacity (chart_lines ls) (place_of pair.earlier) (place_of pair.receive) c.in-Ok.reordered)
+    (sym (c.names-2.ensures ∙ c.requires.names)) (sym (c.chart-2.ensures.value ∙ c.requires.chart)) c.in-Ok.ensures.reordered in
     let found = subst₂ (λ (ns : List (List ℕ)) (ls : List LineView). IsFoundOf (ns, ls) (recorded plan) pair c.found_of.result) c.names-2.ensures c.chart-2.ensures.value
-    (c.found_of.ensures (recorded plan) (omega (arith, c.slots.ensures.first, c.slots.ensures.value, c.capacity.ensures)) turned c.in-Ok.ensures.order) in
+    (c.found_of.ensures (recorded plan) (omega (arith, c.slots.ensures.first, c.slots.ensures.value, c.capacity.ensures)) reordered c.in-Ok.ensures.order) in
     let is_asked = subst₂ (λ (ns : List (List ℕ)) (ls : List LineView). IsAskedFor (ns, ls) asked (Ok pair)) c.names.ensures c.chart.ensures.value c.in_ok-pair.ensures in
     found_from (o.names, o.chart) (recorded plan) asked pair c.found_of.result is_asked found

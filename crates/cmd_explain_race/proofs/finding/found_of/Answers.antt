@@ -1,7 +1,7 @@
 use Rattle.std.proofs.Common.{refl, arith}
 use Rattle.chart.specs.Charts.{chart_lines}
-use Rattle.cmd_explain_race.specs.Turning.{first_of}
-use Rattle.cmd_explain_race.proofs.TurningLemmas.{has_shown}
+use Rattle.cmd_explain_race.specs.Reordering.{first_of}
+use Rattle.cmd_explain_race.proofs.ReorderingLemmas.{has_shown}
 use Rattle.cmd_explain_race.proofs.finding.found_of.Goals as goal
 
 pub show-requires-clause-several : goal.show-requires-clause-several
@@ -9,4 +9,4 @@ show-requires-clause-several c = let several = c.lines-lines.ensures.chart.sever
 
 pub returns-in-Ok : goal.returns-in-Ok
 returns-in-Ok c origin begun is kept =
-    (refl, has_shown c.args.names.now c.args.chart.now origin c.args.pair.now c.args.turned.now c.in-Ok.shown kept c.in-Ok.ensures.steps (c.in-Ok.ensures.shown (first_of origin) (chart_lines c.args.chart.now) _ _ begun is))
+    (refl, has_shown c.args.names.now c.args.chart.now origin c.args.pair.now c.args.reordered.now c.in-Ok.shown kept c.in-Ok.ensures.steps (c.in-Ok.ensures.shown (first_of origin) (chart_lines c.args.chart.now) _ _ begun is))

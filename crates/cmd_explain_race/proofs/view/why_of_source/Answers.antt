@@ -9,5 +9,5 @@ returns g c = record {
   done = subst₂ (λ (ns : List (List ℕ)) (ls : List LineView). Explains g.W.Out.sink c.args.out.now c.why_in.new.out c.why_in.result (ns, ls) c.args.asked.now)
       c.names.ensures c.chart.ensures.value c.why_in.ensures;
   exits = c.answered.ensures.status;
-  tells = c.answered.ensures.told;
+  prints = c.answered.ensures.diagnostics;
 }

@@ -2,7 +2,7 @@ use Rattle.std.proofs.lemmas.Result.{err_from_is_err_and}
 use Rattle.cmd_base.specs.Texts.{named_of}
 use Rattle.cmd_explain_race.specs.Finding.{origin_of}
 use Rattle.cmd_base.proofs.PairsLemmas.PairLemmas.{IsPair-from_words}
-use Rattle.cmd_explain_race.proofs.TurningLemmas.{finds_so, finds_broken, finds_none, not_found}
+use Rattle.cmd_explain_race.proofs.ReorderingLemmas.{finds_so, finds_broken, finds_none, not_found}
 use Rattle.cmd_explain_race.proofs.witnessing.witness_of.Goals as goal
 
 pub returns-in_err-found : goal.returns-in_err-found

@@ -2,7 +2,7 @@ use Rattle.std.proofs.Common.{length, sym, ap, ◌∙◌, subst}
 use Rattle.log_chart.proofs.CyclesLemmas.SettleLemmas.{settled_streams}
 use Rattle.log_lines.specs.Names.Naming.{named_view}
 use Rattle.log_chart.specs.Entries.{HaveStreams}
-use Rattle.cmd_import_log.proofs.DrawingLemmas.{written_back, drawn_as, whole_as, up_to_as}
+use Rattle.cmd_import_log.proofs.DrawingLemmas.{written_back, built_as, whole_as, up_to_as}
 use Rattle.cmd_import_log.proofs.RefusalLemmas.{among_as}
 use Rattle.cmd_import_log.proofs.drawing.settled_of.Goals as goal
 
@@ -12,8 +12,8 @@ refusal-requires c = among_as c.in_ok-names.field-0.names c.len.result c.deref_m
 pub returns-clause-settled : goal.returns-clause-settled
 returns-clause-settled c =
     let entries = c.in_ok-names.field-0.entries in
-    drawn_as c.args.beside (named_view c.args.named.now) c.in_ok-names.field-0.names c.len.result c.deref_mut.result.now c.draw.new.log c.in-Ok.drawn c.in_ok-drawing.drawing c.len.ensures.value
-    c.in-Ok.ensures.drawn c.in_ok-drawing.ensures.told c.in_ok-drawing.ensures.chart _ (written_back entries.items c.draw.new.log entries.len entries.ok.0 (c.draw.auto.log ∙ ap length c.deref_mut.ensures.value))
+    built_as c.args.beside (named_view c.args.named.now) c.in_ok-names.field-0.names c.len.result c.deref_mut.result.now c.draw.new.log c.in-Ok.built c.in_ok-drawing.drawing c.len.ensures.value
+    c.in-Ok.ensures.built c.in_ok-drawing.ensures.diagnostics c.in_ok-drawing.ensures.chart _ (written_back entries.items c.draw.new.log entries.len entries.ok.0 (c.draw.auto.log ∙ ap length c.deref_mut.ensures.value))
     c.in_ok-names.ensures.names (c.deref_mut.ensures.value ∙ c.in_ok-names.ensures.entries) c.in_ok-names.ensures.faultless c.in-Ok.ensures.settled c.in-Ok.ensures.short c.in-Ok.ensures.possible
 
 pub returns-clause-streams : goal.returns-clause-streams
@@ -25,10 +25,10 @@ returns-clause-streams c =
 
 pub returns-clause-named : goal.returns-clause-named
 returns-clause-named c =
-    whole_as c.args.beside (named_view c.args.named.now) c.in_ok-names.field-0.names c.len.result c.deref_mut.result.now c.draw.new.log c.in-Ok.drawn c.in_ok-drawing.drawing c.len.ensures.value
-    c.in-Ok.ensures.drawn c.in_ok-drawing.ensures.told c.in_ok-drawing.ensures.chart
+    whole_as c.args.beside (named_view c.args.named.now) c.in_ok-names.field-0.names c.len.result c.deref_mut.result.now c.draw.new.log c.in-Ok.built c.in_ok-drawing.drawing c.len.ensures.value
+    c.in-Ok.ensures.built c.in_ok-drawing.ensures.diagnostics c.in_ok-drawing.ensures.chart
 
 pub returns-clause-invented : goal.returns-clause-invented
 returns-clause-invented c =
-    up_to_as c.args.beside (named_view c.args.named.now) c.in_ok-names.field-0.names c.len.result c.deref_mut.result.now c.draw.new.log c.in-Ok.drawn c.in_ok-drawing.drawing c.len.ensures.value
-    c.in-Ok.ensures.drawn c.in_ok-drawing.ensures.told c.in_ok-drawing.ensures.chart
+    up_to_as c.args.beside (named_view c.args.named.now) c.in_ok-names.field-0.names c.len.result c.deref_mut.result.now c.draw.new.log c.in-Ok.built c.in_ok-drawing.drawing c.len.ensures.value
+    c.in-Ok.ensures.built c.in_ok-drawing.ensures.diagnostics c.in_ok-drawing.ensures.chart

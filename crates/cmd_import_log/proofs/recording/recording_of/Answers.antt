@@ -1,18 +1,18 @@
 use Rattle.std.proofs.Common.{map, ◌∙◌, subst}
-use Rattle.log_lines.specs.Events.{said_view}
+use Rattle.log_lines.specs.Events.{logged_event_view}
 use Rattle.log_lines.specs.Names.Naming.{named_view}
-use Rattle.log_lines.specs.Takes.Telling.{ToldView}
+use Rattle.log_lines.specs.Takes.Observations.{ObservationsView}
 use Rattle.cmd_import_log.specs.Options.{options_view}
-use Rattle.cmd_import_log.specs.Recording.{told_of, IsRecorded}
+use Rattle.cmd_import_log.specs.Recording.{observed_of, IsRecorded}
 use Rattle.cmd_import_log.proofs.RecordingLemmas.{named_as}
 use Rattle.cmd_import_log.proofs.recording.recording_of.Goals as goal
 
 pub returns-clause-records : goal.returns-clause-records
 returns-clause-records c =
     let o = options_view c.args.options.now in
-    let said = map said_view c.args.said.now in
+    let logged = map logged_event_view c.args.logged.now in
     let settled = c.in_ok-settled.settled in
     let r = c.in_ok-recorded.field-0 in
-    named_as c.args.beside (named_view c.args.named.now) o said (told_of o.form o (map (λ text. text.now) c.args.texts.now)) r settled.entries.items settled.drawing c.in_ok-recorded.ensures.drawing
-    c.in_ok-settled.ensures.settled (subst (λ (t : ToldView). IsRecorded o said settled.entries.items t r) c.in_ok-told.ensures c.in_ok-recorded.ensures.recorded)
+    named_as c.args.beside (named_view c.args.named.now) o logged (observed_of o.form o (map (λ text. text.now) c.args.texts.now)) r settled.entries.items settled.drawing c.in_ok-recorded.ensures.drawing
+    c.in_ok-settled.ensures.settled (subst (λ (t : ObservationsView). IsRecorded o logged settled.entries.items t r) c.in_ok-observed.ensures c.in_ok-recorded.ensures.recorded)
     (c.in_ok-recorded.ensures.known ∙ c.is_known-is_known.ensures)

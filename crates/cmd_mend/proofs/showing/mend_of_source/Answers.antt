@@ -9,5 +9,5 @@ returns g c = record {
   done = subst₂ (λ (ns : List (List ℕ)) (ls : List LineView). Shows g.W.Out.sink c.args.out.now c.mend_in.new.out c.mend_in.result c.args.wanted.now (ns, ls))
       c.names.ensures c.chart.ensures.value c.mend_in.ensures;
   exits = c.answered.ensures.status;
-  tells = c.answered.ensures.told;
+  prints = c.answered.ensures.diagnostics;
 }

@@ -16,6 +16,6 @@ returns c =
       last = c.last_of.ensures;
       marks = c.in_ok-marks.ensures;
       line = c.in_ok-line.ensures ∙ ap (λ (l : List Event). title_text names l of) c.line_of-events.ensures;
-      answers = subst (λ (l : List Event). HasAnswers c.args.is_told c.args.file.bytes.now names l of (plus (length c.in_ok-marks.marks.before.items) (length c.in_ok-marks.marks.also.items)) answers) c.line_of-events.ensures
-          (subst (λ n. HasAnswers c.args.is_told c.args.file.bytes.now names c.line_of-events.result.now of n answers) c.above_rows-above.ensures c.in_ok-answers.ensures);
+      answers = subst (λ (l : List Event). HasAnswers c.args.is_explained c.args.file.bytes.now names l of (plus (length c.in_ok-marks.marks.before.items) (length c.in_ok-marks.marks.also.items)) answers) c.line_of-events.ensures
+          (subst (λ n. HasAnswers c.args.is_explained c.args.file.bytes.now names c.line_of-events.result.now of n answers) c.above_rows-above.ensures c.in_ok-answers.ensures);
     }

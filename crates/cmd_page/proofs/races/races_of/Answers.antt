@@ -11,5 +11,5 @@ loop-place-preserved c =
     let n = c.loop-place.place in
     let pair = c.index-pairs-place.result in
     let there = slice_get-get_or pairs n pair c.loop-place-test.true ∙ ap Some (sym c.index-pairs-place.is) in
-    subst (λ (xs : List Race). AreFirst c.args.file.bytes.now (c.args.names.now, c.args.closure.now) c.args.told pairs (n + 1) xs) (sym c.in_ok-push.ensures.items)
-    (races_next c.args.file.bytes.now (c.args.names.now, c.args.closure.now) c.args.told pairs n c.loop-place.races.items c.in_ok-race.race pair c.loop-place.invariant there c.in_ok-race.ensures)
+    subst (λ (xs : List Race). AreFirst c.args.file.bytes.now (c.args.names.now, c.args.closure.now) c.args.explained pairs (n + 1) xs) (sym c.in_ok-push.ensures.items)
+    (races_next c.args.file.bytes.now (c.args.names.now, c.args.closure.now) c.args.explained pairs n c.loop-place.races.items c.in_ok-race.race pair c.loop-place.invariant there c.in_ok-race.ensures)

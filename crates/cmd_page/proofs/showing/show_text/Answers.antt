@@ -18,8 +18,8 @@ returns-in_err-source g c =
     let p = err_from_is_err_and c.from_residual-in_err-source.result c.from_residual-in_err-source.ensures.1 in
     rw (p.1, p.2) (not_replayed (λ e. e) (λ source done. Shows g.W.Out.sink c.args.out.now c.args.out.now done c.args.bytes.now (heading_view c.args.heading.now) (named_of source)) c.args.out.now c.args.bytes.now c.in_err-source.field-0.0 c.in_err-source.ensures.memory)
 
-pub show_chart-requires-clause-said : goal.show_chart-requires-clause-said
-show_chart-requires-clause-said g c = (c.in_ok-text.text, c.in_ok-text.ensures, c.in_ok-source.ensures.source)
+pub show_chart-requires-clause-read_as : goal.show_chart-requires-clause-read_as
+show_chart-requires-clause-read_as g c = (c.in_ok-text.text, c.in_ok-text.ensures, c.in_ok-source.ensures.source)
 
 pub returns : goal.returns
 unfolding ShowsText

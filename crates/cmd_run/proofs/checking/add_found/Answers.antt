@@ -3,7 +3,7 @@ use Rattle.chart.specs.Charts.{LineView}
 use Rattle.chart.specs.Reports.{ReportView, AreReports, has_races}
 use Rattle.closure.specs.Reported.{HaveReported}
 use Rattle.texts.proofs.Writes.{buffers_nothing}
-use Rattle.cmd_run.proofs.FoundRaces.{adds_one, stops_at_one, has_one_more, none_told}
+use Rattle.cmd_run.proofs.FoundRaces.{adds_one, stops_at_one, has_one_more, vacuous}
 use Rattle.cmd_run.proofs.checking.add_found.Goals as goal
 
 pub loop-receive-init : goal.loop-receive-init
@@ -41,7 +41,7 @@ returns-in_err-add_report g c =
       (reports ++ found ∷ []) ++ whole.0,
       subst (λ (ls : List LineView). AreReports ls ((reports ++ found ∷ []) ++ whole.0)) (c.next.ensures.lines ∙ same) whole.1,
       stops_at_one c.args.names.now c.from_residual.result reports found whole.0 c.from_residual.ensures.0 so_far.2 (rw (← c.earlier-earlier.ensures.events) c.in_err-add_report.ensures),
-      none_told (λ has. has ≡ has_races ((reports ++ found ∷ []) ++ whole.0)) c.from_residual.result c.from_residual.ensures.0,
+      vacuous (λ has. has ≡ has_races ((reports ++ found ∷ []) ++ whole.0)) c.from_residual.result c.from_residual.ensures.0,
     )
 
 pub returns : goal.returns

@@ -2,7 +2,7 @@ use Rattle.std.proofs.Common.{◌≡◌, sym, ◌∙◌, subst}
 use Rattle.chart.specs.Reports.{has_races}
 use Rattle.msc_text.specs.RaceText.{races_text}
 use Rattle.texts.specs.Writing.{Wrote}
-use Rattle.cmd_run.proofs.FoundRaces.{wrote_failed, none_told}
+use Rattle.cmd_run.proofs.FoundRaces.{wrote_failed, vacuous}
 use Rattle.cmd_run.proofs.checking.write.Goals as goal
 
 pub returns-in_err-finish : goal.returns-in_err-finish
@@ -14,5 +14,5 @@ returns-in_err-finish g c =
       added.1,
       subst (λ end. Wrote g.W.Out.sink c.args.out.now end c.from_residual-in_err-finish.result (races_text c.args.names.now added.0)) (sym (c.out-2-1.given.1 same))
           (wrote_failed _ _ c.from_residual-in_err-finish.result failed c.new-text.ensures.out.1 c.new-text.ensures.empty added.2 c.in_err-finish.ensures.wrote),
-      none_told (λ has. has ≡ has_races added.0) c.from_residual-in_err-finish.result failed,
+      vacuous (λ has. has ≡ has_races added.0) c.from_residual-in_err-finish.result failed,
     )

@@ -2,31 +2,31 @@ use Rattle.std.proofs.Common.{◌≡◌, Ok, length, map, false, ap, sym, ◌∙
 use Rattle.std.proofs.lemmas.List.{length-map}
 use Rattle.diagrams.specs.Diagrams.{diagram_view, participant_view}
 use Rattle.diagrams.specs.Drawing.{has_no_chart}
-use Rattle.diagrams.proofs.DrawnLemmas.{has_chart}
-use Rattle.diagram_join.specs.Drawing.{joined_drawn_view}
+use Rattle.diagrams.proofs.ChartBuildLemmas.{has_chart}
+use Rattle.diagram_join.specs.Drawing.{joined_chart_view}
 use Rattle.diagram_join.specs.Joined.{joined_view}
 use Rattle.diagram_join.specs.Joins.{join_view}
 use Rattle.diagram_join.proofs.DrawingLemmas.{as_many_names, draw_steps}
-use Rattle.diagram_join.proofs.PossibleLemmas.{rows_drawn, several_joined}
+use Rattle.diagram_join.proofs.PossibleLemmas.{rows_built, several_joined}
 use Rattle.diagram_join.proofs.drawing.draw_with.Goals as goal
 
 pub names_of-requires : goal.names_of-requires
 names_of-requires c = omega (arith, c.len.ensures, c.deref.ensures.len, (has_chart c.len.result (sym c.has_no_chart.ensures ∙ c.if-has_no_chart.false)).1)
 
-pub joined_drawn_of-requires-clause-several : goal.joined_drawn_of-requires-clause-several
-joined_drawn_of-requires-clause-several c = several_joined _ _ (joined_view c.in_ok-joined.joined) c.in_ok-check.ensures
+pub joined_chart_of-requires-clause-several : goal.joined_chart_of-requires-clause-several
+joined_chart_of-requires-clause-several c = several_joined _ _ (joined_view c.in_ok-joined.joined) c.in_ok-check.ensures
 
-pub joined_drawn_of-requires-clause-drawn : goal.joined_drawn_of-requires-clause-drawn
-joined_drawn_of-requires-clause-drawn c =
+pub joined_chart_of-requires-clause-built : goal.joined_chart_of-requires-clause-built
+joined_chart_of-requires-clause-built c =
     let d = diagram_view c.args.diagram in
     let collected = rw c.deref-2.ensures.value at c.in_ok-collect.ensures in
     let parts = c.into_parts-messages.ensures in
     let joined = rw (c.deref-3.ensures.value, c.deref-4.ensures.value, parts.messages, parts.left_out) at c.in_ok-joined.ensures in
     let checked = rw (c.deref-5.ensures.value, parts.messages, parts.fault) at c.in_ok-check.ensures in
-    rw c.deref-7.ensures.value (rows_drawn d.participants d.items c.in_ok-lines.lines (map join_view c.args.joins.now) d.left_out c.in_ok-collect.field-0 (joined_view c.in_ok-joined.joined) collected joined checked)
+    rw c.deref-7.ensures.value (rows_built d.participants d.items c.in_ok-lines.lines (map join_view c.args.joins.now) d.left_out c.in_ok-collect.field-0 (joined_view c.in_ok-joined.joined) collected joined checked)
 
-pub returns-clause-drawn : goal.returns-clause-drawn
-returns-clause-drawn c =
+pub returns-clause-built : goal.returns-clause-built
+returns-clause-built c =
     let d = diagram_view c.args.diagram in
     let count : c.len.result ≡ length d.participants =
     c.len.ensures ∙ sym c.deref.ensures.len ∙ ap length c.deref.ensures.value ∙ sym (length-map c.args.diagram.participants.items participant_view) in
@@ -36,9 +36,9 @@ returns-clause-drawn c =
     let parts = c.into_parts-messages.ensures in
     let joined = rw (c.deref-3.ensures.value, c.deref-4.ensures.value, parts.messages, parts.left_out) at c.in_ok-joined.ensures in
     let checked = rw (c.deref-5.ensures.value, parts.messages, parts.fault) at c.in_ok-check.ensures in
-    let drawn = rw (c.deref-6.ensures.value, c.deref-7.ensures.value) at c.in_ok-drawn.ensures.drawn in
+    let built = rw (c.deref-6.ensures.value, c.deref-7.ensures.value) at c.in_ok-built.ensures.built in
     draw_steps d (map join_view c.args.joins.now) c.in_ok-lines.lines c.in_ok-collect.field-0 (joined_view c.in_ok-joined.joined) several names collected joined checked
-    ∙ ap Ok (sym drawn)
+    ∙ ap Ok (sym built)
 
 pub returns-clause-named : goal.returns-clause-named
-returns-clause-named c = as_many_names (joined_drawn_view c.in_ok-drawn.drawn) _ _ _ _ c.in_ok-drawn.ensures.drawn
+returns-clause-named c = as_many_names (joined_chart_view c.in_ok-built.built) _ _ _ _ c.in_ok-built.ensures.built

@@ -17,8 +17,8 @@ unwrap-requires c =
     c.in_ok-bytes.ensures.items ∙ c.front-front.ensures ∙ ap (λ k. take k c.as_bytes.result.now) room ∙ ap (λ w. take (MAX_NAME - length (suffix c.args.number)) w) c.as_bytes.ensures.value in
     let bytes : c.as_slice.result.now ≡ numbered word c.args.number =
     c.as_slice.ensures.value ∙ c.in_ok-extend_from_slice.ensures.items ∙ rw (c.in_ok-push.ensures.items, digits, cut) (append_assoc (take (MAX_NAME - length (suffix c.args.number)) word) (95 ∷ []) (decimal c.args.number)) in
-    let told = c.new.ensures ∙ ap name_of bytes ∙ numbered_is_name word c.args.number (name_is_word word (search rules)) (search rules) in
-    rw told refl
+    let renames = c.new.ensures ∙ ap name_of bytes ∙ numbered_is_name word c.args.number (name_is_word word (search rules)) (search rules) in
+    rw renames refl
 
 pub returns : goal.returns
 unfolding numbered
@@ -30,5 +30,5 @@ returns c =
     c.in_ok-bytes.ensures.items ∙ c.front-front.ensures ∙ ap (λ k. take k c.as_bytes.result.now) room ∙ ap (λ w. take (MAX_NAME - length (suffix c.args.number)) w) c.as_bytes.ensures.value in
     let bytes : c.as_slice.result.now ≡ numbered word c.args.number =
     c.as_slice.ensures.value ∙ c.in_ok-extend_from_slice.ensures.items ∙ rw (c.in_ok-push.ensures.items, digits, cut) (append_assoc (take (MAX_NAME - length (suffix c.args.number)) word) (95 ∷ []) (decimal c.args.number)) in
-    let told = c.new.ensures ∙ ap name_of bytes ∙ numbered_is_name word c.args.number (name_is_word word (search rules)) (search rules) in
+    let renames = c.new.ensures ∙ ap name_of bytes ∙ numbered_is_name word c.args.number (name_is_word word (search rules)) (search rules) in
     search rules

@@ -12,12 +12,12 @@ pub unwrap-requires : goal.unwrap-requires
 unfolding spelled
 unwrap-requires c =
     let bytes = c.as_slice.ensures.value ∙ c.in_ok-bytes.ensures ∙ ap shortened (c.in_ok-unreserved.ensures ∙ ap unreserved (c.in_ok-fronted.ensures ∙ ap fronted c.in_ok-joined.ensures)) in
-    let told = c.new.ensures ∙ ap name_of bytes ∙ spelled_is_name c.args.label.now in
-    rw told refl
+    let renames = c.new.ensures ∙ ap name_of bytes ∙ spelled_is_name c.args.label.now in
+    rw renames refl
 
 pub returns : goal.returns
 unfolding spelled
 returns c =
     let bytes = c.as_slice.ensures.value ∙ c.in_ok-bytes.ensures ∙ ap shortened (c.in_ok-unreserved.ensures ∙ ap unreserved (c.in_ok-fronted.ensures ∙ ap fronted c.in_ok-joined.ensures)) in
-    let told = c.new.ensures ∙ ap name_of bytes ∙ spelled_is_name c.args.label.now in
+    let renames = c.new.ensures ∙ ap name_of bytes ∙ spelled_is_name c.args.label.now in
     search rules

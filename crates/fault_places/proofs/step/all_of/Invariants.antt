@@ -1,5 +1,5 @@
 use Rattle.std.proofs.Common.{◌≡◌, map, take}
-use Rattle.fault_places.specs.ToldCircles.{step_of}
+use Rattle.fault_places.specs.NamedCycles.{step_of}
 use Rattle.fault_places.proofs.step.all_of.Given as goal
 
 abbrev pub invariant-loop-link : goal.invariant-loop-link

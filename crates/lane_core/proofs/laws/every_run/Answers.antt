@@ -1,5 +1,5 @@
 use Rattle.lane_core.proofs.IndexLaws as Index
-use Rattle.lane_core.proofs.SlotLaws as Slot
+use Rattle.lane_core.proofs.FlagLaws as Slot
 use Rattle.lane_core.proofs.laws.every_run.Goals as goal
 
 pub returns-clause-index_in_order : goal.returns-clause-index_in_order

@@ -5,7 +5,7 @@ use Rattle.log_lines.proofs.plain_reading.add_text.Given as goal
 
 abbrev pub invariant-lines : goal.invariant-lines
 invariant-lines l = record {
-  said : with_lines plain_line l.range l.text l.number (all_lines l.rest) (read_view l.read) ≡ with_lines plain_line l.range l.text 1 (all_lines l.bytes) (read_view l.initial.read);
+  logged : with_lines plain_line l.range l.text l.number (all_lines l.rest) (read_view l.read) ≡ with_lines plain_line l.range l.text 1 (all_lines l.bytes) (read_view l.initial.read);
   number : l.number + length l.rest ≤ 1 + length l.bytes;
 }
 

@@ -6,7 +6,7 @@ use Rattle.log_lines.proofs.shiviz.add_text.Given as goal
 
 abbrev pub invariant-lines : goal.invariant-lines
 invariant-lines l = record {
-  said : with_windows shiviz_step l.range l.text l.number l.taken (all_lines l.rest) (read_view l.read)
+  logged : with_windows shiviz_step l.range l.text l.number l.taken (all_lines l.rest) (read_view l.read)
       ≡ with_windows shiviz_step l.range l.text 1 0 (all_lines l.bytes) (read_view l.initial.read);
   number : l.number + length l.rest ≤ 1 + length l.bytes;
 }

@@ -1,5 +1,5 @@
 use Rattle.std.specs.Prelude.{option_map}
-use Rattle.mscview_requests.proofs.WordsLemmas.SaidLemmas.{says_so}
+use Rattle.mscview_requests.proofs.WordsLemmas.ReadLemmas.{says_so}
 use Rattle.mscview_requests.specs.Wanted.{IsMend}
 use Rattle.mscview_requests.proofs.mends.wanted_by.Goals as goal
 

@@ -1,9 +1,9 @@
 use Rattle.std.proofs.Common.{ℕ, List, Bor, ap, ◌∙◌, sym, subst, subst₂, map}
 use Rattle.cmd_base.specs.Answers.{Answers}
 use Rattle.cmd_import_log.specs.Options.{options_view}
-use Rattle.cmd_races.specs.Logs.Showing.{ShowsLog, races_said}
+use Rattle.cmd_races.specs.Logs.Showing.{ShowsLog, races_exit}
 use Rattle.mscview_requests.specs.FileBytes.{bytes_of}
-use Rattle.mscview_requests.specs.Given.{AreGiven, files_said}
+use Rattle.mscview_requests.specs.Given.{AreGiven, files_named}
 use Rattle.mscview_requests.specs.Wanted.{IsLog}
 use Rattle.mscview_requests.proofs.recorded.view_log_races.Goals as goal
 
@@ -12,13 +12,13 @@ returns g c = let opened = c.in_ok-log.ensures in (
   options_view c.options_of-options.result,
   map (λ t. t.now) c.in-Ok.slices.items,
   subst (λ o. IsLog c.args.asked.now.log o) (sym c.options_of-options.ensures) opened.words,
-  subst (AreGiven (g.G.Giver.gives c.args.giver.now) 0 (files_said (map (λ w. w.now) c.args.asked.now.log.files.items))) (sym (c.in-Ok.ensures ∙ ap (map bytes_of) c.deref.ensures.value)) opened.texts,
+  subst (AreGiven (g.G.Giver.gives c.args.giver.now) 0 (files_named (map (λ w. w.now) c.args.asked.now.log.files.items))) (sym (c.in-Ok.ensures ∙ ap (map bytes_of) c.deref.ensures.value)) opened.texts,
   (
     c.judged_by-wanted.result,
     map (λ w. w.now) c.in_ok-log.log.names.items,
     c.judged_by-wanted.ensures,
     opened.names,
-    subst₂ (λ (ts ns : List (Bor (List ℕ))). Answers (ShowsLog g.W.Out.sink c.args.out.now c.races_of_log.new.out (options_view c.options_of-options.result) (map (λ w. w.now) ts) c.judged_by-wanted.result) (races_said (map (λ w. w.now) ns)) g.V.Out.sink c.args.err.now c.races_of_log.new.err c.races_of_log.result)
+    subst₂ (λ (ts ns : List (Bor (List ℕ))). Answers (ShowsLog g.W.Out.sink c.args.out.now c.races_of_log.new.out (options_view c.options_of-options.result) (map (λ w. w.now) ts) c.judged_by-wanted.result) (races_exit (map (λ w. w.now) ns)) g.V.Out.sink c.args.err.now c.races_of_log.new.err c.races_of_log.result)
         c.deref-3.ensures.value c.deref-4.ensures.value c.races_of_log.ensures,
   ),
 )

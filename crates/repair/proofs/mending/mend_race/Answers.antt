@@ -7,7 +7,7 @@ use Rattle.closure.specs.Faults.{place_of}
 use Rattle.repair.specs.Messages.{EndsBehind}
 use Rattle.repair.specs.Crossings.{IsFirstAfter, IsBeforeNone}
 use Rattle.repair.specs.Mends.{IsAsked}
-use Rattle.repair.proofs.TellLemmas.{two_lines, send_event_at, none_crossed, none_waiting, can_be_told}
+use Rattle.repair.proofs.InformLemmas.{two_lines, send_event_at, none_crossed, none_waiting, can_be_informed}
 use Rattle.repair.proofs.mending.mend_race.Goals as goal
 
 pub first_after-requires-clause-other : goal.first_after-requires-clause-other
@@ -79,8 +79,8 @@ returns-then-passed-sends_among-clause-ok c =
       none = none_waiting lines c.requires.possible e r s k asked (omega (arith, passed, sent, c.if-passed-sends_among.true));
     }
 
-pub told-requires-clause-asked : goal.told-requires-clause-asked
-told-requires-clause-asked c =
+pub informed-requires-clause-asked : goal.informed-requires-clause-asked
+informed-requires-clause-asked c =
     let lines = c.args.closure.now in
     let d = chart_lines lines in
     let e = place_of c.args.earlier.now in
@@ -93,4 +93,4 @@ told-requires-clause-asked c =
     let none = subst (λ o. MatchOption o (IsBeforeNone d s e.instance k) (λ index. (index ≤ k) × IsFirstAfter d s e.instance index)) c.in-None.is c.in-Ok.ensures in
     let passed : c.receives_among-passed.result ≡ tally (is_receive_from e.instance) (d s.instance) s.index = c.receives_among-passed.ensures ∙ ap (λ l. tally (is_receive_from e.instance) l s.index) theirs in
     let sent : c.sends_among.result ≡ tally (is_send_to s.instance) (d e.instance) k = c.sends_among.ensures ∙ ap (λ l. tally (is_send_to s.instance) l k) line in
-    (s, k, asked, can_be_told lines c.requires.possible e r s k asked none (omega (arith, passed, sent, c.if-passed-sends_among.false)), refl)
+    (s, k, asked, can_be_informed lines c.requires.possible e r s k asked none (omega (arith, passed, sent, c.if-passed-sends_among.false)), refl)

@@ -54,5 +54,5 @@ unreachable-requires g c =
     let empty : into_iter_items at.script-iterator ≡ [] = nothing_left _ (sym at.invariant.left ∙ c.in-None.ensures.steps.0) in
     let all : at.yielded ≡ scripts_of c.args.schedule.now = sym (append-nil at.yielded) ∙ rw empty at at.invariant.all ∙ c.into_iter-script-iterator.ensures.into_iter_gives.0 ∙ c.in_ok-own_scripts.ensures in
     let hold : AreHeld at.behaviours.items (scripts_of c.args.schedule.now) = subst (λ (scripts : List ScriptView). AreHeld at.behaviours.items scripts) all at.invariant.held in
-    let unrun = rw c.in-Err-Unfit.field-0-is at c.in-Err-Unfit.ensures.err in
+    let unrun = rw c.in-Err-InvalidInput.field-0-is at c.in-Err-InvalidInput.ensures.err in
     fit_alone c.args.schedule.now (length at.behaviours.items) c.args.turns (AreHeld-many at.behaviours.items _ hold ∙ length-scripts c.args.schedule.now) c.requires unrun.2

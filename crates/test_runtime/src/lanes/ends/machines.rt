@@ -1,6 +1,6 @@
 //! Both forms over plain words and slots, and the plain queue that they are compared with.
 use lane_core::answers::{Found, ReceiverStep, Room, SenderStep};
-use lane_core::{index_words, slot_words};
+use lane_core::{flag_words, index_words};
 
 /// A step of an end, as a run of the lane machine has it.
 #[derive(Clone, Copy, Debug, PartialEq, Eq)]
@@ -150,14 +150,14 @@ impl Machine for IndexLane {
 
 /// Over slot words.
 #[derive(Clone, Copy, Debug, PartialEq, Eq)]
-pub struct SlotLane {
-    pub words: [slot_words::Word; 64],
+pub struct FlagLane {
+    pub words: [flag_words::Word; 64],
     pub slots: [Option<u32>; 64],
-    pub sender: slot_words::SenderEnd,
-    pub receiver: slot_words::ReceiverEnd,
+    pub sender: flag_words::SenderEnd,
+    pub receiver: flag_words::ReceiverEnd,
 }
 
-impl SlotLane {
+impl FlagLane {
     fn step_of_sender(&mut self, step: Step) -> Shown {
         if !self.sender.fits() {
             return Shown::Refused;
@@ -213,13 +213,13 @@ impl SlotLane {
     }
 }
 
-impl Machine for SlotLane {
-    fn new(capacity: u64) -> SlotLane {
-        SlotLane {
-            words: [slot_words::Word::new(); 64],
+impl Machine for FlagLane {
+    fn new(capacity: u64) -> FlagLane {
+        FlagLane {
+            words: [flag_words::Word::new(); 64],
             slots: [None; 64],
-            sender: slot_words::SenderEnd::new(capacity),
-            receiver: slot_words::ReceiverEnd::new(capacity),
+            sender: flag_words::SenderEnd::new(capacity),
+            receiver: flag_words::ReceiverEnd::new(capacity),
         }
     }
 

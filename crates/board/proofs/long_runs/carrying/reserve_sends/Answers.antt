@@ -40,8 +40,8 @@ loop-place-preserved c =
     let was : slice_get c.args.posts.now i ≡ Some first = sym (c.loop-place.invariant.others i (omega arith)) ∙ at_first in
     let place = c.place_on_board.result in
     let among : place < length sends = omega (arith, c.place_on_board.ensures.among, c.requires.sized i first was) in
-    let told : slice_get sends place ≡ Some (get_or sends place 0) = slice_get-get_or sends place 0 among in
-    reserved_next sends c.args.posts.now now i r c.reserve.new.self place (get_or sends place 0) c.loop-place.invariant at (ap (λ (x : PostView). x.number) same ∙ c.place_on_board.ensures.number) told c.in_ok-reserve.ensures.ok
+    let counted : slice_get sends place ≡ Some (get_or sends place 0) = slice_get-get_or sends place 0 among in
+    reserved_next sends c.args.posts.now now i r c.reserve.new.self place (get_or sends place 0) c.loop-place.invariant at (ap (λ (x : PostView). x.number) same ∙ c.place_on_board.ensures.number) counted c.in_ok-reserve.ensures.ok
 
 pub returns-clause-more : goal.returns-clause-more
 returns-clause-more c = reserved_room c.args.sends.now c.args.posts.now c.loop-place.posts c.loop-place.place c.loop-place.invariant

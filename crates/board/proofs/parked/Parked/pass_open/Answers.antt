@@ -16,7 +16,7 @@ returns-then-not-finds_nothing-clause-sound c = sound-onward _ _ _ c.loop.invari
 pub returns-then-not-finds_nothing-clause-open : goal.returns-then-not-finds_nothing-clause-open
 returns-then-not-finds_nothing-clause-open c =
     let passed = c.loop.invariant.passed in
-    (c.loop.self, passed.sound, passed.glanced, c.finds_nothing.ensures.sound, c.finds_nothing.ensures.stays, λ all. absurd (omega (arith, all, c.loop.invariant.so_far, c.loop-test.true, c.loop-place-test.true)))
+    (c.loop.self, passed.sound, passed.peeked, c.finds_nothing.ensures.sound, c.finds_nothing.ensures.stays, λ all. absurd (omega (arith, all, c.loop.invariant.so_far, c.loop-test.true, c.loop-place-test.true)))
 
 pub loop-preserved : goal.loop-preserved
 loop-preserved c =
@@ -43,7 +43,7 @@ returns-then-not-finds_nothing-2-clause-sound c = sound-onward _ _ _ c.loop-plac
 pub returns-then-not-finds_nothing-2-clause-open : goal.returns-then-not-finds_nothing-2-clause-open
 returns-then-not-finds_nothing-2-clause-open c =
     let passed = c.loop-place-2.invariant.passed in
-    (c.loop-place-2.self, passed.sound, passed.glanced, c.finds_nothing-in-loop-place-2.ensures.sound, c.finds_nothing-in-loop-place-2.ensures.stays, λ all. absurd (omega (arith, all, c.loop-place-2-test.true)))
+    (c.loop-place-2.self, passed.sound, passed.peeked, c.finds_nothing-in-loop-place-2.ensures.sound, c.finds_nothing-in-loop-place-2.ensures.stays, λ all. absurd (omega (arith, all, c.loop-place-2-test.true)))
 
 pub loop-place-2-preserved : goal.loop-place-2-preserved
 loop-place-2-preserved c =
@@ -57,4 +57,4 @@ loop-place-2-preserved c =
 pub returns-clause-open : goal.returns-clause-open
 returns-clause-open c =
     let passed = c.loop-place-2.invariant.passed in
-    (c.loop-place-2.self, passed.sound, passed.glanced, sound-again _ _ passed.sound, stays-again c.loop-place-2.self, λ all. refl)
+    (c.loop-place-2.self, passed.sound, passed.peeked, sound-again _ _ passed.sound, stays-again c.loop-place-2.self, λ all. refl)

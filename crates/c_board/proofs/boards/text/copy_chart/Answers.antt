@@ -28,7 +28,7 @@ returns-in-Some c =
       each = length-words c.args.names.now c.args.lengths.now ∙ c.if-lengths-lines.false ∙ ap length c.lines.ensures.value;
       distinct = subst AreNames same c.len.ensures.names;
       are_names = c.in_ok-names.ensures.1;
-      told = c.copy_out.ensures.all ∙ ap length text;
+      output = c.copy_out.ensures.all ∙ ap length text;
       copied = c.copy_out.ensures.copied ∙ ap (λ (bytes : List ℕ). put_over bytes c.args.out.now) text;
     }
 

@@ -1,4 +1,4 @@
 use Rattle.cmd_draw.proofs.witness.drawing.draw_witness.Goals as goal
 
 pub returns : goal.returns
-returns g c = record { result = c.draw_text.result; done = c.draw_text.ensures; exits = c.answered.ensures.status; tells = c.answered.ensures.told }
+returns g c = record { result = c.draw_text.result; done = c.draw_text.ensures; exits = c.answered.ensures.status; prints = c.answered.ensures.diagnostics }

@@ -14,8 +14,8 @@ returns-in-Ok-show_drawn g c =
     let headed = λ (heading : HeadingView) (ns : List (List ℕ)) (ls : List LineView). ShowsText g.W.Out.sink c.args.out.now c.show_drawn.new.out heading (chart_text ns ls) (Ok tt) in
     let shows = λ (turns : List ℕ). headed (record { title = c.args.title.now; turns = Some turns }) in
     let titled = subst (λ (heading : HeadingView). headed heading c.in-Ok.drawing.names c.in-Ok.drawing.chart) c.heading_of-heading.ensures c.in-Ok-show_drawn.ensures in
-    let turned = subst (λ (turns : List ℕ). shows turns c.in-Ok.drawing.names c.in-Ok.drawing.chart) (c.as_slice.ensures.value ∙ c.in-Ok-turns_of_text.ensures) titled in
-    (r.0, r.1, r.2, subst₂ (shows (turns_of_text c.args.tool c.args.text.now (options_view c.args.options))) r.3 r.4 turned)
+    let by_turns = subst (λ (turns : List ℕ). shows turns c.in-Ok.drawing.names c.in-Ok.drawing.chart) (c.as_slice.ensures.value ∙ c.in-Ok-turns_of_text.ensures) titled in
+    (r.0, r.1, r.2, subst₂ (shows (turns_of_text c.args.tool c.args.text.now (options_view c.args.options))) r.3 r.4 by_turns)
 
 pub returns-in-Err-show_drawn : goal.returns-in-Err-show_drawn
 unfolding ShowsDrawing
@@ -24,5 +24,5 @@ returns-in-Err-show_drawn g c =
     let headed = λ (heading : HeadingView) (ns : List (List ℕ)) (ls : List LineView). ShowsText g.W.Out.sink c.args.out.now c.show_drawn.new.out heading (chart_text ns ls) (Err c.in-Err-show_drawn.error) in
     let shows = λ (turns : List ℕ). headed (record { title = c.args.title.now; turns = Some turns }) in
     let titled = subst (λ (heading : HeadingView). headed heading c.in-Ok.drawing.names c.in-Ok.drawing.chart) c.heading_of-heading.ensures c.in-Err-show_drawn.ensures in
-    let turned = subst (λ (turns : List ℕ). shows turns c.in-Ok.drawing.names c.in-Ok.drawing.chart) (c.as_slice.ensures.value ∙ c.in-Ok-turns_of_text.ensures) titled in
-    (r.0, r.1, subst₂ (shows (turns_of_text c.args.tool c.args.text.now (options_view c.args.options))) r.3 r.4 turned)
+    let by_turns = subst (λ (turns : List ℕ). shows turns c.in-Ok.drawing.names c.in-Ok.drawing.chart) (c.as_slice.ensures.value ∙ c.in-Ok-turns_of_text.ensures) titled in
+    (r.0, r.1, subst₂ (shows (turns_of_text c.args.tool c.args.text.now (options_view c.args.options))) r.3 r.4 by_turns)

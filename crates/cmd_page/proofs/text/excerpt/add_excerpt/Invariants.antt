@@ -6,7 +6,7 @@ use Rattle.cmd_page.proofs.text.excerpt.add_excerpt.Given as goal
 
 -- the lines so far were added, and what is left is the rest
 abbrev pub invariant-lines : goal.invariant-lines
-invariant-lines g l = HasCome g.W.Out.sink l.initial.text l.text (lines_text l.excerpt l.number l.is_told (lines_of l.rest)) (excerpt_text l.excerpt)
+invariant-lines g l = HasCome g.W.Out.sink l.initial.text l.text (lines_text l.excerpt l.number l.follows_gap (lines_of l.rest)) (excerpt_text l.excerpt)
 
 abbrev pub decreases-lines : goal.decreases-lines
 decreases-lines g l = length l.rest

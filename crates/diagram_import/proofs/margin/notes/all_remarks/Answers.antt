@@ -1,7 +1,7 @@
 use Rattle.std.proofs.Common.{length, map, ap, arith}
 use Rattle.std.proofs.lemmas.List.{length-map}
 use Rattle.diagrams.specs.Diagrams.{participant_view}
-use Rattle.diagrams.proofs.DrawnLemmas.{has_chart}
+use Rattle.diagrams.proofs.ChartBuildLemmas.{has_chart}
 use Rattle.diagram_import.proofs.margin.notes.all_remarks.Goals as goal
 
 pub own_remarks-requires : goal.own_remarks-requires

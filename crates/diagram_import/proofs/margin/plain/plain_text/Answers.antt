@@ -4,7 +4,7 @@ use Rattle.diagram_import.proofs.MarginLemmas.Loops.{plain_more, plain_end}
 use Rattle.diagram_import.proofs.margin.plain.plain_text.Goals as goal
 
 pub loop-byte-preserved : goal.loop-byte-preserved
-loop-byte-preserved c = plain_more c.loop-byte.escaped _ c.loop-byte.byte-index c.args.raw.now c.loop-byte.said.items _ c.loop-byte-test.true c.in_ok-add_byte.ensures c.waits-escaped.ensures ∙ c.loop-byte.invariant
+loop-byte-preserved c = plain_more c.loop-byte.escaped _ c.loop-byte.byte-index c.args.raw.now c.loop-byte.element.items _ c.loop-byte-test.true c.in_ok-add_byte.ensures c.waits-escaped.ensures ∙ c.loop-byte.invariant
 
 pub returns : goal.returns
 unfolding plain_text

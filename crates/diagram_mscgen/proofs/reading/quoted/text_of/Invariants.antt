@@ -4,4 +4,4 @@ use Rattle.diagram_mscgen.specs.declared.reading.quoted.Mode.TheVariants.{Plain}
 use Rattle.diagram_mscgen.proofs.reading.quoted.text_of.Given as goal
 
 abbrev pub invariant-loop-byte : goal.invariant-loop-byte
-invariant-loop-byte l = l.said.items ++ text_from l.mode (drop l.byte-index l.raw) ≡ text_from Plain l.raw
+invariant-loop-byte l = l.read.items ++ text_from l.mode (drop l.byte-index l.raw) ≡ text_from Plain l.raw

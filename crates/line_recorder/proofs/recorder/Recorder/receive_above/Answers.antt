@@ -2,7 +2,7 @@ use Rattle.std.proofs.Common.{◌≡◌, ◌+◌, ◌<◌, ℕ, List, length, ma
 use Rattle.std.specs.Prelude.{All}
 use Rattle.chart.specs.declared.instance.EventNo.{EventNo}
 use Rattle.chart.specs.declared.line.TheConstants.{MAX_EVENTS}
-use Rattle.chart.specs.Order.{IsRaces}
+use Rattle.chart.specs.Order.{AreLineRaces}
 use Rattle.chart.specs.Reports.{ReportView}
 use Rattle.line_recorder.specs.Recorders.{RecorderView, IsReportAbove}
 use Rattle.line_recorder.specs.Kept.{IsOfLine}
@@ -18,7 +18,7 @@ keep-requires-clause-line c =
     let earlier = ap (λ (x : ReportView). x.earlier) c.new-report.ensures in
     let made : IsReportAbove r c.args.from c.args.region c.args.entry report = record {
       receive = ap (λ (x : ReportView). x.receive) c.new-report.ensures ∙ ap₂ (λ (p i : ℕ). record { instance = p; index = i + 1 }) c.instance.ensures c.len-2.ensures.value;
-      races = subst (λ (es : List EventNo). IsRaces line.events c.args.entry c.args.from c.args.region (map (λ race. race.index) es)) (sym earlier) c.in_ok-earlier.ensures.races;
+      races = subst (λ (es : List EventNo). AreLineRaces line.events c.args.entry c.args.from c.args.region (map (λ race. race.index) es)) (sym earlier) c.in_ok-earlier.ensures.races;
       own = subst (All (λ (race : EventNo). race.instance ≡ line.instance)) (sym earlier) c.in_ok-earlier.ensures.own;
     } in
     let short : length line.events < MAX_EVENTS = omega (arith, c.if-len-ge-MAX_EVENTS.false, c.len.ensures.value) in

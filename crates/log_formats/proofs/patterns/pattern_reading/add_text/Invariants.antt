@@ -9,7 +9,7 @@ use Rattle.log_formats.proofs.patterns.pattern_reading.add_text.Given as goal
 
 abbrev pub invariant-lines : goal.invariant-lines
 invariant-lines l = record {
-  said : with_windows (pattern_step l.initial.search.groups l.initial.search.more (matcher_pattern l.initial.search.matcher)) l.range l.text l.number l.taken (all_lines l.rest) (read_view l.read)
+  logged : with_windows (pattern_step l.initial.search.groups l.initial.search.more (matcher_pattern l.initial.search.matcher)) l.range l.text l.number l.taken (all_lines l.rest) (read_view l.read)
       ≡ with_windows (pattern_step l.initial.search.groups l.initial.search.more (matcher_pattern l.initial.search.matcher)) l.range l.text 1 0 (all_lines l.bytes) (read_view l.initial.read);
   number : l.number + length l.rest ≤ 1 + length l.bytes;
   pattern : matcher_pattern l.search.matcher ≡ matcher_pattern l.initial.search.matcher;

@@ -9,7 +9,7 @@ use Rattle.log_formats.proofs.patterns.pattern_reading.read_by.Given as goal
 
 abbrev pub invariant-loop-number : goal.invariant-loop-number
 invariant-loop-number l = record {
-  said : with_window_texts (pattern_step l.fn.expression.groups l.fn.expression.more (regex_pattern l.fn.expression.regex)) l.range l.number (map (λ text. text.now) (drop l.number l.texts)) (read_view l.read)
+  logged : with_window_texts (pattern_step l.fn.expression.groups l.fn.expression.more (regex_pattern l.fn.expression.regex)) l.range l.number (map (λ text. text.now) (drop l.number l.texts)) (read_view l.read)
       ≡ with_window_texts (pattern_step l.fn.expression.groups l.fn.expression.more (regex_pattern l.fn.expression.regex)) l.range 0 (map (λ text. text.now) l.texts) nothing_read;
   pattern : matcher_pattern l.search.matcher ≡ regex_pattern l.fn.expression.regex;
   groups : l.search.groups ≡ l.fn.expression.groups;

@@ -1,7 +1,7 @@
 use Rattle.std.proofs.Common.{◌≡◌, [], None, drop, map}
 use Rattle.std.specs.Prelude.{fold}
 use Rattle.diagram_labels.specs.Labels.{none, with_label}
-use Rattle.log_lines.specs.Events.{said_view}
+use Rattle.log_lines.specs.Events.{logged_event_view}
 use Rattle.log_lines.specs.Names.Hosts.{peer_view}
 use Rattle.log_lines.specs.Names.Naming.{named_view, with_all}
 use Rattle.log_lines.proofs.names.naming.named.Given as goal
@@ -14,5 +14,5 @@ invariant-loop-host l = record {
 
 abbrev pub invariant-loop-event : goal.invariant-loop-event
 invariant-loop-event l =
-    with_all (map peer_view l.peers) (map said_view (drop l.event-index l.said)) (named_view l.log)
-    ≡ with_all (map peer_view l.peers) (map said_view l.said) (named_view l.initial.log)
+    with_all (map peer_view l.peers) (map logged_event_view (drop l.event-index l.logged)) (named_view l.log)
+    ≡ with_all (map peer_view l.peers) (map logged_event_view l.logged) (named_view l.initial.log)

@@ -1,7 +1,7 @@
 use Rattle.std.proofs.Common.{[], None}
 use Rattle.log_lines.specs.Takes.Arrivals.{arrival_of}
-use Rattle.log_lines.specs.Takes.Telling.{arrived_view}
-use Rattle.log_lines.specs.declared.takes.told.Arrived.{Arrived}
+use Rattle.log_lines.specs.Takes.Observations.{arrived_view}
+use Rattle.log_lines.specs.declared.takes.observations.Arrived.{Arrived}
 use Rattle.log_lines.proofs.TakesLemmas.ListLemmas.{picked_next}
 use Rattle.log_lines.proofs.takes.arrivals.arrivals_by.Goals as goal
 

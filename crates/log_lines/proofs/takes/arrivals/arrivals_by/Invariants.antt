@@ -3,7 +3,7 @@ use Rattle.std.specs.Prelude.{filter_map}
 use Rattle.std.specs.Map.{lookup}
 use Rattle.log_lines.specs.Takes.Arrivals.{same_as, stream_of, arrival_of}
 use Rattle.log_lines.specs.Takes.Messages.{KeyView, key_view}
-use Rattle.log_lines.specs.Takes.Telling.{arrived_view}
+use Rattle.log_lines.specs.Takes.Observations.{arrived_view}
 use Rattle.log_lines.specs.declared.takes.key.Key.{Key}
 use Rattle.log_lines.proofs.takes.arrivals.arrivals_by.Given as goal
 

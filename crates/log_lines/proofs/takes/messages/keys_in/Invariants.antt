@@ -1,5 +1,5 @@
 use Rattle.std.proofs.Common.{◌≡◌, map, filter, take}
-use Rattle.log_lines.specs.Events.{said_view}
+use Rattle.log_lines.specs.Events.{logged_event_view}
 use Rattle.log_lines.specs.Names.Hosts.{peer_view}
 use Rattle.log_lines.specs.Takes.Messages.{key_view, line_key, is_between}
 use Rattle.log_lines.proofs.takes.messages.keys_in.Given as goal
@@ -7,4 +7,4 @@ use Rattle.log_lines.proofs.takes.messages.keys_in.Given as goal
 abbrev pub invariant-loop-line : goal.invariant-loop-line
 invariant-loop-line l =
     map key_view l.keys.items
-    ≡ map (line_key (map peer_view l.peers)) (filter (is_between (map peer_view l.peers)) (map said_view (take l.line-index l.said)))
+    ≡ map (line_key (map peer_view l.peers)) (filter (is_between (map peer_view l.peers)) (map logged_event_view (take l.line-index l.logged)))

@@ -11,19 +11,19 @@ loop-number-preserved c =
     let i = c.loop-number.number in
     let x = c.index-lines-number.result in
     let takers = c.args.takers.now in
-    let told : c.is_left.result ≡ (is_send x.entry.kind && is_none (get_or takers i None)) = c.is_left.ensures ∙ ap (λ t. is_send x.entry.kind && is_none t) c.at.ensures in
+    let stated : c.is_left.result ≡ (is_send x.entry.kind && is_none (get_or takers i None)) = c.is_left.ensures ∙ ap (λ t. is_send x.entry.kind && is_none t) c.at.ensures in
     elim c.if-is_left.branch [
       | then-is_left w ↦
           rw w.lefts-is record {
             whole = w.note.ensures.whole ∙ c.loop-number.invariant.whole;
             each =
-                left_noted lines i x c.loop-number-test.true c.index-lines-number.is takers c.loop-number.lefts w.note.new.self c.requires (sym told ∙ w.if-is_left.true) c.loop-number.invariant.whole
+                left_noted lines i x c.loop-number-test.true c.index-lines-number.is takers c.loop-number.lefts w.note.new.self c.requires (sym stated ∙ w.if-is_left.true) c.loop-number.invariant.whole
                 w.note.ensures c.loop-number.invariant.each;
           }
       | else-is_left w ↦
           rw w.lefts-is record {
             whole = c.loop-number.invariant.whole;
-            each = left_passed lines i x c.loop-number-test.true c.index-lines-number.is takers c.loop-number.lefts c.requires (sym told ∙ w.if-is_left.false) c.loop-number.invariant.each;
+            each = left_passed lines i x c.loop-number-test.true c.index-lines-number.is takers c.loop-number.lefts c.requires (sym stated ∙ w.if-is_left.false) c.loop-number.invariant.each;
           }
     ]
 

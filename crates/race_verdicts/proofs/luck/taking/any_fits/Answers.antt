@@ -5,14 +5,14 @@ use Rattle.race_verdicts.proofs.luck.taking.any_fits.Goals as goal
 pub loop-place-init : goal.loop-place-init
 loop-place-init c = fits_begin c.args.taken.now c.args.line c.args.first (words_view c.args.words.now) c.requires.first
 
-pub returns-then-told-line : goal.returns-then-told-line
-returns-then-told-line c =
+pub returns-then-stated-line : goal.returns-then-stated-line
+returns-then-stated-line c =
     fits_past c.args.taken.now c.args.line c.args.first (words_view c.args.words.now) c.requires.first c.loop-place.place _ c.requires.rising c.loop-place.auto.place c.loop-place-test.true
-    c.if-told-line.true c.loop-place.invariant
+    c.if-stated-line.true c.loop-place.invariant
 
 pub returns-then-fits : goal.returns-then-fits
 returns-then-fits c =
-    fits_here c.args.taken.now c.args.line c.args.first (words_view c.args.words.now) c.requires.first c.loop-place.place _ c.loop-place-test.true c.if-told-line.false (c.fits.ensures.0 c.if-fits.true)
+    fits_here c.args.taken.now c.args.line c.args.first (words_view c.args.words.now) c.requires.first c.loop-place.place _ c.loop-place-test.true c.if-stated-line.false (c.fits.ensures.0 c.if-fits.true)
 
 pub loop-place-preserved : goal.loop-place-preserved
 loop-place-preserved c =

@@ -2,7 +2,7 @@ use Rattle.std.proofs.Common.{◌≡◌, List, ◌++◌, length}
 use Rattle.chart.specs.declared.ranges.EventRange.{EventRange}
 use Rattle.texts.specs.Writing.{Buffers}
 use Rattle.races_text.specs.Named.PlainText.{lines_text}
-use Rattle.races_text.specs.Named.Telling.{has_ranges}
+use Rattle.races_text.specs.Named.Listing.{has_ranges}
 use Rattle.races_text.proofs.named.plain.add_lines.Given as goal
 
 -- the ranges so far were added

@@ -1,4 +1,4 @@
-use Rattle.reordering.proofs.CompletionLemmas.OrderLemmas.{from_ends, to_ends, own_line, number_of, same_number, no_circle}
+use Rattle.reordering.proofs.CompletionLemmas.OrderLemmas.{from_ends, to_ends, own_line, number_of, same_number, no_cycle}
 use Rattle.reordering.proofs.CompletionLemmas.Possible.{is_sound}
 use Rattle.reordering.proofs.completion.laws.closed_form_law.Goals as goal
 
@@ -14,4 +14,4 @@ returns-clause-number c = λ n d possible r.
     (w.0, w.1, λ l other. same_number d r w.0 l w.1 other)
 
 pub returns-clause-acyclic : goal.returns-clause-acyclic
-returns-clause-acyclic c = λ n d possible e is. no_circle d (is_sound n d possible) e is
+returns-clause-acyclic c = λ n d possible e is. no_cycle d (is_sound n d possible) e is

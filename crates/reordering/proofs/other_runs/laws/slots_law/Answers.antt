@@ -1,4 +1,4 @@
-use Rattle.reordering.proofs.OtherRunsLemmas.Slots.{witness_within, turned_within, order_within}
+use Rattle.reordering.proofs.OtherRunsLemmas.Slots.{witness_within, reordered_within, order_within}
 use Rattle.reordering.proofs.other_runs.laws.slots_law.Goals as goal
 
 pub returns-clause-order : goal.returns-clause-order
@@ -7,5 +7,5 @@ returns-clause-order c = λ n k d g run e r before h begins come. order_within n
 pub returns-clause-witness : goal.returns-clause-witness
 returns-clause-witness c = witness_within
 
-pub returns-clause-turned : goal.returns-clause-turned
-returns-clause-turned c = turned_within
+pub returns-clause-reordered : goal.returns-clause-reordered
+returns-clause-reordered c = reordered_within

@@ -21,43 +21,43 @@ loop-place-preserved c =
           let j = c.loop-place.place in
           let h = history_of (take j steps) in
           let old = c.loop-place.invariant.walked w stand in
-          let t = c.index-turned-place.result in
+          let t = c.index-numbered-place.result in
           let x = c.index-steps-place.result in
           let y = c.outside_regions-step.result in
           let is = slice_get_read steps (length steps) j x refl (omega (arith, c.loop-place-test.true)) c.index-steps-place.is in
-          let its = c.requires.each j t (slice_get_read c.args.turned.now (length c.args.turned.now) j t refl (omega (arith, c.requires.whole, c.loop-place-test.true)) c.index-turned-place.is) in
+          let its = c.requires.each j t (slice_get_read c.args.numbered.now (length c.args.numbered.now) j t refl (omega (arith, c.requires.whole, c.loop-place-test.true)) c.index-numbered-place.is) in
           let one = same_Some t.step x (sym its.0 ∙ is) in
-          let said : y ≡ outside_regions t.step = c.outside_regions-step.ensures ∙ ap outside_regions (sym one) in
+          let stated : y ≡ outside_regions t.step = c.outside_regions-step.ensures ∙ ap outside_regions (sym one) in
           let first = inner-next w steps j t.step t.turn its.0 its.1 c.has.result (c.has.ensures w stand) in
           let others = outer-next w steps j t.step t.turn its.0 its.1 c.has.result (c.has.ensures w stand) in
           elim c.if-has.branch [
             | then-has+in_ok-push b ↦ (
-              rw b.first-is (ap history_of b.in_ok-push.ensures.items ∙ after-append [] c.loop-place.first.items (y ∷ []) ∙ ap₂ (λ a f. occurrence_of a ∷ f) said old.0 ∙ sym (first ∙ ap (λ has. cond has (occurrence_of (outside_regions t.step) ∷ inner w.sends w.receives h) (inner w.sends w.receives h)) b.if-has.true)),
+              rw b.first-is (ap history_of b.in_ok-push.ensures.items ∙ after-append [] c.loop-place.first.items (y ∷ []) ∙ ap₂ (λ a f. occurrence_of a ∷ f) stated old.0 ∙ sym (first ∙ ap (λ has. cond has (occurrence_of (outside_regions t.step) ∷ inner w.sends w.receives h) (inner w.sends w.receives h)) b.if-has.true)),
               rw b.others-is (old.1 ∙ sym (others ∙ ap (λ has. cond has (outer w.sends w.receives h) (occurrence_of (outside_regions t.step) ∷ outer w.sends w.receives h)) b.if-has.true)),
             )
             | else-has+in_ok-push-2 b ↦ (
               rw b.first-is (old.0 ∙ sym (first ∙ ap (λ has. cond has (occurrence_of (outside_regions t.step) ∷ inner w.sends w.receives h) (inner w.sends w.receives h)) b.if-has.false)),
-              rw b.others-is (ap history_of b.in_ok-push-2.ensures.items ∙ after-append [] c.loop-place.others.items (y ∷ []) ∙ ap₂ (λ a f. occurrence_of a ∷ f) said old.1 ∙ sym (others ∙ ap (λ has. cond has (outer w.sends w.receives h) (occurrence_of (outside_regions t.step) ∷ outer w.sends w.receives h)) b.if-has.false)),
+              rw b.others-is (ap history_of b.in_ok-push-2.ensures.items ∙ after-append [] c.loop-place.others.items (y ∷ []) ∙ ap₂ (λ a f. occurrence_of a ∷ f) stated old.1 ∙ sym (others ∙ ap (λ has. cond has (outer w.sends w.receives h) (occurrence_of (outside_regions t.step) ∷ outer w.sends w.receives h)) b.if-has.false)),
             )
           ];
       picked = λ w stand.
           let steps = c.args.steps.now in
           let j = c.loop-place.place in
           let old = c.loop-place.invariant.picked w stand in
-          let t = c.index-turned-place.result in
+          let t = c.index-numbered-place.result in
           let y = c.outside_regions-step.result in
-          let its = c.requires.each j t (slice_get_read c.args.turned.now (length c.args.turned.now) j t refl (omega (arith, c.requires.whole, c.loop-place-test.true)) c.index-turned-place.is) in
+          let its = c.requires.each j t (slice_get_read c.args.numbered.now (length c.args.numbered.now) j t refl (omega (arith, c.requires.whole, c.loop-place-test.true)) c.index-numbered-place.is) in
           let is = slice_get_read steps (length steps) j c.index-steps-place.result refl (omega (arith, c.loop-place-test.true)) c.index-steps-place.is in
-          let said : y ≡ outside_regions t.step = c.outside_regions-step.ensures ∙ ap outside_regions (sym (same_Some t.step c.index-steps-place.result (sym its.0 ∙ is))) in
+          let stated : y ≡ outside_regions t.step = c.outside_regions-step.ensures ∙ ap outside_regions (sym (same_Some t.step c.index-steps-place.result (sym its.0 ∙ is))) in
           let has = comes-is w steps j t.step t.turn its.0 its.1 c.has.result (c.has.ensures w stand) in
           elim c.if-has.branch [
             | then-has+in_ok-push b ↦ (
-              rw (b.first-is, b.in_ok-push.ensures.items) (picked-taken (comes w steps) steps c.loop-place.first.items j t.step y its.0 said (has ∙ b.if-has.true) old.0),
+              rw (b.first-is, b.in_ok-push.ensures.items) (picked-taken (comes w steps) steps c.loop-place.first.items j t.step y its.0 stated (has ∙ b.if-has.true) old.0),
               rw b.others-is (picked-left (λ i. not (comes w steps i)) steps c.loop-place.others.items j (ap not (has ∙ b.if-has.true)) old.1),
             )
             | else-has+in_ok-push-2 b ↦ (
               rw b.first-is (picked-left (comes w steps) steps c.loop-place.first.items j (has ∙ b.if-has.false) old.0),
-              rw (b.others-is, b.in_ok-push-2.ensures.items) (picked-taken (λ i. not (comes w steps i)) steps c.loop-place.others.items j t.step y its.0 said (ap not (has ∙ b.if-has.false)) old.1),
+              rw (b.others-is, b.in_ok-push-2.ensures.items) (picked-taken (λ i. not (comes w steps i)) steps c.loop-place.others.items j t.step y its.0 stated (ap not (has ∙ b.if-has.false)) old.1),
             )
           ];
       first = elim c.if-has.branch [

@@ -16,7 +16,7 @@ loop-least-preserved c =
       begun = omega arith;
       order = omega arith;
       limit = c.loop-least.invariant.limit;
-      drawn = c.loop-least.invariant.drawn;
+      chart_run = c.loop-least.invariant.chart_run;
       none = λ k low high possible. none (possible-more (length c.args.chart.now) k middle (chart_lines c.args.chart.now) (omega arith) possible);
     }
 
@@ -24,6 +24,6 @@ pub returns : goal.returns
 returns c = record {
   begun = omega arith;
   limit = c.loop-least.invariant.limit;
-  drawn = c.loop-least.invariant.drawn;
+  chart_run = c.loop-least.invariant.chart_run;
   least = λ k low high. c.loop-least.invariant.none k low (omega arith);
 }

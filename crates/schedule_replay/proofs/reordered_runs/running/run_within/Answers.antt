@@ -8,8 +8,8 @@ use Rattle.reordering.specs.OtherRuns.OtherRuns.{IsPossibleWithin}
 use Rattle.reordering.specs.Witness.Steps.{HavePassed}
 use Rattle.chart.specs.RunSteps.Steps.{occurrence_of, history_of}
 use Rattle.chart.proofs.RunStepsLemmas.StepLemmas.{after-append}
-use Rattle.schedule_replay.specs.ReorderedRuns.Runs.{IsDrawn, IsInTurn, last_line}
-use Rattle.schedule_replay.proofs.ReorderedRunsLemmas.GoingOn.{IsGoing, IsGoing-start, IsGoing-next, IsDrawn-done, maker-next, left-next, room-next}
+use Rattle.schedule_replay.specs.ReorderedRuns.Runs.{IsChartRun, IsInTurn, last_line}
+use Rattle.schedule_replay.proofs.ReorderedRunsLemmas.GoingOn.{IsGoing, IsGoing-start, IsGoing-next, IsChartRun-done, maker-next, left-next, room-next}
 use Rattle.schedule_replay.proofs.ReorderedRunsLemmas.InTurn.{some_goes_on, maker-by, goes-from}
 use Rattle.schedule_replay.proofs.ReorderedRunsLemmas.Slots.{lanes-short}
 use Rattle.schedule_replay.proofs.ReorderedRunsLemmas.Stopping.{stopped_early}
@@ -92,5 +92,5 @@ returns c =
     let lines = c.lines-lines.result.now in
     let done : c.is_done.result ≡ true = cc in
     let all = MatchBool-at_true _ _ done c.is_done.ensures in
-    subst (λ l. IsDrawn (length l) c.args.slots (chart_lines l) c.loop-step.steps.items) c.lines-lines.ensures.value
-    (IsDrawn-done lines c.args.slots c.loop-step.steps.items c.loop-step.going.made c.loop-step.invariant.going all c.loop-step.invariant.turn)
+    subst (λ l. IsChartRun (length l) c.args.slots (chart_lines l) c.loop-step.steps.items) c.lines-lines.ensures.value
+    (IsChartRun-done lines c.args.slots c.loop-step.steps.items c.loop-step.going.made c.loop-step.invariant.going all c.loop-step.invariant.turn)

@@ -4,8 +4,8 @@ use Rattle.schedule.specs.Plans.{Plan}
 use Rattle.chart.specs.RunSteps.Steps.{history_of, IsOutside}
 use Rattle.schedule_replay.specs.declared.reordered_runs.scheduling.TheConstants.{FIRST_LINE}
 use Rattle.schedule_replay.specs.ReorderedRuns.Schedules.{commands_of}
-use Rattle.schedule_replay.specs.ReorderedRuns.Turns.{IsLeastTurn}
-use Rattle.schedule_replay.proofs.ReorderedRunsLemmas.TurnLemmas.{shows_turn}
+use Rattle.schedule_replay.specs.ReorderedRuns.Reorderings.{IsLeastTurn}
+use Rattle.schedule_replay.proofs.ReorderedRunsLemmas.ReorderingLemmas.{shows_turn}
 use Rattle.schedule_replay.proofs.reordered_runs.showing.show.Goals as goal
 
 pub returns-in_ok-schedule-in-Some-clause-shown : goal.returns-in_ok-schedule-in-Some-clause-shown

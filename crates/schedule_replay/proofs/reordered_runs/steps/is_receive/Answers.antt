@@ -1,7 +1,7 @@
 use Rattle.std.proofs.Common.{ap, ◌∙◌}
 use Rattle.chart.specs.Charts.{chart_lines}
 use Rattle.closure.specs.Faults.{place_of}
-use Rattle.schedule_replay.specs.ReorderedRuns.Turns.{receives}
+use Rattle.schedule_replay.specs.ReorderedRuns.Reorderings.{receives}
 use Rattle.schedule_replay.proofs.ReorderedRunsLemmas.EventLemmas.{receive_there}
 use Rattle.schedule_replay.proofs.reordered_runs.steps.is_receive.Goals as goal
 

@@ -5,8 +5,8 @@ use Rattle.board.specs.Gathering.{left_view, closed_view}
 use Rattle.test_runtime.proofs.LongRunsLemmas.BoardLemmas.{at_new, ok_is, made_new, may_carry, sized, written_at}
 use Rattle.test_runtime.proofs.long_runs.worked.next_board.Goals as goal
 
-pub carried-told-requires : goal.carried-told-requires
-carried-told-requires g c =
+pub carried-counted-requires : goal.carried-counted-requires
+carried-counted-requires g c =
     let board = c.expect-board.result.board in
     let new = made_new 3 2 c.new.result c.expect-board.result c.new.ensures.made c.expect-board.ensures in
     let fresh : AreNewPosts board c.expect-posts.result.items = (ok_is _ c.posts.result c.expect-posts.result c.posts.ensures.ok c.expect-posts.ensures).1 in
@@ -18,7 +18,7 @@ gathered-requires g c =
     let new = made_new 3 2 c.new.result c.expect-board.result c.new.ensures.made c.expect-board.ensures in
     let fresh : AreNewPosts board c.expect-posts.result.items = (ok_is _ c.posts.result c.expect-posts.result c.posts.ensures.ok c.expect-posts.ensures).1 in
     let taking : AreNewPosts board c.as_mut_slice-taking.result.now = subst (λ (ps : List PostView). AreNewPosts board ps) (sym c.as_mut_slice-taking.ensures.value) fresh in
-    (board, written_at board c.expect-posts.result.len (length c.do_all.new.posts) c.expect-posts.result.items c.do_all.new.posts (at_new board c.expect-posts.result.items fresh) (c.do_all.ensures board (c.carried-told.ensures board taking)))
+    (board, written_at board c.expect-posts.result.len (length c.do_all.new.posts) c.expect-posts.result.items c.do_all.new.posts (at_new board c.expect-posts.result.items fresh) (c.do_all.ensures board (c.carried-counted.ensures board taking)))
 
 pub returns : goal.returns
 returns g c =
@@ -26,4 +26,4 @@ returns g c =
     let new = made_new 3 2 c.new.result c.expect-board.result c.new.ensures.made c.expect-board.ensures in
     let fresh : AreNewPosts board c.expect-posts.result.items = (ok_is _ c.posts.result c.expect-posts.result c.posts.ensures.ok c.expect-posts.ensures).1 in
     let taking : AreNewPosts board c.as_mut_slice-taking.result.now = subst (λ (ps : List PostView). AreNewPosts board ps) (sym c.as_mut_slice-taking.ensures.value) fresh in
-    sized 3 2 c.expect-board.result (map left_view c.gathered.result.0.items) (map closed_view c.gathered.result.1.items) new (c.gathered.ensures board (written_at board c.expect-posts.result.len (length c.do_all.new.posts) c.expect-posts.result.items c.do_all.new.posts (at_new board c.expect-posts.result.items fresh) (c.do_all.ensures board (c.carried-told.ensures board taking))))
+    sized 3 2 c.expect-board.result (map left_view c.gathered.result.0.items) (map closed_view c.gathered.result.1.items) new (c.gathered.ensures board (written_at board c.expect-posts.result.len (length c.do_all.new.posts) c.expect-posts.result.items c.do_all.new.posts (at_new board c.expect-posts.result.items fresh) (c.do_all.ensures board (c.carried-counted.ensures board taking))))

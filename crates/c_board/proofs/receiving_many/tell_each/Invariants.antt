@@ -1,6 +1,0 @@
-use Rattle.std.proofs.Common.{◌≡◌, ◌++◌, map, take, drop}
-use Rattle.c_board.specs.Receiving.{arrived_of}
-use Rattle.c_board.proofs.receiving_many.tell_each.Given as goal
-
-abbrev pub invariant-loop-place : goal.invariant-loop-place
-invariant-loop-place l = l.told ≡ take l.place (map arrived_of l.initial.arrivals) ++ drop l.place l.initial.told

@@ -1,0 +1,36 @@
+//! A post with its board's words.
+use crate::came::Came;
+use crate::naming::Known;
+use board::{BoardTable, Parked};
+use chart::InstanceNo;
+use std::marker::Model;
+use std::sync::Arc;
+
+/// A post that keeps its board's words, whom it got a message from last, the messages of the last call that got some,
+/// and the name that it sent last, or any.
+#[derive(Drop)]
+pub struct PostState {
+    pub(crate) table: Arc<BoardTable>,
+    pub(crate) parked: Parked,
+    pub(crate) last: Option<InstanceNo>,
+    pub(crate) came: Came,
+    pub(crate) known: Known,
+}
+
+impl Model for PostState {
+    ghost use Rattle.std.specs.Prelude.{◌≤◌, unwrap_or};
+    ghost use Rattle.board.specs.Parked.{IsAtBoard};
+    ghost use Rattle.c_board.specs.Came.{came_list};
+    ghost use Rattle.c_board.specs.PostStates.{PostStateView};
+
+    ghost Value = { PostStateView };
+
+    ghost view = { λ state. record {
+      post = state.parked;
+      last = unwrap_or state.last 0;
+      came = came_list state.came;
+    } };
+
+    ghost invariant = { λ state. IsAtBoard state.table.value.shared.key state.table.value.shared.table_id state.parked
+        × (unwrap_or state.last 0 ≤ state.parked.board.size) };
+}

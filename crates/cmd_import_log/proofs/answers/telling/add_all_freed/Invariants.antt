@@ -1,9 +1,0 @@
-use Rattle.std.proofs.Common.{map, take}
-use Rattle.std.specs.List.{flat_map}
-use Rattle.texts.specs.Writing.{Buffers}
-use Rattle.cmd_import_log.specs.Answers.Telling.{freed_text}
-use Rattle.cmd_import_log.proofs.answers.telling.add_all_freed.Given as goal
-
--- what came so far was added
-abbrev pub invariant-loop-place : goal.invariant-loop-place
-invariant-loop-place g l = Buffers g.V.Out.sink l.initial.text l.text (flat_map (freed_text (map (λ file. file.now) l.files)) (take l.place-index l.freed))

@@ -1,0 +1,75 @@
+-- What is told of a chart that was drawn from a log.
+use Rattle.std.specs.Prelude.{ℕ, ◌==◌, List, [], ◌++◌, length, codes, if◌then◌else◌}
+use Rattle.std.specs.List.{flat_map}
+use Rattle.chart.specs.declared.instance.EventNo.{EventNo}
+use Rattle.diagram_labels.specs.declared.renaming.Renamed.{Renamed}
+use Rattle.diagram_labels.specs.Renamed.Telling.{renamed_line}
+use Rattle.log_lines.specs.declared.event.Place.{Place}
+use Rattle.cmd_import_log.specs.Answers.DiagnosticLines.{others_text, others_of_text, lost_text, overtaking_text, freed_text, invented_text}
+use Rattle.cmd_import_log.specs.declared.answers.overtaking.Overtaking.{Overtaking}
+use Rattle.cmd_import_log.specs.declared.answers.diagnostics.Diagnostics.{Diagnostics}
+
+-- how many lines don't match, and of how many
+unfoldable pub unmatched_text : List (List ℕ) → Diagnostics → List ℕ
+unmatched_text files t = others_of_text files t.lines (codes "lines doesn't match") (codes "lines don't match") t.others
+
+-- how many events are of messages to oneself
+unfoldable pub own_text : List (List ℕ) → Diagnostics → List ℕ
+own_text files t =
+    others_text files (codes "event of a message to oneself is left out") (codes "events of messages to oneself are left out") t.own
+
+unfoldable pub captured_note : List ℕ
+captured_note = codes "only the order at the tap is known\n"
+
+-- once, where messages were captured
+abbrev pub captured_text : Diagnostics → List ℕ
+captured_text t = if t.is_captured then captured_note else []
+
+unfoldable pub timed_note : List ℕ
+timed_note = codes "a receive at which no entry of the clock grew isn't seen\n"
+
+-- once, where messages are told by clocks
+abbrev pub timed_text : Diagnostics → List ℕ
+timed_text t = if t.is_timed then timed_note else []
+
+-- what isn't known of how messages were seen
+unfoldable pub taps_text : Diagnostics → List ℕ
+taps_text t = captured_text t ++ timed_text t
+
+unfoldable pub counts_text : List (List ℕ) → Diagnostics → List ℕ
+counts_text files t = unmatched_text files t ++ (own_text files t ++ taps_text t)
+
+unfoldable pub enforced_note : List ℕ
+enforced_note = codes "races may be shown that a message which is left out enforced\n"
+
+-- once, where messages overtake
+abbrev pub overtaking_note : List Overtaking → List ℕ
+overtaking_note overtaking = if length overtaking == 0 then [] else enforced_note
+
+-- which messages are left out
+unfoldable pub left_out_text : List (List ℕ) → List Place → List Overtaking → List ℕ
+left_out_text files lost overtaking =
+    flat_map (lost_text files) lost ++ (flat_map (overtaking_text files) overtaking ++ overtaking_note overtaking)
+
+unfoldable pub unclaimed_note : List ℕ
+unclaimed_note = codes "a race whose earlier event is invented, or whose receive comes behind an invented event, isn't claimed\n"
+
+-- once, where sends are invented
+abbrev pub invented_note : List EventNo → List ℕ
+invented_note invented = if length invented == 0 then [] else unclaimed_note
+
+-- which receives are freed, and which sends are invented
+unfoldable pub made_text : List (List ℕ) → List (List ℕ) → List Place → List EventNo → List ℕ
+made_text files names freed invented =
+    flat_map (freed_text files) freed ++ (flat_map (invented_text names) invented ++ invented_note invented)
+
+-- which names aren't words of the log: those of hosts, and then those of messages
+unfoldable pub names_text : List Renamed → List Renamed → List ℕ
+names_text hosts messages = flat_map renamed_line hosts ++ flat_map renamed_line messages
+
+-- all of it, where these are the names of several files, or none of one
+unfoldable pub diagnostics_text : List (List ℕ) → Diagnostics → List ℕ
+diagnostics_text files t =
+    counts_text files t
+    ++ (left_out_text files t.lost.items t.overtaking.items
+    ++ (made_text files t.names t.freed.items t.invented.items ++ names_text t.hosts.items t.messages.items))

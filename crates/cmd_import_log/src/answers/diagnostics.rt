@@ -1,0 +1,276 @@
+//! What is told of a chart that was drawn from a log.
+ghost use Rattle.std.specs.Prelude.{◌≤◌, length, map, All};
+ghost use Rattle.texts.specs.Writing.{Wrote, Adds};
+ghost use Rattle.cmd_import_log.specs.Answers.Diagnostics.{unmatched_text, own_text, captured_note, captured_text, timed_note, timed_text, taps_text, enforced_note, overtaking_note, unclaimed_note, invented_note};
+ghost use Rattle.cmd_import_log.specs.Answers.Diagnostics.{counts_text, left_out_text, made_text, names_text, diagnostics_text};
+
+use crate::answers::diagnostic_lines::{
+    add_all_freed, add_all_invented, add_all_lost, add_all_overtaking, add_others, add_others_of,
+};
+use crate::answers::overtaking::Overtaking;
+use chart::{EventNo, Names};
+use diagram_labels::Renamed;
+use diagram_labels::renamed::add_all_renamed;
+use log_lines::{Others, Place};
+use texts::{Out, TextBuffer, WriteError};
+
+/// What is told of a chart that was drawn from a log.
+#[derive(Debug, Drop)]
+pub struct Diagnostics {
+    /// How many lines were read.
+    pub lines: u64,
+    /// Those that don't match.
+    pub others: Option<Others>,
+    /// Events of messages of a host to itself, which are left out.
+    pub own: Option<Others>,
+    /// Whether messages were captured, so that only their order at the tap is known.
+    pub is_captured: bool,
+    /// Whether there are messages of which clocks tell.
+    pub is_timed: bool,
+    /// Lines whose messages are lost.
+    pub lost: Vec<Place>,
+    pub overtaking: Vec<Overtaking>,
+    /// Lines whose receives take no send of the log.
+    pub freed: Vec<Place>,
+    /// The names of the instances.
+    pub names: Names,
+    /// Sends that are invented.
+    pub invented: Vec<EventNo>,
+    /// Hosts whose names aren't their words, and messages.
+    pub hosts: Vec<Renamed>,
+    pub messages: Vec<Renamed>,
+}
+
+/// Adds how many lines don't match.
+#[tactic(auto, unfolding(crate::specs::Answers::Diagnostics::unmatched_text))]
+fn add_unmatched<V: Out>(
+    text: &mut TextBuffer<'_, V>,
+    files: &[&[u8]],
+    diagnostics: &Diagnostics,
+) -> Result<(), WriteError>
+    ensures { Adds V.sink text.old text.new result (unmatched_text (map (λ file. file.now) files.now) diagnostics.now) }
+{
+    add_others_of(
+        text,
+        files,
+        diagnostics.lines,
+        b"lines doesn't match",
+        b"lines don't match",
+        diagnostics.others,
+    )
+}
+
+/// Adds how many events are of messages to oneself.
+#[tactic(auto, unfolding(crate::specs::Answers::Diagnostics::own_text))]
+fn add_own<V: Out>(
+    text: &mut TextBuffer<'_, V>,
+    files: &[&[u8]],
+    diagnostics: &Diagnostics,
+) -> Result<(), WriteError>
+    ensures { Adds V.sink text.old text.new result (own_text (map (λ file. file.now) files.now) diagnostics.now) }
+{
+    add_others(
+        text,
+        files,
+        b"event of a message to oneself is left out",
+        b"events of messages to oneself are left out",
+        diagnostics.own,
+    )
+}
+
+/// Adds that messages were captured.
+#[tactic(auto, unfolding(crate::specs::Answers::Diagnostics::captured_note))]
+fn add_captured_note<V: Out>(text: &mut TextBuffer<'_, V>) -> Result<(), WriteError>
+    ensures { Adds V.sink text.old text.new result captured_note }
+{
+    text.add(b"only the order at the tap is known\n")
+}
+
+/// Adds that messages were captured, if they were.
+fn add_captured<V: Out>(
+    text: &mut TextBuffer<'_, V>,
+    diagnostics: &Diagnostics,
+) -> Result<(), WriteError>
+    ensures { Adds V.sink text.old text.new result (captured_text diagnostics.now) }
+{
+    if diagnostics.is_captured {
+        add_captured_note(text)
+    } else {
+        Ok(())
+    }
+}
+
+/// Adds what clocks can't tell.
+#[tactic(auto, unfolding(crate::specs::Answers::Diagnostics::timed_note))]
+fn add_timed_note<V: Out>(text: &mut TextBuffer<'_, V>) -> Result<(), WriteError>
+    ensures { Adds V.sink text.old text.new result timed_note }
+{
+    text.add(b"a receive at which no entry of the clock grew isn't seen\n")
+}
+
+/// Adds what clocks can't tell, if messages are told by clocks.
+fn add_timed<V: Out>(
+    text: &mut TextBuffer<'_, V>,
+    diagnostics: &Diagnostics,
+) -> Result<(), WriteError>
+    ensures { Adds V.sink text.old text.new result (timed_text diagnostics.now) }
+{
+    if diagnostics.is_timed {
+        add_timed_note(text)
+    } else {
+        Ok(())
+    }
+}
+
+/// Adds what isn't known of how the messages were seen.
+#[tactic(auto, using(texts::proofs::Writes::joining), unfolding(crate::specs::Answers::Diagnostics::taps_text))]
+fn add_taps<V: Out>(
+    text: &mut TextBuffer<'_, V>,
+    diagnostics: &Diagnostics,
+) -> Result<(), WriteError>
+    ensures { Adds V.sink text.old text.new result (taps_text diagnostics.now) }
+{
+    add_captured(text, diagnostics)?;
+    add_timed(text, diagnostics)
+}
+
+/// Adds what may be shown where a message is left out.
+#[tactic(auto, unfolding(crate::specs::Answers::Diagnostics::enforced_note))]
+fn add_enforced_note<V: Out>(text: &mut TextBuffer<'_, V>) -> Result<(), WriteError>
+    ensures { Adds V.sink text.old text.new result enforced_note }
+{
+    text.add(b"races may be shown that a message which is left out enforced\n")
+}
+
+/// Adds what may be shown where messages that overtake are left out.
+fn add_overtaking_note<V: Out>(
+    text: &mut TextBuffer<'_, V>,
+    overtaking: &[Overtaking],
+) -> Result<(), WriteError>
+    ensures { Adds V.sink text.old text.new result (overtaking_note overtaking.now) }
+{
+    if overtaking.is_empty() {
+        Ok(())
+    } else {
+        add_enforced_note(text)
+    }
+}
+
+/// Adds what isn't claimed where a send is invented.
+#[tactic(auto, unfolding(crate::specs::Answers::Diagnostics::unclaimed_note))]
+fn add_unclaimed_note<V: Out>(text: &mut TextBuffer<'_, V>) -> Result<(), WriteError>
+    ensures { Adds V.sink text.old text.new result unclaimed_note }
+{
+    text.add(
+        b"a race whose earlier event is invented, or whose receive comes behind an invented event, isn't claimed\n",
+    )
+}
+
+/// Adds what isn't claimed where sends are invented.
+fn add_invented_note<V: Out>(
+    text: &mut TextBuffer<'_, V>,
+    invented: &[EventNo],
+) -> Result<(), WriteError>
+    ensures { Adds V.sink text.old text.new result (invented_note invented.now) }
+{
+    if invented.is_empty() {
+        Ok(())
+    } else {
+        add_unclaimed_note(text)
+    }
+}
+
+/// Adds how many lines don't match, and what else is counted.
+#[tactic(auto, using(texts::proofs::Writes::joining), unfolding(crate::specs::Answers::Diagnostics::counts_text))]
+fn add_counts<V: Out>(
+    text: &mut TextBuffer<'_, V>,
+    files: &[&[u8]],
+    diagnostics: &Diagnostics,
+) -> Result<(), WriteError>
+    ensures { Adds V.sink text.old text.new result (counts_text (map (λ file. file.now) files.now) diagnostics.now) }
+{
+    add_unmatched(text, files, diagnostics)?;
+    add_own(text, files, diagnostics)?;
+    add_taps(text, diagnostics)
+}
+
+/// Adds which messages are left out.
+#[tactic(auto, using(texts::proofs::Writes::joining), unfolding(crate::specs::Answers::Diagnostics::left_out_text))]
+fn add_left_out<V: Out>(
+    text: &mut TextBuffer<'_, V>,
+    files: &[&[u8]],
+    lost: &[Place],
+    overtaking: &[Overtaking],
+) -> Result<(), WriteError>
+    ensures { Adds V.sink text.old text.new result (left_out_text (map (λ file. file.now) files.now) lost.now overtaking.now) }
+{
+    add_all_lost(text, files, lost)?;
+    add_all_overtaking(text, files, overtaking)?;
+    add_overtaking_note(text, overtaking)
+}
+
+/// Adds which receives are freed, and which sends are invented.
+#[tactic(auto, using(texts::proofs::Writes::joining), unfolding(crate::specs::Answers::Diagnostics::made_text))]
+fn add_made<V: Out>(
+    text: &mut TextBuffer<'_, V>,
+    files: &[&[u8]],
+    names: &Names,
+    freed: &[Place],
+    invented: &[EventNo],
+) -> Result<(), WriteError>
+    requires { All (λ e. e.instance ≤ length names.now) invented.now }
+    ensures { Adds V.sink text.old text.new result (made_text (map (λ file. file.now) files.now) names.now freed.now invented.now) }
+{
+    add_all_freed(text, files, freed)?;
+    add_all_invented(text, names, invented)?;
+    add_invented_note(text, invented)
+}
+
+/// Adds the names that aren't words of the log.
+#[tactic(auto, using(texts::proofs::Writes::joining), unfolding(crate::specs::Answers::Diagnostics::names_text))]
+fn add_names<V: Out>(
+    text: &mut TextBuffer<'_, V>,
+    hosts: &[Renamed],
+    messages: &[Renamed],
+) -> Result<(), WriteError>
+    ensures { Adds V.sink text.old text.new result (names_text hosts.now messages.now) }
+{
+    add_all_renamed(text, hosts)?;
+    add_all_renamed(text, messages)
+}
+
+#[tactic(auto, using(texts::proofs::Writes::joining), unfolding(crate::specs::Answers::Diagnostics::diagnostics_text))]
+fn add_diagnostics<V: Out>(
+    text: &mut TextBuffer<'_, V>,
+    files: &[&[u8]],
+    diagnostics: &Diagnostics,
+) -> Result<(), WriteError>
+    requires { All (λ e. e.instance ≤ length diagnostics.now.names) diagnostics.now.invented.items }
+    ensures { Adds V.sink text.old text.new result (diagnostics_text (map (λ file. file.now) files.now) diagnostics.now) }
+{
+    add_counts(text, files, diagnostics)?;
+    add_left_out(text, files, &diagnostics.lost, &diagnostics.overtaking)?;
+    add_made(
+        text,
+        files,
+        &diagnostics.names,
+        &diagnostics.freed,
+        &diagnostics.invented,
+    )?;
+    add_names(text, &diagnostics.hosts, &diagnostics.messages)
+}
+
+/// Writes what is told, where these are the names of several files, or none of one.
+#[tactic(auto, using(texts::proofs::Writes::joining))]
+pub fn write_diagnostics<V: Out>(
+    files: &[&[u8]],
+    diagnostics: &Diagnostics,
+    err: &mut V,
+) -> Result<(), WriteError>
+    requires { All (λ e. e.instance ≤ length diagnostics.now.names) diagnostics.now.invented.items }
+    ensures { Wrote V.sink err.old err.new result (diagnostics_text (map (λ file. file.now) files.now) diagnostics.now) }
+{
+    let mut text = TextBuffer::new(err);
+    add_diagnostics(&mut text, files, diagnostics)?;
+    text.finish()
+}

@@ -1,0 +1,60 @@
+//! What is told of a log's chart.
+ghost use Rattle.std.specs.Prelude.{◌≡◌, map, IfOk};
+ghost use Rattle.diagram_labels.specs.Renaming.{renamed_view};
+ghost use Rattle.cmd_import_log.specs.Drawing.{log_place, log_overtaking, renames_of};
+
+use crate::answers::Overtaking;
+use diagram_labels::{LabelNames, Renamed, add_renamed_labels};
+use log_lines::Place;
+use std::alloc::{AllocError, Global};
+
+/// A line of the log as it is told.
+pub(crate) fn log_place(place: &log_chart::Place) -> Place
+    ensures { result ≡ log_place place.now }
+{
+    Place {
+        text: place.file,
+        line: place.line,
+    }
+}
+
+/// Lines of the log as they are told.
+pub(crate) fn places_of(
+    alloc: Global,
+    places: &[log_chart::Place],
+) -> Result<Vec<Place>, AllocError>
+    ensures { IfOk result (λ diagnostics. diagnostics.items ≡ map log_place places.now) }
+{
+    places.iter().map(|place| log_place(place)).collect(alloc)
+}
+
+fn overtaking_of(overtaking: &log_chart::charts::Overtaking) -> Overtaking
+    ensures { result ≡ log_overtaking overtaking.now }
+{
+    Overtaking {
+        line: log_place(&overtaking.line),
+        overtaken: log_place(&overtaking.overtaken),
+    }
+}
+
+/// Messages that overtake as they are told.
+pub(crate) fn overtakings_of(
+    alloc: Global,
+    overtakings: &[log_chart::charts::Overtaking],
+) -> Result<Vec<Overtaking>, AllocError>
+    ensures { IfOk result (λ diagnostics. diagnostics.items ≡ map log_overtaking overtakings.now) }
+{
+    overtakings
+        .iter()
+        .map(|overtaking| overtaking_of(overtaking))
+        .collect(alloc)
+}
+
+/// Those of the labels whose names aren't their words.
+pub(crate) fn renamed_in(alloc: Global, labels: &LabelNames) -> Result<Vec<Renamed>, AllocError>
+    ensures { IfOk result (λ diagnostics. map renamed_view diagnostics.items ≡ renames_of labels.now) }
+{
+    let mut diagnostics = Vec::new(alloc);
+    add_renamed_labels(alloc, &mut diagnostics, labels.labels(), labels.names())?;
+    Ok(diagnostics)
+}

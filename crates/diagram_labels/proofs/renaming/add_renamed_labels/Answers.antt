@@ -1,0 +1,17 @@
+use Rattle.std.proofs.Common.{sym, ◌∙◌, ap, map, Vec, Global, ℕ}
+use Rattle.diagram_labels.specs.Renaming.{renamed_view, with_renamed}
+use Rattle.diagram_labels.proofs.RenamingLemmas.{renamed_more, renamed_stop, renamed_end}
+use Rattle.diagram_labels.proofs.renaming.add_renamed_labels.Goals as goal
+
+pub loop-place-preserved : goal.loop-place-preserved
+loop-place-preserved c =
+    renamed_more (λ (label : Vec ℕ Global). label.items) (map renamed_view c.loop-place.renames.items) (map renamed_view c.tell_label.new.renames.items) c.loop-place.place c.args.labels.now c.index-labels-place.result c.args.names.now c.in-Some.name
+    c.loop-place-test.true c.index-labels-place.is (sym c.in-Some.ensures)
+    (c.in_ok-tell_label.ensures ∙ ap (λ label. with_renamed (map renamed_view c.loop-place.renames.items) label c.in-Some.name) c.as_slice.ensures.value)
+    ∙ c.loop-place.invariant
+
+pub returns-in_default : goal.returns-in_default
+returns-in_default c = sym (renamed_stop (λ (label : Vec ℕ Global). label.items) _ c.loop-place.place c.args.labels.now c.args.names.now (sym c.in_default.ensures)) ∙ c.loop-place.invariant
+
+pub returns : goal.returns
+returns c = sym (renamed_end (λ (label : Vec ℕ Global). label.items) _ c.loop-place.place c.args.labels.now c.args.names.now c.loop-place-test.false) ∙ c.loop-place.invariant

@@ -1,6 +1,0 @@
-use Rattle.std.proofs.Common.{◌≡◌, ◌++◌, suc, drop}
-use Rattle.log_chart.specs.Charts.Told.{all_invented}
-use Rattle.log_chart.proofs.charts.told.invented_sends.Given as goal
-
-abbrev pub invariant-loop-place : goal.invariant-loop-place
-invariant-loop-place l = l.told.items ++ all_invented (suc l.place) (drop l.place l.lines) ≡ all_invented 1 l.lines

@@ -1,9 +1,0 @@
-use Rattle.std.proofs.Common.{◌≡◌, map, take}
-use Rattle.log_lines.specs.Names.Hosts.{peer_view}
-use Rattle.log_lines.specs.Takes.Patterns.{patterns_of}
-use Rattle.log_lines.specs.Takes.Telling.{told_view, with_patterns}
-use Rattle.log_lines.proofs.takes.told.Told.add_patterns.Given as goal
-
-abbrev pub invariant-loop-word : goal.invariant-loop-word
-invariant-loop-word l =
-    told_view l.self ≡ with_patterns (patterns_of (map peer_view l.peers) (map (λ w. w.now) (take l.word-index l.words))) (told_view l.initial.self)

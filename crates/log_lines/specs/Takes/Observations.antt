@@ -1,0 +1,89 @@
+-- What the lines of an application's log tell beside messages: `HOST arrive [from] PEER NAME [ID] [REST]`, that a message
+-- reached HOST, and in the REST of a receive what it would have taken (this project's profile of logs).
+use Rattle.std.specs.Prelude.{ℕ, ◌+◌, List, [], ◌∷◌, ◌++◌, Option, map, option_map, bytes_eq, if◌then◌else◌}
+use Rattle.log_lines.specs.Plain.{direction_of, behind_preposition, begins_rest, id_in}
+use Rattle.log_lines.specs.Reading.{is_within, all_lines}
+use Rattle.log_lines.specs.Words.{words_of}
+use Rattle.log_lines.specs.declared.plain.Direction.{Direction}
+use Rattle.log_lines.specs.declared.plain.Direction.TheVariants.{Sends, Receives, Arrives, Unknown}
+use Rattle.log_lines.specs.declared.range.LineRange.{LineRange}
+use Rattle.log_lines.specs.Names.Hosts.{PeerView, host_of}
+use Rattle.race_verdicts.specs.Recordings.{PatternView, TakenView, taken_view}
+use Rattle.log_lines.specs.Takes.Patterns.{patterns_of}
+use Rattle.log_lines.specs.declared.takes.observations.Arrived.{Arrived}
+use Rattle.log_lines.specs.declared.takes.observations.Observations.{Observations}
+
+-- a message reached a host, where so many lines of messages stand before that
+pub record ArrivedView : Type 0 where
+  pub host : List ℕ
+  pub peer : List ℕ
+  pub name : List ℕ
+  pub id : Option (List ℕ)
+  pub at : ℕ
+
+abbrev pub arrived_view : Arrived → ArrivedView
+arrived_view a = record { host = a.host.now; peer = a.peer.now; name = a.name.now; id = option_map (λ w. w.now) a.id; at = a.at }
+
+-- how many lines tell of messages from one host to another, what their receives would have taken, and what arrived
+pub record ObservationsView : Type 0 where
+  pub lines : ℕ
+  pub taken : List TakenView
+  pub arrived : List ArrivedView
+
+abbrev pub observations_view : Observations → ObservationsView
+observations_view t = record { lines = t.lines; taken = map taken_view t.taken.items; arrived = map arrived_view t.arrived.items }
+
+abbrev pub no_observations : ObservationsView
+no_observations = record { lines = 0; taken = []; arrived = [] }
+
+-- the words behind the id, in those behind the name
+abbrev pub behind_id : List (List ℕ) → List (List ℕ)
+behind_id [] = []
+behind_id (w ∷ words) = if begins_rest w then w ∷ words else words
+
+-- the line of this number would have taken this
+abbrev pub taken_at : ℕ → PatternView → TakenView
+taken_at line p = record { line = line; pattern = p }
+
+-- with what the next line would have taken
+abbrev pub with_patterns : List PatternView → ObservationsView → ObservationsView
+with_patterns patterns t = record t { taken = t.taken ++ map (taken_at t.lines) patterns }
+
+-- with one line more of a message between these hosts, whose receive would have taken this
+abbrev pub with_message : List ℕ → List ℕ → List PatternView → ObservationsView → ObservationsView
+with_message host peer patterns t =
+    if bytes_eq host peer then t else record (with_patterns patterns t) { lines = t.lines + 1 }
+
+-- with the arrival of a message with this name, and these words behind it
+abbrev pub with_arrival : List ℕ → List ℕ → List ℕ → List (List ℕ) → ObservationsView → ObservationsView
+with_arrival host peer name words t =
+    record t { arrived = t.arrived ++ record { host = host; peer = peer; name = name; id = id_in words; at = t.lines } ∷ [] }
+
+-- with a line on which a host did this with the message of these words
+abbrev pub with_act : List PeerView → List ℕ → Direction → List (List ℕ) → ObservationsView → ObservationsView
+with_act peers host Sends (peer ∷ name ∷ words) t = with_message (host_of peers host) (host_of peers peer) [] t
+with_act peers host Receives (peer ∷ name ∷ words) t =
+    with_message (host_of peers host) (host_of peers peer) (patterns_of peers (behind_id words)) t
+with_act peers host Arrives (peer ∷ name ∷ words) t = with_arrival (host_of peers host) (host_of peers peer) name words t
+with_act peers host Unknown (peer ∷ name ∷ words) t = t
+with_act peers host direction words t = t
+
+-- with a line of these words
+unfoldable pub with_words : List PeerView → List (List ℕ) → ObservationsView → ObservationsView
+with_words peers (host ∷ dir ∷ words) t = with_act peers host (direction_of dir) (behind_preposition words) t
+with_words peers words t = t
+
+-- with these lines of a text, the first of which has this number
+abbrev pub with_lines : List PeerView → LineRange → ℕ → List (List ℕ) → ObservationsView → ObservationsView
+with_lines peers range n [] t = t
+with_lines peers range n (line ∷ lines) t =
+    with_lines peers range (n + 1) lines (if is_within range n then with_words peers (words_of line) t else t)
+
+-- with these texts
+abbrev pub with_texts : List PeerView → LineRange → List (List ℕ) → ObservationsView → ObservationsView
+with_texts peers range [] t = t
+with_texts peers range (text ∷ texts) t = with_texts peers range texts (with_lines peers range 1 (all_lines text) t)
+
+-- what the texts tell
+unfoldable pub observed_in : List PeerView → LineRange → List (List ℕ) → ObservationsView
+observed_in peers range texts = with_texts peers range texts no_observations

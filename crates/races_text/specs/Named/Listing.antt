@@ -1,0 +1,114 @@
+-- The races of a chart as they are told (this project's profile): of the instances that are asked for, in the order of
+-- their receives; all of them, or those that are left where instances finish what a message makes them do before they
+-- receive again.
+use Rattle.std.specs.Prelude.{◌≡◌, ℕ, Bool, true, false, List, [], ◌∷◌, Option, None, Some, length, nat_eq, nat_lt, Result, IfOk, if◌then◌else◌}
+use Rattle.std.specs.List.{flat_map, list_any}
+use Rattle.chart.specs.declared.event.Event.{Event}
+use Rattle.chart.specs.declared.instance.EventNo.{EventNo}
+use Rattle.chart.specs.declared.ranges.EventRange.{EventRange}
+use Rattle.chart.specs.Charts.{Chart, Place, at, LineView, chart_lines}
+use Rattle.chart.specs.Reports.{ReportView, AreReports}
+use Rattle.reordering.specs.Completion.Orders.{IsFinishedUpTo, AreCompletedReports}
+use Rattle.texts.specs.Outs.{Sink}
+use Rattle.texts.specs.Writing.{Adds, Wrote}
+use Rattle.texts.specs.declared.text_buffer.TextBuffer.{TextBuffer}
+use Rattle.races_text.specs.declared.named.listing.Form.{Form}
+use Rattle.races_text.specs.declared.named.listing.RaceQuery.{RaceQuery}
+use Rattle.races_text.specs.declared.named.listing.Form.TheVariants.{Plain, Json}
+use Rattle.races_text.specs.Named.Kept.{kept_ranges, later_than}
+use Rattle.races_text.specs.Named.PlainText.{lines_text}
+use Rattle.races_text.specs.Named.JsonText.{object_text}
+
+-- how the races are told: in which form, whether receives alone are shown, of which instances, and whether these finish
+-- what a message makes them do before they receive again
+pub record Manner : Type 0 where
+  pub form : Form
+  pub receives : Bool
+  pub only : List ℕ
+  pub completed : Bool
+
+-- there is one
+abbrev pub is_there : {X : Type 0} → Option X → Bool
+is_there None = false
+is_there (Some x) = true
+
+abbrev pub manner_of : RaceQuery → Manner
+manner_of selected = record {
+  form = selected.form;
+  receives = selected.receives;
+  only = selected.only.now;
+  completed = is_there selected.completion;
+}
+
+-- the reports that are told: the chart's, or those where instances finish
+abbrev pub AreSelected : Bool → List LineView → List ReportView → Type 0
+AreSelected false lines reports = AreReports lines reports
+AreSelected true lines reports = AreCompletedReports lines reports
+
+-- How the one come from the others: so many first events of the receive's line are left out.
+
+abbrev pub IsPassed : Bool → Chart → Place → ℕ → Type 0
+IsPassed false c r passed = passed ≡ 0
+IsPassed true c r passed = IsFinishedUpTo c r passed
+
+-- a report without the first events of its line
+abbrev pub without_first : ℕ → ReportView → ReportView
+without_first passed report = record { receive = report.receive; earlier = later_than passed report.earlier }
+
+-- what is told of the chart's report
+abbrev pub IsSelectedOf : Bool → Chart → ReportView → ReportView → Type 0
+IsSelectedOf completed c report selected = (passed : ℕ)
+    × IsPassed completed c (at report.receive.instance report.receive.index) passed
+    × (selected ≡ without_first passed report)
+
+-- what is told of several
+pub data AreSelectedOf (completed : Bool) (c : Chart) : List ReportView → List ReportView → Type 0 where
+  none : AreSelectedOf completed c [] []
+  more : {report selected : ReportView} {reports others : List ReportView} → IsSelectedOf completed c report selected
+      → AreSelectedOf completed c reports others → AreSelectedOf completed c (report ∷ reports) (selected ∷ others)
+
+-- the ranges of a receive's races, in this form
+abbrev pub ranges_text : Form → List (List ℕ) → List Event → EventNo → List EventRange → List ℕ
+ranges_text Plain names events receive ranges = lines_text names events receive ranges
+ranges_text Json names events receive ranges = object_text names events receive ranges
+
+-- its instance is asked for
+abbrev pub is_asked : Manner → ReportView → Bool
+is_asked manner report = list_any (nat_eq report.receive.instance) manner.only
+
+-- the ranges of a report that are shown
+abbrev pub shown_of : Manner → List LineView → ReportView → List EventRange
+shown_of manner lines report =
+    if is_asked manner report then kept_ranges (chart_lines lines report.receive.instance) manner.receives report.earlier
+    else []
+
+-- the text of a report
+abbrev pub report_text : Manner → List (List ℕ) → List LineView → ReportView → List ℕ
+report_text manner names lines report =
+    ranges_text manner.form names (chart_lines lines report.receive.instance) report.receive
+    (shown_of manner lines report)
+
+-- the text of all these reports
+abbrev pub races_text : Manner → List (List ℕ) → List LineView → List ReportView → List ℕ
+races_text manner names lines reports = flat_map (report_text manner names lines) reports
+
+-- there is a range
+abbrev pub has_ranges : List EventRange → Bool
+has_ranges ranges = nat_lt 0 (length ranges)
+
+-- some race is shown
+abbrev pub shows_races : Manner → List LineView → List ReportView → Bool
+shows_races manner lines reports = list_any (λ report. has_ranges (shown_of manner lines report)) reports
+
+module _ {S E : Type 0} (sink : S → Sink) where
+  -- the races of the chart with these lines were added to a text, and it was told whether some is shown
+  abbrev pub HasAdded : TextBuffer S → TextBuffer S → Manner → List (List ℕ) → List LineView → Result Bool E → Type 0
+  HasAdded old new manner names lines result = (reports : List ReportView)
+      × AreSelected manner.completed lines reports × Adds sink old new result (races_text manner names lines reports)
+      × IfOk result (λ has. has ≡ shows_races manner lines reports)
+
+  -- they were written
+  abbrev pub HasWritten : S → S → Manner → List (List ℕ) → List LineView → Result Bool E → Type 0
+  HasWritten old new manner names lines result = (reports : List ReportView)
+      × AreSelected manner.completed lines reports × Wrote sink old new result (races_text manner names lines reports)
+      × IfOk result (λ has. has ≡ shows_races manner lines reports)

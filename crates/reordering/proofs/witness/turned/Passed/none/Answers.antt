@@ -1,4 +1,0 @@
-use Rattle.reordering.proofs.witness.turned.Passed.none.Goals as goal
-
-pub returns : goal.returns
-returns c = record { sent = c.in_ok-zeros.ensures; received = c.in_ok-zeros-2.ensures }
