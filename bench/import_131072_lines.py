@@ -3,7 +3,7 @@ lines of the chart are full. Each time is the median of five runs, with what is 
 
 A token is passed round the hosts. The log says it in plain words, with an id for each message; by an expression; in the
 words of a log for ShiViz, with a clock of three hosts in each line; and in a file for each host. In the log that begins
-in the middle, of four rounds less, the first host begins later than the others: there are circles, and sends are invented.
+in the middle, of four rounds less, the first host begins later than the others: there are cycles, and sends are invented.
 Last comes a log for ShiViz of 8,192 lines whose clocks alone tell what is a message."""
 
 import os

@@ -57,7 +57,7 @@ def direct_pairs(chart, sends):
 
 
 def in_order(pairs):
-    """The events one after the other, none before its direct pairs; without those that a circle holds back."""
+    """The events one after the other, none before its direct pairs; without those that a cycle holds back."""
     later = {place: [] for place in pairs}
     missing = {}
     for place, earlier in pairs.items():

@@ -66,7 +66,7 @@ def only_in(a, b, name):
     return [number for number in range(1, len(a.lines[a.names.index(name)]) + 1) if number not in there]
 
 
-def told_event(chart, name, number):
+def event_named(chart, name, number):
     event = chart.lines[chart.names.index(name)][number - 1]
     side = "to" if event.kind == "out" else "from"
     return event.message.decode(), f"{side} {chart.names[event.partner].decode()}"
@@ -80,15 +80,15 @@ def plain_lines(a, b):
         for pair in pairs:
             if pair[0] == name:
                 _, earlier, later, earlier_there, later_there, here, there = pair
-                message, side = told_event(a, name, later)
-                other, other_side = told_event(a, name, earlier)
+                message, side = event_named(a, name, later)
+                other, other_side = event_named(a, name, earlier)
                 yield (
                     f"{called}: {message} ({later}, {side}; {later_there} in B) comes before "
                     f"{other} ({earlier}, {other_side}; {earlier_there} in B) in B: {here} in A, {there} in B\n"
                 )
         for word, chart, against in (("A", a, b), ("B", b, a)):
             for number in only_in(chart, against, name):
-                message, side = told_event(chart, name, number)
+                message, side = event_named(chart, name, number)
                 yield f"{called}: only {word} has {message} ({number}, {side})\n"
 
 
@@ -105,10 +105,10 @@ def json_lines(a, b):
                         "instance": called,
                         "earlier": earlier,
                         "earlier_in_b": earlier_there,
-                        "earlier_message": told_event(a, name, earlier)[0],
+                        "earlier_message": event_named(a, name, earlier)[0],
                         "later": later,
                         "later_in_b": later_there,
-                        "later_message": told_event(a, name, later)[0],
+                        "later_message": event_named(a, name, later)[0],
                         "a": here,
                         "b": there,
                     },
@@ -116,7 +116,7 @@ def json_lines(a, b):
                 ) + "\n"
         for word, chart, against in (("a", a, b), ("b", b, a)):
             for number in only_in(chart, against, name):
-                only = {"only": word, "instance": called, "event": number, "message": told_event(chart, name, number)[0]}
+                only = {"only": word, "instance": called, "event": number, "message": event_named(chart, name, number)[0]}
                 yield json.dumps(only, separators=(",", ":")) + "\n"
 
 

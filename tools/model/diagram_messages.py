@@ -80,7 +80,7 @@ class Collector:
     def note(self, note: Note, row: int) -> None:
         event = event_of(note, row, self.numbers, self.instances[note.participant])
         if event is None:
-            self.reading.told.leave_out("note", note.line)
+            self.reading.diagnostics.leave_out("note", note.line)
         elif event.sends:
             self.waiting.setdefault((event.lane, event.label), []).append(len(self.messages))
             self.messages.append(Message(*event.lane, event.label, row, row, True, event.place, event.place))

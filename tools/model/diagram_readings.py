@@ -68,7 +68,7 @@ class Note(NamedTuple):
 
 
 @dataclass
-class Told:
+class Diagnostics:
     """What is left out: of each kind how often, and the first place."""
 
     counts: dict[str, int] = field(default_factory=dict)
@@ -83,7 +83,7 @@ class Told:
 class Reading:
     """What the statements so far have come to. `line_breaks` are the tool's signs for a new line in a label."""
 
-    told: Told
+    diagnostics: Diagnostics
     line_breaks: re.Pattern[bytes]
     participants: dict[bytes, Participant] = field(default_factory=dict)
     rows: list[list[Arrow | Note]] = field(default_factory=list)
@@ -117,12 +117,12 @@ class Reading:
 
     def leave_out(self, kind: str, line: Line) -> None:
         if self.is_taken:
-            self.told.leave_out(kind, line)
+            self.diagnostics.leave_out(kind, line)
 
     def pass_by(self, kind: str, line: Line) -> None:
         """Something is left out that is drawn below the arrow above it."""
         if self.is_taken:
-            self.told.leave_out(kind, line)
+            self.diagnostics.leave_out(kind, line)
             self.row_is_open = False
 
     def arrow(self, line: Line, ends: Ends, label: bytes, *, left_out: str | None = None, is_lost: bool = False,

@@ -9,7 +9,7 @@ NAMES = ("ask", "ask_more", "tell", "stop")
 
 
 def drawn_lines(draw: Random) -> list[str]:
-    """Lines without any sense: most come to circles and to messages without an end."""
+    """Lines without any sense: most come to cycles and to messages without an end."""
     hosts = HOSTS[: draw.randint(2, 5)]
     lines = []
     for _ in range(draw.randint(0, 40)):

@@ -7,15 +7,15 @@ import mermaid_texts
 import mscgen_texts
 import plantuml_texts
 from chart_texts import MOST_INSTANCES, Chart, chart_text
+from detected_tools import detected_tool
 from diagram_charts import chart_of, named, refuse_full_lines, refuse_impossible, without_lost
 from diagram_lines import Line
 from diagram_messages import Collector, Message
-from diagram_readings import NotRead, Reading, Told, Unfinished
+from diagram_readings import Diagnostics, NotRead, Reading, Unfinished
 from drawn_rows import Stand, stands_of
 from given_names import GivenNames, printable, shown
 from joined import Join, joined, joined_instances
 from names import Refused
-from told_tools import told_tool
 
 READERS = {"mscgen": mscgen_texts.Reader, "plantuml": plantuml_texts.Reader, "mermaid": mermaid_texts.Reader}
 # The signs for a new line in a label.
@@ -52,7 +52,7 @@ class Answer(NamedTuple):
 
     status: int
     written: bytes
-    said: bytes
+    diagnostics: bytes
 
 
 class Drawn(NamedTuple):
@@ -90,8 +90,8 @@ def without_skipped(text: bytes, skipped: tuple[tuple[int, int], ...]) -> bytes:
 def read(tool: str | None, text: bytes) -> Reading:
     """What a diagram of a tool says, or of the one that the text tells; or F35, F21, F23 or F8."""
     try:
-        tool = told_tool(text) if tool is None else tool
-        reading = Reading(Told(), LINE_BREAKS[tool])
+        tool = detected_tool(text) if tool is None else tool
+        reading = Reading(Diagnostics(), LINE_BREAKS[tool])
         READERS[tool](text, reading).read()
     except NotRead as fault:
         raise not_read(text, fault.line)
@@ -118,7 +118,7 @@ def draw(reading: Reading, joins: list[Join]) -> Drawn:
         raise Refused("F8")
     for kind, left_out in (("message between joined lines", parts.within), ("lost message", lost)):
         for message in left_out:
-            reading.told.leave_out(kind, message.place)
+            reading.diagnostics.leave_out(kind, message.place)
     named(labels, messages)
     pairs = [(name, participant.label) for name, participant in zip(names, participants)]
     pairs += [(name, label) for label, name in labels.names.items()]
@@ -130,11 +130,11 @@ def draw(reading: Reading, joins: list[Join]) -> Drawn:
     )
 
 
-def told(reading: Reading, drawn: Drawn) -> bytes:
-    """What is told on standard error."""
+def diagnostics(reading: Reading, drawn: Drawn) -> bytes:
+    """What standard error has."""
     said = []
-    for kind, line in sorted(reading.told.first.items(), key=lambda told: (told[1].number, told[1].column)):
-        count = reading.told.counts[kind]
+    for kind, line in sorted(reading.diagnostics.first.items(), key=lambda first: (first[1].number, first[1].column)):
+        count = reading.diagnostics.counts[kind]
         if count == 1:
             said.append(f"1 {kind} is left out, in line {line.number}{READINGS.get(kind, '')}")
         else:
@@ -148,7 +148,7 @@ def told(reading: Reading, drawn: Drawn) -> bytes:
 
 def first_left_out(reading: Reading, drawn: Drawn) -> Line | None:
     """The place of the first thing that is left out."""
-    places = [*reading.told.first.values(), *(message.place for message, _ in drawn.overtaking)]
+    places = [*reading.diagnostics.first.values(), *(message.place for message, _ in drawn.overtaking)]
     return min(places, key=lambda place: (place.number, place.column), default=None)
 
 
@@ -171,4 +171,4 @@ def imported(tool: str | None, text: bytes, options: Options) -> Answer:
             raise not_read(text, place)
     except Refused as refusal:
         return Answer(2, b"", refusal.text)
-    return Answer(0, chart_text(drawn.chart), told(reading, drawn))
+    return Answer(0, chart_text(drawn.chart), diagnostics(reading, drawn))

@@ -10,7 +10,7 @@ import sys
 from typing import NamedTuple
 
 from chart_texts import chart_text
-from log_charts import chart_of_log, told
+from log_charts import chart_of_log, diagnostics
 from log_patterns import Expression, read_by
 from logs import Log, place_in
 from names import Refused
@@ -25,7 +25,7 @@ class Answer(NamedTuple):
 
     status: int
     written: bytes
-    said: bytes
+    diagnostics: bytes
 
 
 class Options(NamedTuple):
@@ -99,7 +99,7 @@ def imported(files: list[File], options: Options) -> Answer:
         made = chart_of_log(read_log(files, options))
     except Refused as refused:
         return Answer(2, b"", refused.text)
-    said = "".join(line + "\n" for line in told(made))
+    said = "".join(line + "\n" for line in diagnostics(made))
     return Answer(0, chart_text(made.chart), said.encode("utf-8", "surrogateescape"))
 
 
@@ -122,7 +122,7 @@ def main() -> int:
             files.append(File(name, file.read()))
     answer = imported(files, options)
     sys.stdout.buffer.write(answer.written)
-    sys.stderr.buffer.write(answer.said)
+    sys.stderr.buffer.write(answer.diagnostics)
     return answer.status
 
 

@@ -20,7 +20,7 @@ READS = {b"check": (read_chart, check), b"replay": (read_schedule, replay)}
 REFUSED = re.compile(rb"refused: F([0-9]+) ")
 
 
-class Told:
+class Records:
     """The records of a stream: a line `WORD STATUS LENGTH LENGTH LENGTH`, the text, what was written and what was said."""
 
     def __init__(self, stream):
@@ -45,9 +45,9 @@ def summary(seen, digest):
 
 def judge(stream, count):
     """Judges so many records and the summary: how many failed."""
-    told, seen, failed = Told(stream), Counter({0: 0}), 0
+    records, seen, failed = Records(stream), Counter({0: 0}), 0
     for _ in range(count):
-        word, text, answered = told.record()
+        word, text, answered = records.record()
         read, does = READS[word]
         wanted = answer(read, text, does)
         if answered != wanted:
@@ -56,7 +56,7 @@ def judge(stream, count):
         refusal = REFUSED.match(wanted[2])
         seen[int(refusal[1]) if refusal else 0] += 1
     printed = stream.read().decode()
-    if printed != summary(seen, told.digest.hexdigest()):
+    if printed != summary(seen, records.digest.hexdigest()):
         failed += 1
         print("FAILED: at the end it prints", printed, flush=True)
     print(printed, end="")

@@ -22,7 +22,7 @@ from schedule_texts import read_schedule, schedule_text
 TURNS = "100000"
 
 
-def turned(chart):
+def reordered(chart):
     """The same chart with its instances the other way round."""
     last = len(chart.names) - 1
     lines = [[event._replace(partner=last - event.partner) for event in line] for line in chart.lines]
@@ -46,7 +46,7 @@ def threaded_runs(mscrun, folder, text):
 def charts_of(outputs, seed):
     """Their charts."""
     a, b = (read_chart(chart_part(output)) for output in outputs)
-    return a, turned(b) if seed % 2 else b
+    return a, reordered(b) if seed % 2 else b
 
 
 def differs(program, folder, a, b, is_json):

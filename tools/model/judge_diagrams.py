@@ -90,14 +90,14 @@ def has_picture(program: str, tool: str, options: Options, text: bytes, path: st
 def is_sound(answer: Answer) -> bool:
     """Whether a chart is a possible one, and its text that of a chart."""
     if answer.status != 0:
-        return answer.written == b"" and answer.said.startswith(b"refused: ")
+        return answer.written == b"" and answer.diagnostics.startswith(b"refused: ")
     chart = read_chart(answer.written)
     events_before(chart)
     return chart_text(chart) == answer.written
 
 
 def kind_of(answer: Answer) -> str:
-    return "read" if answer.status == 0 else answer.said.split(b" ")[1].decode()
+    return "read" if answer.status == 0 else answer.diagnostics.split(b" ")[1].decode()
 
 
 def judge(tool: str, count: int, seed: int, flags: Flags, program: str | None) -> int:
@@ -127,7 +127,7 @@ def judge(tool: str, count: int, seed: int, flags: Flags, program: str | None) -
                     print("FAILED", number, "picture", words_of(named, options, "FILE"), text, flush=True)
                 seen["drawn"] += 1
             seen[kind_of(wanted)] += 1
-            digest.update(b"%d %d " % (len(text), wanted.status) + text + wanted.written + wanted.said)
+            digest.update(b"%d %d " % (len(text), wanted.status) + text + wanted.written + wanted.diagnostics)
     print(" ".join(f"{kind} {times}" for kind, times in sorted(seen.items())), "sha256", digest.hexdigest())
     return failed
 

@@ -73,12 +73,12 @@ class Programs(Model):
     def is_possible(self, text: bytes) -> bool:
         (self.room / "chart").write_bytes(text)
         answer = self.run(self.mscrun, "check", "chart")
-        return answer.status in (0, 1) and answer.said == b""
+        return answer.status in (0, 1) and answer.diagnostics == b""
 
     def exported(self, text: bytes) -> bytes | None:
         (self.room / "chart").write_bytes(text)
         answer = self.run(self.mscview, "export", "--to", "shiviz", "chart")
-        return answer.written if answer.status == 0 and answer.said == b"" else b""
+        return answer.written if answer.status == 0 and answer.diagnostics == b"" else b""
 
 
 class Judge:
@@ -118,9 +118,9 @@ class Judge:
     def count(self, what: str, wanted: Answer) -> None:
         """Counts logs of a kind of which something is told."""
         if wanted.status == 2:
-            self.seen[f"{what}, {wanted.said.split()[1].decode()}"] += 1
+            self.seen[f"{what}, {wanted.diagnostics.split()[1].decode()}"] += 1
         for words in ("invented", "lost", "overtakes", "circle"):
-            self.seen[f"{what}, {words}"] += words.encode() in wanted.said
+            self.seen[f"{what}, {words}"] += words.encode() in wanted.diagnostics
 
     def tell(self) -> None:
         for what, number in self.seen.items():
@@ -132,7 +132,7 @@ def text_of(lines: list[str], ends: bool = True) -> bytes:
     return ("\n".join(lines) + ("\n" if ends and lines else "")).encode()
 
 
-def told_others(places: list[str], files: list[File]) -> bytes:
+def others_diagnostics(places: list[str], files: list[File]) -> bytes:
     """What is told of lines that say nothing, of all lines of these files."""
     if not places:
         return b""
@@ -166,7 +166,7 @@ def judge_recorded(judge: Judge, count: int, seed: int) -> None:
             order = draw.sample(sorted(mixed), len(mixed))
             places = [f"host{host}.log:{other}" for host in order for other in mixed[host][1]]
             files = [File(f"host{host}.log", text_of(mixed[host][0])) for host in order]
-        judge.comes_back("application's logs", files, Options(), chart, told_others(places, files))
+        judge.comes_back("application's logs", files, Options(), chart, others_diagnostics(places, files))
 
 
 def judge_captured(judge: Judge, count: int, seed: int) -> None:
@@ -190,7 +190,7 @@ def judge_clocked(judge: Judge, count: int, seed: int) -> None:
         if exported is not None:
             judge.comes_back("exported logs", [File("log", exported)], options, chart, b"")
             files = [File("log", exported)]
-            judge.comes_back("exported logs by a pattern", files, Options(pattern=CLOCKS), chart, told_others(["line 1"], files))
+            judge.comes_back("exported logs by a pattern", files, Options(pattern=CLOCKS), chart, others_diagnostics(["line 1"], files))
 
 
 def judge_timed(judge: Judge, count: int, seed: int) -> None:

@@ -21,9 +21,9 @@ from random import Random
 
 from drawn_logs import named_otherwise, recorded_lines
 from imported_logs import Answer, File, Options
+from judged_races import JudgedRace, Shown, chart_of, diagnostics_of, judged_races, ranges_of
 from log_charts import LogChart
 from names import Refused
-from told_luck import Shown, Told, chart_of, races_told, ranges_of, told_beside
 
 RECEIVE = ["instance", "receive", "message", "sender"]
 LINE = re.compile(
@@ -52,8 +52,8 @@ class Events:
         return side == ("to" if event.kind == "out" else "from") and partner == self.names[event.partner]
 
 
-def told_by_line(events: Events, text: str) -> list[Told]:
-    """The races that a line tells."""
+def races_in_line(events: Events, text: str) -> list[JudgedRace]:
+    """The races that a line states."""
     found = LINE.fullmatch(text)
     if not found:
         raise Unlike(text)
@@ -71,12 +71,12 @@ def told_by_line(events: Events, text: str) -> list[Told]:
         raise Unlike(text)
     receive = int(found["receive"])
     return [
-        Told(instance, receive, found["message"], found["sender"], number, message, found["word"])
+        JudgedRace(instance, receive, found["message"], found["sender"], number, message, found["word"])
         for number, message in zip(numbers, messages)
     ]
 
 
-def told_by_object(text: str) -> list[list[Told]]:
+def races_in_object(text: str) -> list[list[JudgedRace]]:
     """The races of each range of an object."""
     said = json.loads(text)
     *names, last = said
@@ -88,38 +88,38 @@ def told_by_object(text: str) -> list[list[Told]]:
         numbers = range(each["first"], each["last"] + 1)
         if list(each) != ["first", "last", "messages", "why"] or len(numbers) != len(each["messages"]):
             raise Unlike(text)
-        ranges.append([Told(*receive, *event, each["why"]) for event in zip(numbers, each["messages"])])
+        ranges.append([JudgedRace(*receive, *event, each["why"]) for event in zip(numbers, each["messages"])])
     return ranges
 
 
-def told_ranges(made: LogChart, written: bytes, as_json: bool) -> list[list[Told]]:
+def stated_ranges(made: LogChart, written: bytes, as_json: bool) -> list[list[JudgedRace]]:
     lines = written.decode().splitlines()
     if as_json:
-        objects = [told_by_object(line) for line in lines]
+        objects = [races_in_object(line) for line in lines]
         receives = [ranges[0][0][:2] for ranges in objects]
         if len(set(receives)) != len(receives):
             raise Unlike("one receive in two objects")
         return [each for ranges in objects for each in ranges]
     events = Events(made)
-    return [told_by_line(events, line) for line in lines]
+    return [races_in_line(events, line) for line in lines]
 
 
 def fault_of(made: LogChart, shown: Shown, answer: Answer) -> str | None:
     """What is wrong with an answer, or nothing."""
-    wanted = races_told(made, shown)
-    if answer.said != told_beside(made):
-        return f"standard error: {answer.said!r}"
+    wanted = judged_races(made, shown)
+    if answer.diagnostics != diagnostics_of(made):
+        return f"standard error: {answer.diagnostics!r}"
     if answer.status != int(bool(wanted)):
         return f"status {answer.status}"
     try:
-        ranges = told_ranges(made, answer.written, shown.as_json)
+        ranges = stated_ranges(made, answer.written, shown.as_json)
     except (Unlike, ValueError, LookupError) as unlike:
         return f"its form: {unlike}"
-    told = [race for each in ranges for race in each]
-    if told != wanted:
-        only = [race for race in told if race not in wanted] + [race for race in wanted if race not in told]
+    stated = [race for each in ranges for race in each]
+    if stated != wanted:
+        only = [race for race in stated if race not in wanted] + [race for race in wanted if race not in stated]
         return f"a race: {only[0] if only else 'their order'}"
-    return None if ranges == list(ranges_of(told)) else "ranges that could be one"
+    return None if ranges == list(ranges_of(stated)) else "ranges that could be one"
 
 
 def drawn_files(draw: Random, lines: list[str]) -> list[File]:
@@ -159,7 +159,7 @@ class Judge:
         for file in files:
             (self.room / file.name).write_bytes(file.text)
         made = chart_of(files, options)
-        self.seen.update(race.word for race in races_told(made, Shown()))
+        self.seen.update(race.word for race in judged_races(made, Shown()))
         self.seen["recordings"] += 1
         for luck, as_json in product((False, True), repeat=2):
             shown = Shown(luck, receives, as_json)

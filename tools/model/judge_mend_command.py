@@ -69,7 +69,7 @@ def range_words(chart, line, first, last):
     return b"events %d to %d (%s%s%s)" % (first, last, line[first - 1].message, between, line[last - 1].message)
 
 
-def told_races(chart, pairs, word):
+def race_lines(chart, pairs, word):
     """The lines of these race pairs behind a word."""
     receives = {}
     for e, r in sorted(pairs, key=lambda pair: (pair[1], pair[0])):
@@ -89,7 +89,7 @@ def message_words(chart, name, message):
     )
 
 
-def change_told(chart, races, name, message):
+def change_lines(chart, races, name, message):
     """What is told of a message: where it is, and which races go, stay and come."""
     new = with_message(chart, *message, name=name)
     news = race_pairs(new, events_before(new))
@@ -97,9 +97,9 @@ def change_told(chart, races, name, message):
     gone = {pair for place, pair in there.items() if place not in news}
     return (
         message_words(chart, name, message)
-        + told_races(chart, gone, b"goes")
-        + told_races(new, {pair for pair in news if pair in there}, b"stays")
-        + told_races(new, {pair for pair in news if pair not in there}, b"comes")
+        + race_lines(chart, gone, b"goes")
+        + race_lines(new, {pair for pair in news if pair in there}, b"stays")
+        + race_lines(new, {pair for pair in news if pair not in there}, b"comes")
     )
 
 
@@ -108,7 +108,7 @@ def wanted(chart, races, found, sends, e, r):
     word, what = mended(chart, found, sends, e, r)
     if word == "message":
         name = free_name(chart)
-        return word, (0, chart_text(with_message(chart, *what, name=name)), change_told(chart, races, name, what))
+        return word, (0, chart_text(with_message(chart, *what, name=name)), change_lines(chart, races, name, what))
     way = b" comes behind the receive's send\n" if word == "crossed" else b" is on its way\n"
     ends = chart.names[e[0]], chart.names[sends[r][0]]
     told = b"no message from %s to %s does: " % ends + event_words(chart, chart.lines[e[0]], what) + way

@@ -1,6 +1,6 @@
 """
 The chart of a log. So that one always comes out: lost messages and those that overtake are left out, a receive without
-a send gives its peer one, and receives on a circle are freed of their sends, one by one.
+a send gives its peer one, and receives on a cycle are freed of their sends, one by one.
 """
 
 from collections import defaultdict
@@ -9,7 +9,7 @@ from dataclasses import dataclass, field
 
 from chart_texts import MOST_EVENTS, MOST_INSTANCES, Chart, Event
 from charts import direct_pairs, sends_of_receives
-from circles import on_circles
+from cycles import on_cycles
 from given_names import GivenNames, shown
 from logs import Entry, Log, Message, messages_of
 from names import Refused
@@ -110,12 +110,12 @@ def whole_lines_of(hosts: list[str], lines: dict[str, list[Item]]) -> list[list[
     return whole
 
 
-def first_on_a_circle(made: LogChart) -> Entry | None:
-    """The first receive in the files that is on a circle and whose send is logged."""
-    circled = on_circles(direct_pairs(made.chart, sends_of_receives(made.chart)))
+def first_on_a_cycle(made: LogChart) -> Entry | None:
+    """The first receive in the files that is on a cycle and whose send is logged."""
+    on_cycle = on_cycles(direct_pairs(made.chart, sends_of_receives(made.chart)))
     receives = [
         message.receive
-        for p, i in circled
+        for p, i in on_cycle
         for kind, message in [made.lines[p][i]]
         if kind == "in" and message.send is not None
     ]
@@ -130,10 +130,10 @@ def chart_of_log(log: Log) -> LogChart:
     freed: list[Entry] = []
     while True:
         made = paired(log, hosts, freed)
-        circled = first_on_a_circle(made)
-        if circled is None:
+        on_cycle = first_on_a_cycle(made)
+        if on_cycle is None:
             break
-        freed.append(circled)
+        freed.append(on_cycle)
     for name, line in zip(made.chart.names, made.lines):
         if len(line) > MOST_EVENTS:
             raise Refused("F7", name)
@@ -141,7 +141,7 @@ def chart_of_log(log: Log) -> LogChart:
 
 
 def paired(log: Log, hosts: list[str], freed: list[Entry]) -> LogChart:
-    """The chart with these receives freed. It may have circles."""
+    """The chart with these receives freed. It may have cycles."""
     messages = messages_of(log, {entry.number for entry in freed})
     lost = lost_messages(messages)
     overtaking = overtaking_messages(messages)
@@ -173,7 +173,7 @@ def names_of(words: Iterable[str]) -> dict[str, str]:
     return {word: given.name(label_of(word)).decode() for word in words}
 
 
-def names_told(names: dict[str, str]) -> list[str]:
+def name_diagnostics(names: dict[str, str]) -> list[str]:
     """The names that aren't their words."""
     return [
         f'name {name} is "{shown(label_of(word)).decode()}"'
@@ -189,7 +189,7 @@ def counted(places: list[str], one: str, several: str) -> list[str]:
     return [f"1 {one}, {places[0]}"] if len(places) == 1 else [f"{len(places)} {several}, the first is {places[0]}"]
 
 
-def unmatched_told(places: list[str], lines: int) -> list[str]:
+def unmatched_diagnostics(places: list[str], lines: int) -> list[str]:
     """What is told of lines that don't match, among so many."""
     if not places:
         return []
@@ -197,10 +197,10 @@ def unmatched_told(places: list[str], lines: int) -> list[str]:
     return [first + places[0]]
 
 
-def told(made: LogChart) -> list[str]:
+def diagnostics(made: LogChart) -> list[str]:
     """What was done to come to the chart."""
     own = [entry.place for entry in made.log.entries if entry.kind != "arrive" and entry.host == entry.peer]
-    lines = unmatched_told(made.log.unmatched, made.log.line_count)
+    lines = unmatched_diagnostics(made.log.unmatched, made.log.line_count)
     lines += counted(own, "event of a message to oneself is left out", "events of messages to oneself are left out")
     lines += ["only the order at the tap is known"] if made.log.is_captured else []
     lines += ["a receive at which no entry of the clock grew isn't seen"] if made.log.is_timed else []
@@ -215,4 +215,4 @@ def told(made: LogChart) -> list[str]:
     lines += [f"{made.names[made.hosts[p]]} {i + 1} is invented: the log begins in the middle" for p, i in invented]
     if invented:
         lines.append("a race whose earlier event is invented, or whose receive comes behind an invented event, isn't claimed")
-    return lines + names_told(made.names) + names_told(made.message_names)
+    return lines + name_diagnostics(made.names) + name_diagnostics(made.message_names)

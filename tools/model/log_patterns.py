@@ -6,7 +6,7 @@ more, says by its named groups what happened.
 import re
 from collections.abc import Callable
 
-from logs import Log, Said, kind_of
+from logs import Log, LoggedEvent, kind_of
 from names import Refused
 from shiviz_logs import Clocked
 
@@ -15,20 +15,23 @@ def identity_of(found: re.Match) -> str | None:
     return found.groupdict().get("id") or None
 
 
-def event_said(found: re.Match) -> list[Said] | None:
+def logged_event(found: re.Match) -> list[LoggedEvent] | None:
     kind = kind_of(found["dir"])
-    return [Said(found["host"], kind, found["peer"], found["name"], identity_of(found))] if kind else None
+    return [LoggedEvent(found["host"], kind, found["peer"], found["name"], identity_of(found))] if kind else None
 
 
-def capture_said(found: re.Match) -> list[Said] | None:
+def logged_capture(found: re.Match) -> list[LoggedEvent] | None:
     sender, receiver, name, identity = found["src"], found["dst"], found["name"], identity_of(found)
-    return [Said(sender, "send", receiver, name, identity), Said(receiver, "receive", sender, name, identity)]
+    return [
+        LoggedEvent(sender, "send", receiver, name, identity),
+        LoggedEvent(receiver, "receive", sender, name, identity),
+    ]
 
 
 EVENT = {"host", "dir", "peer", "name"}
 CAPTURE = {"src", "dst", "name"}
 CLOCK = {"host", "clock", "event"}
-SETS = ((EVENT, event_said), (CAPTURE, capture_said), (CLOCK, None))
+SETS = ((EVENT, logged_event), (CAPTURE, logged_capture), (CLOCK, None))
 
 
 class Expression:
@@ -43,7 +46,7 @@ class Expression:
         sets = [one for one in SETS if one[0] <= there]
         if not sets:
             raise Refused("F39", len(text.encode()) + 1)
-        self.groups, self.said_by = sets[0]
+        self.groups, self.logged_by = sets[0]
 
     @property
     def captures(self) -> bool:
@@ -65,13 +68,13 @@ def read_by(
     while number <= min(last, len(lines)):
         window = "\n".join(lines[number - 1 : number + expression.more]).removesuffix("\r")
         found = expression.match(window)
-        said = found and expression.said_by and expression.said_by(found)
+        said = found and expression.logged_by and expression.logged_by(found)
         if said:
             for event in said:
-                log.add_said(event, place(number))
-        elif found and not expression.said_by:
+                log.add_logged(event, place(number))
+        elif found and not expression.logged_by:
             clocked.append(Clocked(found["host"], found["clock"], found["event"], place(number)))
         elif lines[number - 1].strip(" \t\r"):
             log.unmatched.append(place(number))
-        number += 1 + expression.more if said or found and not expression.said_by else 1
+        number += 1 + expression.more if said or found and not expression.logged_by else 1
     return clocked

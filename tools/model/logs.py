@@ -69,7 +69,7 @@ class Message:
         return entry.name
 
 
-class Said(NamedTuple):
+class LoggedEvent(NamedTuple):
     """What a line says: who did what, with whom, and with which message."""
 
     host: str
@@ -106,12 +106,12 @@ class Log:
             return
         host, _, peer, name, identity, rest = said.groups()
         takes = tuple(Pattern(*two) for two in TAKES.findall(rest or ""))
-        self.add_said(Said(host, kind, peer, name, identity, takes), place)
+        self.add_logged(LoggedEvent(host, kind, peer, name, identity, takes), place)
 
-    def add_said(self, said: Said, place: str) -> None:
-        host, peer = (self.peers.get(word, word) for word in (said.host, said.peer))
-        takes = tuple(Pattern(self.sender(pattern.peer), pattern.names) for pattern in said.takes)
-        self.entries.append(Entry(len(self.entries), place, host, said.kind, peer, said.name, said.identity, takes))
+    def add_logged(self, event: LoggedEvent, place: str) -> None:
+        host, peer = (self.peers.get(word, word) for word in (event.host, event.peer))
+        takes = tuple(Pattern(self.sender(pattern.peer), pattern.names) for pattern in event.takes)
+        self.entries.append(Entry(len(self.entries), place, host, event.kind, peer, event.name, event.identity, takes))
 
     def sender(self, word: str) -> str:
         """Whom the word of a pattern stands for. `*` is any sender, and no host."""

@@ -17,7 +17,7 @@ Race = tuple[int, int, int]
 class WholeLog:
     """
     What is before what in the whole log: a host's earlier events before its later sends, its earlier receives before
-    later ones from the same sender, each logged send before its receive. It may have circles.
+    later ones from the same sender, each logged send before its receive. It may have cycles.
     """
 
     def __init__(self, made: LogChart):

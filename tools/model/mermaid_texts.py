@@ -48,7 +48,7 @@ LOOKS = form(
 WRAP = re.compile(rb"[ \t\r]*:?(?:no)?wrap:", re.IGNORECASE)
 
 
-class ArrowSaid(NamedTuple):
+class ArrowElement(NamedTuple):
     """What an arrow's statement says. The names are in the order of the text."""
 
     names: tuple[bytes, bytes]
@@ -65,7 +65,7 @@ def text_of(said: bytes | None) -> bytes:
     return text[wrapped.end() if wrapped else 0:].strip(BLANKS)
 
 
-def arrow_said(words: bytes) -> ArrowSaid | None:
+def arrow_element(words: bytes) -> ArrowElement | None:
     """What the words of a statement say, if they are an arrow. The first sign of an arrow is its own."""
     sign = SIGN.search(words)
     if not sign:
@@ -75,7 +75,7 @@ def arrow_said(words: bytes) -> ArrowSaid | None:
     if not sender or not receiver:
         return None
     one, other = sender[0], receiver["word"].strip(BLANKS)
-    return ArrowSaid(
+    return ArrowElement(
         (one, other),
         Ends(other, one) if sign["left"] else Ends(one, other),
         "arrow both ways" if sign["both"] else None,
@@ -133,7 +133,7 @@ class Reader:
         self.reading.begin_box(line, found["word"].lower())
 
     def is_arrow(self, line: Line) -> bool:
-        said = arrow_said(line.words)
+        said = arrow_element(line.words)
         if said is None:
             return False
         for word in said.names:

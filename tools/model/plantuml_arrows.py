@@ -35,7 +35,7 @@ TO_EDGE = form(
 )
 
 
-class ArrowSaid(NamedTuple):
+class ArrowElement(NamedTuple):
     """What an arrow's statement says. `names` are its participants, each with its label, if it has one there."""
 
     ends: Ends
@@ -83,8 +83,8 @@ def named(found: re.Match[bytes], end: str) -> tuple[bytes, bytes | None]:
     return unquoted(found["name" + end]), None
 
 
-def said(found: re.Match[bytes], names: list[tuple[bytes, bytes | None]], ends: Ends, marks: bytes) -> ArrowSaid:
-    return ArrowSaid(
+def said(found: re.Match[bytes], names: list[tuple[bytes, bytes | None]], ends: Ends, marks: bytes) -> ArrowElement:
+    return ArrowElement(
         ends, names, kind_of(found), b"x" in marks.lower(), is_dotted(found), bool(found["row"]),
         found["activation"] or b"", found["text"] or b"",
     )
@@ -95,7 +95,7 @@ def goes_right(found: re.Match[bytes]) -> bool:
     return has_head(found["right"]) or not has_head(found["left"])
 
 
-def edge_said(found: re.Match[bytes], ends: Ends) -> ArrowSaid | None:
+def edge_element(found: re.Match[bytes], ends: Ends) -> ArrowElement | None:
     """An arrow from or to the edge, which has a head."""
     if not has_head(found["left"]) and not has_head(found["right"]):
         return None
@@ -103,7 +103,7 @@ def edge_said(found: re.Match[bytes], ends: Ends) -> ArrowSaid | None:
     return said(found, [(name, None)], ends, (found["mark"] or b"") + (found["other"] or b""))
 
 
-def arrow_said(words: bytes) -> ArrowSaid | None:
+def arrow_element(words: bytes) -> ArrowElement | None:
     """What the words of a statement say, if they are an arrow."""
     if found := ARROW.fullmatch(words):
         names = [named(found, "1"), named(found, "2")]
@@ -112,8 +112,8 @@ def arrow_said(words: bytes) -> ArrowSaid | None:
         return said(found, names, ends, found["left"] + found["right"])
     if found := FROM_EDGE.fullmatch(words):
         name = unquoted(found["name"])
-        return edge_said(found, Ends(None, name) if goes_right(found) else Ends(name, None))
+        return edge_element(found, Ends(None, name) if goes_right(found) else Ends(name, None))
     if found := TO_EDGE.fullmatch(words):
         name = unquoted(found["name"])
-        return edge_said(found, Ends(name, None) if goes_right(found) else Ends(None, name))
+        return edge_element(found, Ends(name, None) if goes_right(found) else Ends(None, name))
     return None

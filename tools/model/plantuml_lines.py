@@ -7,7 +7,7 @@ import re
 from typing import Iterator, NamedTuple
 
 from diagram_lines import Line, stripped
-from diagram_readings import Told, Unfinished
+from diagram_readings import Diagnostics, Unfinished
 
 START = re.compile(rb"[ \t\r]*@startuml(?![A-Za-z0-9_])")
 END = re.compile(rb"[ \t\r]*@enduml(?![A-Za-z0-9_])")
@@ -96,12 +96,12 @@ def uncommented(lines: Iterator[Line], source: list[bytes]) -> Iterator[Line]:
             yield line
 
 
-def skipped(lines: Iterator[Line], ends: re.Pattern[bytes], told: Told) -> Line:
+def skipped(lines: Iterator[Line], ends: re.Pattern[bytes], diagnostics: Diagnostics) -> Line:
     """Leaves lines out up to one that has this form, and answers it. Conditions within are passed over whole."""
     depth = 0
     for line in lines:
         if line.words.startswith(b"!"):
-            told.leave_out("pre-processor line", line)
+            diagnostics.leave_out("pre-processor line", line)
         if depth == 0 and ends.match(line.words):
             return line
         if CONDITION.match(line.words):
@@ -111,25 +111,25 @@ def skipped(lines: Iterator[Line], ends: re.Pattern[bytes], told: Told) -> Line:
     raise Unfinished
 
 
-def chosen(lines: Iterator[Line], told: Told) -> Iterator[Line]:
+def chosen(lines: Iterator[Line], diagnostics: Diagnostics) -> Iterator[Line]:
     """The lines that the pre-processor leaves: of a condition its first branch, and no definition's body."""
     for line in lines:
         if not line.words.startswith(b"!"):
             yield line
             continue
-        told.leave_out("pre-processor line", line)
+        diagnostics.leave_out("pre-processor line", line)
         definition = DEFINITION.match(line.words)
         if OTHER_BRANCH.match(line.words):
-            skipped(lines, CONDITION_END, told)
+            skipped(lines, CONDITION_END, diagnostics)
         elif definition and not ONE_LINE_FUNCTION.match(line.words):
-            skipped(lines, re.compile(rb"!end\s*" + re.escape(definition[1]) + rb"\b", re.IGNORECASE), told)
+            skipped(lines, re.compile(rb"!end\s*" + re.escape(definition[1]) + rb"\b", re.IGNORECASE), diagnostics)
 
 
-def diagram_lines(text: bytes, told: Told) -> Iterator[Line]:
+def diagram_lines(text: bytes, diagnostics: Diagnostics) -> Iterator[Line]:
     """The lines of a text's first diagram that say something."""
     source = text.split(b"\n")
     lines = joined(source)
     where = extent(lines)
-    yield from chosen(uncommented(iter(lines[where.first:where.behind]), source), told)
+    yield from chosen(uncommented(iter(lines[where.first:where.behind]), source), diagnostics)
     for i in where.others:
-        told.leave_out("diagram", in_source(source, stripped(lines[i])))
+        diagnostics.leave_out("diagram", in_source(source, stripped(lines[i])))

@@ -9,7 +9,7 @@ from typing import Callable
 import plantuml_statements as forms
 from diagram_lines import BLANKS, Line
 from diagram_readings import NotRead, Reading, Unfinished
-from plantuml_arrows import ArrowSaid, arrow_said
+from plantuml_arrows import ArrowElement, arrow_element
 from plantuml_lines import diagram_lines
 from plantuml_words import names_in, unquoted
 
@@ -25,7 +25,7 @@ class Reader:
 
     def __init__(self, text: bytes, reading: Reading):
         self.reading = reading
-        self.lines = diagram_lines(text, reading.told)
+        self.lines = diagram_lines(text, reading.diagnostics)
 
     def read(self) -> None:
         for line in self.lines:
@@ -57,7 +57,7 @@ class Reader:
         return False
 
     def is_arrow(self, line: Line) -> bool:
-        said = arrow_said(line.words)
+        said = arrow_element(line.words)
         if said is None:
             return False
         self.arrow(line, said)
@@ -112,7 +112,7 @@ class Reader:
             self.pass_over(forms.PARTICIPANT_END)
         self.reading.name(line, word, label)
 
-    def arrow(self, line: Line, said: ArrowSaid) -> None:
+    def arrow(self, line: Line, said: ArrowElement) -> None:
         for word, label in said.names:
             self.reading.name(line, word, label)
         self.reading.arrow(

@@ -8,7 +8,7 @@ import re
 from collections.abc import Callable
 from typing import NamedTuple
 
-from logs import Log, Said
+from logs import Log, LoggedEvent
 
 CLOCKED = re.compile(r"([^ ]*) (\{[^}]*\})(.*)", re.DOTALL)
 ENTRY = re.compile(r'[ \t\r]*"([^"]*)"[ \t\r]*:[ \t\r]*([0-9]+)[ \t\r]*')
@@ -48,11 +48,11 @@ def clocked_in(line: str) -> Clocked | None:
     return Clocked(said[1], said[2], said[3].strip(BLANKS)) if said else None
 
 
-def said_in_words(host: str, event: str) -> Said | None:
+def event_in_words(host: str, event: str) -> LoggedEvent | None:
     """What the words of an event say."""
     words = event.split(",")[0].split()
     kind = WORDS.get((words[0], words[2])) if len(words) == 4 else None
-    return Said(host, kind, words[3], words[1]) if kind else None
+    return LoggedEvent(host, kind, words[3], words[1]) if kind else None
 
 
 def read_shiviz(lines: list[str], place: Callable[[int], str], first: int, last: int) -> tuple[list[Clocked], list[str]]:
@@ -93,10 +93,10 @@ class Clocks:
                 self.numbers.setdefault((event.host, own), number)
         self.hearings = self.all_hearings()
 
-    def is_told(self, number: int) -> bool:
+    def is_by_clock(self, number: int) -> bool:
         """Whether the clock of this event tells what it is."""
         event = self.events[number]
-        return self.own[number] > 0 and not said_in_words(event.host, event.event)
+        return self.own[number] > 0 and not event_in_words(event.host, event.event)
 
     def all_hearings(self) -> list[Hearing]:
         found: list[Hearing] = []
@@ -106,7 +106,7 @@ class Clocks:
                 continue
             before = last.get(event.host, {})
             last[event.host] = self.entries[number]
-            if self.is_told(number):
+            if self.is_by_clock(number):
                 grown = [
                     Hearing(number, host, count, self.numbers.get((host, count)))
                     for host, count in self.entries[number].items()
@@ -119,7 +119,7 @@ class Clocks:
         """Whether the event that one hears of knows of another one."""
         return other.host != one.host and other.of is not None and self.entries[other.of].get(one.host, 0) >= one.count
 
-    def said(self, number: int) -> list[Said]:
+    def logged(self, number: int) -> list[LoggedEvent]:
         """What an event is, where its clock tells it: first its receives."""
         event = self.events[number]
         receives = [one for one in self.hearings if one.by == number]
@@ -127,20 +127,22 @@ class Clocks:
         found = []
         for one in receives:
             sent = event if one.of is None else self.events[one.of]
-            found.append(Said(event.host, "receive", one.host, sent.event, sent.clock))
-        return found + [Said(event.host, "send", self.events[one.by].host, event.event, event.clock) for one in sends]
+            found.append(LoggedEvent(event.host, "receive", one.host, sent.event, sent.clock))
+        return found + [
+            LoggedEvent(event.host, "send", self.events[one.by].host, event.event, event.clock) for one in sends
+        ]
 
 
 def add_clocked(log: Log, events: list[Clocked]) -> None:
     """Adds what events say. `log.unmatched` gets the places of those that say nothing."""
     clocks = Clocks(events)
     for number, event in enumerate(events):
-        words = said_in_words(event.host, event.event)
+        words = event_in_words(event.host, event.event)
         if words:
-            log.add_said(words, event.place)
-        elif clocks.is_told(number):
+            log.add_logged(words, event.place)
+        elif clocks.is_by_clock(number):
             log.is_timed = True
-            for said in clocks.said(number):
-                log.add_said(said, event.place)
+            for said in clocks.logged(number):
+                log.add_logged(said, event.place)
         else:
             log.unmatched.append(event.place)

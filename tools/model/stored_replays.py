@@ -54,7 +54,7 @@ def literal(text):
     return text.decode("ascii").replace("\n", "\\n")
 
 
-def told(text):
+def stored(text):
     """A schedule with what it comes to, as an entry of the table."""
     _, written = replay(read_schedule(text))
     return f'    (\n        b"{literal(text)}",\n        b"{literal(written)}",\n    ),\n'
@@ -72,7 +72,7 @@ def drawn_digest():
 def main():
     texts = [input_of(case) for case in WORKED] + [CROSSING_AND_ANY]
     digits = "".join(f"\\x{byte:02x}" for byte in drawn_digest())
-    print(STORED % (len(texts), "".join(map(told, texts)), digits), end="")
+    print(STORED % (len(texts), "".join(map(stored, texts)), digits), end="")
 
 
 if __name__ == "__main__":

@@ -40,14 +40,14 @@ async function tellPair(row, earlier, counts) {
 // The sentences of `why`, and its two columns; what comes before the receive is marked in the picture.
 function tellWhy(it, row, why) {
   const [instance, receive] = races.numbersOf(row), lines = decode(why.out).split("\n");
-  const before = [], counts = it.chart.names.map(() => 0), alone = [], turned = [];
+  const before = [], counts = it.chart.names.map(() => 0), alone = [], reordered = [];
   for (const line of lines) {
     const [first, name, count] = line.split(" ");
     if (first === "before" && count !== "0") {
       before.push(`the first ${count === "1" ? "event" : `${count} events`} of ${name}`);
       counts[it.chart.names.indexOf(name)] = count;
     } else if (first === "and") alone.push(count);
-    else if (first === "line") turned.push(line.slice(5).split(" | "));
+    else if (first === "line") reordered.push(line.slice(5).split(" | "));
   }
   row.dataset.before = counts.join(" ");
   row.dataset.also = alone.join(" ");
@@ -56,8 +56,8 @@ function tellWhy(it, row, why) {
   by("why_words").textContent = why.status !== 1 ? decode(why.out) || wordsOfRefusal(why)
     : before.length + also.length === 0 ? "Nothing has to come before this receive."
     : `Before this receive come ${[...before, ...also].join(", ")}, and nothing else has to.`;
-  by("turned").hidden = turned.length === 0;
-  by("turned").tBodies[0].replaceChildren(...turned.slice(0, MOST_ROWS).map(([is, may]) => {
+  by("reordered").hidden = reordered.length === 0;
+  by("reordered").tBodies[0].replaceChildren(...reordered.slice(0, MOST_ROWS).map(([is, may]) => {
     const line = element("tr", "", {className: may.startsWith(`${receive} `) ? "receive" : ""});
     line.append(element("td", is), element("td", may));
     return line;

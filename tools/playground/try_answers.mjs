@@ -52,9 +52,9 @@ for (const folder of ["logs", "erlang", "mpi"]) {
   for (const it of readdirSync(`examples/${folder}`).filter((it) => it.endsWith(".words"))) {
     const name = `examples/${folder}/${base(it)}`;
     const words = readFileSync(`examples/${folder}/${it}`, "utf8").replace(/\n$/, "").split("\n");
-    answers(name, "mscview", ["import", ...words], 0, `${name}.msc`, `${name}.told`);
+    answers(name, "mscview", ["import", ...words], 0, `${name}.msc`, `${name}.stderr`);
     answers(`${name}.races`, "mscview", ["races", `${name}.msc`], 1, `${name}.races`, "");
-    if (existsSync(`${name}.luck`)) answers(`${name}.luck`, "mscview", ["races", "--luck", ...words], Number(lines(`${name}.luck`).length > 0), `${name}.luck`, `${name}.told`);
+    if (existsSync(`${name}.luck`)) answers(`${name}.luck`, "mscview", ["races", "--luck", ...words], Number(lines(`${name}.luck`).length > 0), `${name}.luck`, `${name}.stderr`);
     if (existsSync(`${name}.svg`)) answers(`${name}.svg`, "mscview", ["draw", `${name}.msc`], 0, `${name}.svg`, "");
   }
 }

@@ -102,7 +102,7 @@ static uint32_t number(chance *tree, uint32_t bits) {
     return node - (1u << bits);
 }
 
-static uint32_t turned_number(chance *tree, uint32_t bits) {
+static uint32_t reversed_number(chance *tree, uint32_t bits) {
     uint32_t node = 1, found = 0, place;
     for (place = 0; place < bits; place++) {
         uint32_t one = bit(&tree[node]);
@@ -123,9 +123,9 @@ static uint32_t distance(uint32_t length) {
     uint32_t slot = number(chances.slots[length < LEAST + 3 ? length - LEAST : 3], 6);
     uint32_t bits = slot / 2 - 1, first = (2 | (slot & 1)) << (bits & 31);
     if (slot < 4) return slot;
-    if (slot < 14) return first + turned_number(chances.places[slot], bits);
+    if (slot < 14) return first + reversed_number(chances.places[slot], bits);
     first += even_bits(bits - 4) << 4;
-    return first + turned_number(chances.aligned, 4);
+    return first + reversed_number(chances.aligned, 4);
 }
 
 /* A byte behind the one before. Behind a copied piece it is coded by the byte that would go on with it. */

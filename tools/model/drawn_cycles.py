@@ -1,4 +1,4 @@
-"""Charts with circles, drawn by chance, and their shortest circles by a plain search over all direct pairs."""
+"""Charts with cycles, drawn by chance, and their shortest cycles by a plain search over all direct pairs."""
 
 from collections import deque
 from random import Random
@@ -123,7 +123,7 @@ def way_around(behind, begin, most):
 
 
 def shortest_way_around(chart, sends):
-    """How many steps a shortest circle of the chart has."""
+    """How many steps a shortest cycle of the chart has."""
     behind = events_behind(chart, sends)
     best = None
     for begin in behind:

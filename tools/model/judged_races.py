@@ -1,7 +1,7 @@
 """
 What `mscview races --from log` answers, by the plain model: each race's word, in ranges that are split where it changes.
 
-`told_luck.py races --from log [--luck] [--receives] [--json] [--hosts a,b] [--peer A=x,y].. FILE..` writes it.
+`judged_races.py races --from log [--luck] [--receives] [--json] [--hosts a,b] [--peer A=x,y].. FILE..` writes it.
 """
 
 import argparse
@@ -12,7 +12,7 @@ from typing import NamedTuple
 
 from chart_texts import Event
 from imported_logs import Answer, File, Options, read_log
-from log_charts import LogChart, chart_of_log, told
+from log_charts import LogChart, chart_of_log, diagnostics
 from luck import LUCK, words_of_races
 from names import Refused
 
@@ -25,11 +25,11 @@ class Shown(NamedTuple):
     as_json: bool = False
 
     def words(self) -> list[str]:
-        said = {"--luck": self.luck, "--receives": self.receives, "--json": self.as_json}
-        return [word for word, is_said in said.items() if is_said]
+        given = {"--luck": self.luck, "--receives": self.receives, "--json": self.as_json}
+        return [word for word, is_given in given.items() if is_given]
 
 
-class Told(NamedTuple):
+class JudgedRace(NamedTuple):
     """One race, by names and by numbers from 1, with its word."""
 
     instance: str
@@ -41,7 +41,7 @@ class Told(NamedTuple):
     word: str
 
 
-def races_told(made: LogChart, shown: Shown) -> list[Told]:
+def judged_races(made: LogChart, shown: Shown) -> list[JudgedRace]:
     """The races that are shown, one by one, by instance, receive and earlier event."""
     found = []
     for (p, e, r), word in words_of_races(made).items():
@@ -51,13 +51,13 @@ def races_told(made: LogChart, shown: Shown) -> list[Told]:
         receive = line[r]
         names = (made.chart.names[p], receive.message, made.chart.names[receive.partner], line[e].message)
         instance, message, sender, earlier = (name.decode() for name in names)
-        found.append(Told(instance, r + 1, message, sender, e + 1, earlier, word))
+        found.append(JudgedRace(instance, r + 1, message, sender, e + 1, earlier, word))
     return found
 
 
-def ranges_of(races: list[Told]) -> Iterator[list[Told]]:
+def ranges_of(races: list[JudgedRace]) -> Iterator[list[JudgedRace]]:
     """The races of one receive whose earlier events are neighbours and whose words are the same, as few as can be."""
-    together: list[Told] = []
+    together: list[JudgedRace] = []
     for race in races:
         after = together and together[-1]._replace(earlier=race.earlier, earlier_message=race.earlier_message)
         if together and (after != race or together[-1].earlier + 1 != race.earlier):
@@ -68,14 +68,14 @@ def ranges_of(races: list[Told]) -> Iterator[list[Told]]:
         yield together
 
 
-def event_words(made: LogChart, race: Told) -> str:
+def event_words(made: LogChart, race: JudgedRace) -> str:
     line = made.chart.lines[made.chart.names.index(race.instance.encode())]
     event: Event = line[race.earlier - 1]
     partner = made.chart.names[event.partner].decode()
     return f"{race.earlier_message} ({race.earlier}, {'to' if event.kind == 'out' else 'from'} {partner})"
 
 
-def range_words(made: LogChart, together: list[Told]) -> str:
+def range_words(made: LogChart, together: list[JudgedRace]) -> str:
     first, last = together[0], together[-1]
     if first == last:
         return event_words(made, first)
@@ -83,7 +83,7 @@ def range_words(made: LogChart, together: list[Told]) -> str:
     return f"events {first.earlier} to {last.earlier} ({first.earlier_message}{between}{last.earlier_message})"
 
 
-def lines_told(made: LogChart, races: list[Told]) -> list[str]:
+def race_lines(made: LogChart, races: list[JudgedRace]) -> list[str]:
     return [
         f"{race.instance}: {race.message} ({race.receive}, from {race.sender}) may come before "
         f"{range_words(made, together)}; {race.word}"
@@ -92,18 +92,18 @@ def lines_told(made: LogChart, races: list[Told]) -> list[str]:
     ]
 
 
-def objects_told(races: list[Told]) -> list[str]:
+def race_objects(races: list[JudgedRace]) -> list[str]:
     objects: dict[tuple[str, int], dict] = {}
     for together in ranges_of(races):
         race = together[0]
-        said = {"instance": race.instance, "receive": race.receive, "message": race.message, "sender": race.sender}
-        told_range = {
+        receive = {"instance": race.instance, "receive": race.receive, "message": race.message, "sender": race.sender}
+        stated_range = {
             "first": race.earlier,
             "last": together[-1].earlier,
             "messages": [each.earlier_message for each in together],
             "why": race.word,
         }
-        objects.setdefault((race.instance, race.receive), said | {"ranges": []})["ranges"].append(told_range)
+        objects.setdefault((race.instance, race.receive), receive | {"ranges": []})["ranges"].append(stated_range)
     return [json.dumps(each, separators=(",", ":")) for each in objects.values()]
 
 
@@ -111,9 +111,9 @@ def chart_of(files: list[File], options: Options) -> LogChart:
     return chart_of_log(read_log(files, options))
 
 
-def told_beside(made: LogChart) -> bytes:
-    """What is told on standard error."""
-    return "".join(line + "\n" for line in told(made)).encode("utf-8", "surrogateescape")
+def diagnostics_of(made: LogChart) -> bytes:
+    """What standard error has."""
+    return "".join(line + "\n" for line in diagnostics(made)).encode("utf-8", "surrogateescape")
 
 
 def answered(files: list[File], options: Options, shown: Shown) -> Answer:
@@ -121,9 +121,9 @@ def answered(files: list[File], options: Options, shown: Shown) -> Answer:
         made = chart_of(files, options)
     except Refused as refused:
         return Answer(2, b"", refused.text)
-    races = races_told(made, shown)
-    lines = objects_told(races) if shown.as_json else lines_told(made, races)
-    return Answer(int(bool(races)), "".join(line + "\n" for line in lines).encode(), told_beside(made))
+    races = judged_races(made, shown)
+    lines = race_objects(races) if shown.as_json else race_lines(made, races)
+    return Answer(int(bool(races)), "".join(line + "\n" for line in lines).encode(), diagnostics_of(made))
 
 
 def main() -> int:
@@ -144,7 +144,7 @@ def main() -> int:
             files.append(File(name, file.read()))
     answer = answered(files, options, Shown(given.luck, given.receives, given.json))
     sys.stdout.buffer.write(answer.written)
-    sys.stderr.buffer.write(answer.said)
+    sys.stderr.buffer.write(answer.diagnostics)
     return answer.status
 
 

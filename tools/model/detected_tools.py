@@ -16,7 +16,7 @@ FIRST_WORDS = {
 }
 
 
-def told_tool(text: bytes) -> str:
+def detected_tool(text: bytes) -> str:
     """The tool that a text tells, or `NotRead` or `Unfinished`."""
     begin = PASSED.match(text).end()
     for tool, word in FIRST_WORDS.items():

@@ -1,7 +1,7 @@
 """
-Compares the circle that `mscview explain` tells of drawn charts with a plain search.
+Compares the cycle that `mscview explain` tells of drawn charts with a plain search.
 
-`judge_circles.py PROGRAM COUNT SEED`: each chart has another seed, from SEED on. What is told has to be a circle of
+`judge_cycles.py PROGRAM COUNT SEED`: each chart has another seed, from SEED on. What is told has to be a cycle of
 direct steps, each with its rule and its line, from its least event on, with as few steps as a search from each event
 over all direct pairs finds.
 """
@@ -13,7 +13,7 @@ from collections import Counter
 
 from chart_texts import chart_text
 from charts import sends_of_receives
-from drawn_circles import cyclic_chart, rule_of, shortest_way_around
+from drawn_cycles import cyclic_chart, rule_of, shortest_way_around
 from judge_threads import run
 
 HEAD = b"a chart, for mscrun check, and for mscview\n\nerror: F18 Cyclic: events come before each other, in a circle\n"
@@ -33,7 +33,7 @@ def lines_of_events(text):
     return found
 
 
-def steps_told(chart, told):
+def steps_stated(chart, told):
     """Each step that is told: the line, the two events and the rule."""
     steps = []
     for line in told.splitlines():
@@ -51,7 +51,7 @@ def what_differs(chart, text, out):
     sends = sends_of_receives(chart)
     if not out.startswith(HEAD):
         return "head", 0
-    steps = steps_told(chart, out[len(HEAD) :])
+    steps = steps_stated(chart, out[len(HEAD) :])
     numbers = lines_of_events(text)
     for place, (number, earlier, later, rule) in enumerate(steps):
         if rule_of(chart, sends, earlier, later) != rule or numbers[earlier] != number:
@@ -81,7 +81,7 @@ def main(program, count, first):
                 print(f"FAILED seed {seed}: {differs}", status, out, said, flush=True)
     for length, number in sorted(lengths.items()):
         print(f"{length} steps: {number}")
-    print(f"{count - failed} charts have the circle told that the model wants, {failed} another")
+    print(f"{count - failed} charts have the cycle told that the model wants, {failed} another")
     return failed > 0
 
 

@@ -1,4 +1,4 @@
-"""What is on a circle of direct pairs: the events that come before themselves."""
+"""What is on a cycle of direct pairs: the events that come before themselves."""
 
 from collections.abc import Iterable
 
@@ -27,7 +27,7 @@ def finished(steps: Pairs) -> list[Place]:
     return order
 
 
-def turned(pairs: Pairs) -> Pairs:
+def reversed_pairs(pairs: Pairs) -> Pairs:
     """The same pairs the other way round."""
     back: dict[Place, list[Place]] = {place: [] for place in pairs}
     for place, others in pairs.items():
@@ -36,9 +36,9 @@ def turned(pairs: Pairs) -> Pairs:
     return back
 
 
-def on_circles(pairs: Pairs) -> set[Place]:
+def on_cycles(pairs: Pairs) -> set[Place]:
     """The events that lead to themselves."""
-    back = turned(pairs)
+    back = reversed_pairs(pairs)
     found: set[Place] = set()
     seen: set[Place] = set()
     for begin in reversed(finished(pairs)):
