@@ -8,6 +8,8 @@ import {file, moduleOf, text} from "./module.mjs";
 const {module, Engine, page} = moduleOf(process.argv[2]);
 const engine = new Engine(module);
 const lines = (name) => readFileSync(name, "utf8").split("\n").filter((line) => line !== "");
+// The status of the races that a file has.
+const statusOf = (name) => Number(lines(name).length > 0);
 const failed = [];
 let held = 0;
 
@@ -48,13 +50,15 @@ for (const name of examples.filter((it) => existsSync(`${base(it)}.stdout`))) {
   if (end === "added") answers(name, "mscview", ["mend", "--all", from], undefined, undefined, name);
   if (["mscgen", "plantuml", "mermaid", "shiviz"].includes(end)) answers(name, "mscview", ["export", "--to", end, from], 0, name, "");
 }
-for (const folder of ["logs", "erlang", "mpi"]) {
+for (const folder of ["logs", "erlang", "mpi", "jobs"]) {
   for (const it of readdirSync(`examples/${folder}`).filter((it) => it.endsWith(".words"))) {
     const name = `examples/${folder}/${base(it)}`;
     const words = readFileSync(`examples/${folder}/${it}`, "utf8").replace(/\n$/, "").split("\n");
     answers(name, "mscview", ["import", ...words], 0, `${name}.msc`, `${name}.stderr`);
-    answers(`${name}.races`, "mscview", ["races", `${name}.msc`], 1, `${name}.races`, "");
-    if (existsSync(`${name}.luck`)) answers(`${name}.luck`, "mscview", ["races", "--luck", ...words], Number(lines(`${name}.luck`).length > 0), `${name}.luck`, `${name}.stderr`);
+    answers(`${name}.races`, "mscview", ["races", `${name}.msc`], statusOf(`${name}.races`), `${name}.races`, "");
+    if (existsSync(`${name}.luck`)) {
+      answers(`${name}.luck`, "mscview", ["races", "--luck", ...words], statusOf(`${name}.luck`), `${name}.luck`, `${name}.stderr`);
+    }
     if (existsSync(`${name}.svg`)) answers(`${name}.svg`, "mscview", ["draw", `${name}.msc`], 0, `${name}.svg`, "");
   }
 }
