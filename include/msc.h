@@ -1,14 +1,15 @@
 /* msc.h: message passing between threads that reports message races as they happen. For C programmers;
  * docs/USING-FROM-C.md is an introduction, and msc.hpp has these calls for C++.
  *
- * A board has 2 to 32 instances, with a lane from each to each other one. A lane has 1 to 64 slots, and delivers
- * messages in the order in which they were sent. An instance acts through its post: it sends, receives and closes
- * lanes. With each message come the races of its receive: the earlier events of this instance that came before it only
- * by luck. In another run they may come after it.
+ * A board has 2 to 32 instances, with a lane from each to every other. A lane has 1 to 64 slots, and delivers messages
+ * in the order in which they were sent. An instance acts through its post: it sends, receives and closes lanes. Each
+ * message comes with the races of its receive: the earlier events of this instance that came before it only by luck. In
+ * another run they may come after it.
  *
- * At the end all posts of a board are gathered. An msc_board then keeps its chart, its races and what still waits. Link
- * with -lmsc -lmsc_malloc. The second library has the memory functions at the end of this file, over malloc; a program
- * may define its own instead.
+ * At the end all posts of a board are gathered. An msc_board then keeps its chart, its races and what still waits.
+ *
+ * Link with -lmsc -lmsc_malloc. The second library has the memory functions at the end of this file, over malloc; a
+ * program may define its own instead.
  *
  * OWNERSHIP. An msc_post is two words in the caller's memory. It owns its resources until msc_free, and an msc_board
  * does so until msc_board_free. No pointer is kept across calls: names, bodies, races and texts are copied into the
@@ -20,8 +21,7 @@
  *     thread's start or a join. Different threads may use the posts of one board at the same time: that is what they
  *     are for.
  *   - Where a call wants all posts of a board, the posts are of one board, and no other thread uses one of them.
- *   - Buffers are as long as stated. What a call writes to overlaps nothing else that the call gets, and no post or
- *     board.
+ *   - Buffers are as long as stated. The outputs of a call overlap nothing else that it gets, and no post or board.
  *   - All calls use one allocator. No call is made in a signal handler, nor in a forked child of a process with
  *     threads.
  *
@@ -81,7 +81,7 @@ enum {
     MSC_MISUSE = -100
 };
 
-/* What a gathered board came to. Its words are for the library alone; it is empty when both are zero. */
+/* The result of gathering a board. Its words are for the library alone; it is empty when both are zero. */
 typedef struct {
     uint64_t state_;
     void *at_;
@@ -207,7 +207,7 @@ static inline int msc_send(msc_post *post, uint32_t to, const char *name, const 
 /* Sends COUNT messages to the instance TO, one directly after another and with one store: all of them or none. BYTES
  * has LENGTH bytes: the first message's name, its body, the second one's name, and so on. MESSAGES gives the length of
  * each; together they are LENGTH. All bytes are copied. *EVENT receives the number of the first send among this
- * instance's events, or 0 if COUNT is 0; the others have the next numbers. EVENT may be NULL. What refuses one message
+ * instance's events, or 0 if COUNT is 0; the others have the next numbers. EVENT may be NULL. A refusal of one message
  * refuses all. MSC_TOO_MANY: the lane has fewer slots. MSC_FULL: fewer slots are free. */
 static inline int msc_send_all(msc_post *post, uint32_t to, const void *bytes, size_t length,
                                const msc_message *messages, size_t count, uint32_t *event) {
@@ -283,8 +283,8 @@ static inline int msc_races_of(msc_post *post, size_t which, uint32_t *buffer, s
     return msc_races_of_(post, which, buffer == NULL ? (uint32_t *)&msc_no_bytes_ : buffer, room, count);
 }
 
-/* Receives as msc_receive does, and copies name and body at once: one call instead of three. What doesn't fit is cut;
- * its length is in *ARRIVAL, and all of it stays in the post. */
+/* Receives as msc_receive does, and copies name and body at once: one call instead of three. Parts that don't fit are
+ * cut; the lengths are in *ARRIVAL, and all of it stays in the post. */
 static inline int msc_receive_into(msc_post *post, uint32_t from, msc_arrival *arrival, char *name, size_t name_room,
                                    void *body, size_t body_room) {
     size_t length;
@@ -297,7 +297,7 @@ static inline int msc_receive_into(msc_post *post, uint32_t from, msc_arrival *a
     return MSC_DONE;
 }
 
-/* Closes the lane to the instance TO. What waits on it can still be received; then the lane has ended. */
+/* Closes the lane to the instance TO. Messages that wait on it can still be received; then the lane has ended. */
 static inline int msc_close(msc_post *post, uint32_t to) {
     if (post == NULL) return MSC_MISUSE;
     return msc_close_(post, to);
@@ -330,8 +330,8 @@ static inline int msc_line_event(msc_post *post, uint32_t number, msc_event *eve
 }
 
 /* Frees a post, which is then empty and may be opened anew. An empty one stays empty. This closes no lane, and the
- * board can't be gathered any more (MSC_NOT_ALL_POSTS). The memory of a board goes with the last of its posts, in
- * whatever thread. */
+ * board can't be gathered any more (MSC_NOT_ALL_POSTS). The memory of a board goes with the last of its posts, in any
+ * thread. */
 static inline void msc_free(msc_post *post) {
     if (post != NULL) msc_free_(post);
 }
@@ -345,9 +345,9 @@ static inline int msc_meet(msc_post *posts, size_t count) {
     return msc_meet_(posts, count);
 }
 
-/* Gathers a whole board: COUNT posts, all those of one board in any order, become empty. *BOARD receives what the board
- * came to: its chart, the races of each receive, and what still waits on its lanes. *BOARD has to be empty, and no
- * other thread may use one of the posts. On MSC_NOT_ALL_POSTS, MSC_NO_MEMORY (which may come first, as in msc_meet) or
+/* Gathers a whole board: COUNT posts, all those of one board in any order, become empty. *BOARD receives the result:
+ * the board's chart, the races of each receive, and the messages that still wait. It has to be empty, and no other
+ * thread may use one of the posts. On MSC_NOT_ALL_POSTS, MSC_NO_MEMORY (which may come first, as in msc_meet) or
  * MSC_MISUSE (also for posts of two boards) the posts are as they were. */
 static inline int msc_gather(msc_post *posts, size_t count, msc_board *board) {
     if (posts == NULL || board == NULL) return MSC_MISUSE;
@@ -400,10 +400,10 @@ static inline int msc_board_left(msc_board *board, uint32_t from, uint32_t to, s
                            body == NULL ? (uint8_t *)&msc_no_bytes_ : (uint8_t *)body, body_room);
 }
 
-/* Carries over what *BOARD left to all COUNT posts of a new board, in any order, so that a run with full lines goes on.
- * Each message that still waited is sent again by its sender, lane by lane, in the order in which it waited. Each lane
- * that was closed is closed again. Then nothing is left on *BOARD. CARRIED, which may be NULL, has room for COUNT
- * numbers: how many sends each instance carried. These are the first events of its line.
+/* Carries over what *BOARD left to all COUNT posts of a new board, in any order: so a run with full lines goes on. Each
+ * message that still waited is sent again by its sender, lane by lane, in the order in which it waited. Each lane that
+ * was closed is closed again. Then nothing is left on *BOARD. CARRIED, which may be NULL, has room for COUNT numbers:
+ * how many sends each instance carried. These are the first events of its line.
  *
  * The caller promises that the new board has as many instances, lanes of at least as many slots, and posts that did
  * nothing yet. (MSC_MISUSE: one of them has an event.)
@@ -424,7 +424,7 @@ static inline int msc_carry_over(msc_board *board, msc_post *posts, size_t count
                            carried == NULL ? 0 : count, &told);
 }
 
-/* Frees what a board came to, which is then empty. An empty one stays empty. */
+/* Frees the result of gathering a board, which is then empty. An empty one stays empty. */
 static inline void msc_board_free(msc_board *board) {
     if (board != NULL) msc_free_(board);
 }

@@ -1,7 +1,7 @@
 /* msc.hpp: message passing between threads that reports message races as they happen, for programs in C++17 and later.
  *
- * A board has 2 to 32 instances. Each has a post, through which it sends, receives and closes lanes. With each message
- * come the races of its receive: the earlier events of this instance that came before it only by luck. All of this is
+ * A board has 2 to 32 instances. Each has a post, through which it sends, receives and closes lanes. Each message comes
+ * with the races of its receive: the earlier events of this instance that came before it only by luck. All of this is
  * done by msc.h, which says more about it. Here boards free what they own, and texts and lists are those of C++.
  *
  *     msc::board board(3, 4);                                // three instances, lanes of four slots
@@ -11,10 +11,10 @@
  *     client.join();
  *     std::cout << board.gather().text({"first", "second", "server"});
  *
- * VALUES AND EXCEPTIONS. What a loop over lanes runs into is a value: nothing waits, a lane has ended, a lane is full.
- * A program checks these each time, and an exception would cost more than the call. Refused memory, from which nobody
- * expects to go on at the same place, is an exception, as in the standard library. So is each mistake, such as an
- * invalid name or instance. So constructors can fail, and no answer is overlooked (the values are [[nodiscard]]). A
+ * VALUES AND EXCEPTIONS. Outcomes that a loop over lanes expects are values: nothing waits, a lane has ended, a lane is
+ * full. A program checks these each time, and an exception would cost more than the call. Refused memory, from which
+ * nobody expects to go on at the same place, is an exception, as in the standard library. So is each mistake, such as
+ * an invalid name or instance. So constructors can fail, and no answer is overlooked (the values are [[nodiscard]]). A
  * program without exceptions uses msc.h.
  *
  * THREADS. One thread at a time uses a post. Different threads may use the posts of one board at the same time. A board
@@ -161,7 +161,7 @@ public:
         return taken::got;
     }
 
-    /* Closes the lane to the instance TO. What waits on it can still be received; then the lane has ended. */
+    /* Closes the lane to the instance TO. Messages that wait on it can still be received; then the lane has ended. */
     void close(std::uint32_t to) { detail::done(msc_close(handle_, to)); }
 
     /* Open and close a coregion: the order of the receives in it isn't claimed, and is no race. */
@@ -224,7 +224,7 @@ private:
 
 class board;
 
-/* What a whole board came to: its chart, the races of each receive, and what still waits. */
+/* The result of gathering a board: its chart, the races of each receive, and the messages that still wait. */
 class gathered {
 public:
     gathered(gathered &&other) noexcept
@@ -335,7 +335,7 @@ public:
     /* All posts meet: then each has seen all that any of them did. This removes no race. */
     void meet() { detail::done(msc_meet(handles_.data(), handles_.size())); }
 
-    /* Gathers the board: returns what it came to. Its posts are then empty. If memory is refused, all is as it was. */
+    /* Gathers the board and returns the result. Its posts are then empty. If memory is refused, all is as it was. */
     msc::gathered gather() {
         msc::gathered all(handles_.size(), capacity_);
         detail::done(msc_gather(handles_.data(), handles_.size(), &all.handle_));

@@ -1,6 +1,6 @@
 """Message passing between threads that reports message races as they happen, for programs in Python.
 
-A board has 2 to 32 instances, with a lane from each to each other one. A lane is first in, first out, and has 1 to 64
+A board has 2 to 32 instances, with a lane from each to every other. A lane is first in, first out, and has 1 to 64
 slots. An instance acts through its post, in any thread: it sends, receives and closes lanes. Each received message
 comes with the races of its receive: the earlier events of this instance that came before it only by luck. In another
 run they may come after it.
@@ -348,7 +348,7 @@ class Post:
                 pause = min(2 * pause, 1e-3)
 
     def close(self, to: int) -> None:
-        """Closes the lane to the instance `to`. What waits on it can still be received; then the lane has ended."""
+        """Closes the lane to the instance `to`. Messages that wait on it can still be received; then it has ended."""
         with self._lock:
             _done(_library.msc_close_(self._handle, _number(to)))
 
@@ -441,7 +441,7 @@ class Board:
             _done(_library.msc_meet_(self._handles, self._count))
 
     def gather(self) -> Gathered:
-        """Gathers the board: returns what all of it came to. Its posts are then empty, and refuse each call. It waits
+        """Gathers the board and returns the result. Its posts are then empty, and refuse each call. It waits
         for calls that other threads are making with them."""
         handle = _Handle()
         with _Holding(self.posts):
@@ -465,7 +465,7 @@ class _Holding:
 
 
 class Gathered:
-    """What a whole board came to: its chart, the races of each receive, and what still waits."""
+    """The result of gathering a board: its chart, the races of each receive, and the messages that still wait."""
 
     def __init__(self, handle: _Handle, count: int, capacity: int) -> None:
         self._owned = handle

@@ -71,7 +71,7 @@ impl Board {
         done(unsafe { ffi::msc_meet_(self.handles.as_mut_ptr(), self.handles.len()) })
     }
 
-    /// Gathers the board: returns what all of it came to. If memory is refused, the error has the board.
+    /// Gathers the board and returns the result. If memory is refused, the error has the board.
     pub fn gather(mut self) -> Result<Gathered, GatherError> {
         let mut board = Handle::EMPTY;
         // SAFETY: as above, and the board is empty.
@@ -86,7 +86,7 @@ impl Board {
     /// and at most as many slots. Returns how many sends each instance carried.
     pub(crate) fn take_over(&mut self, left: *mut Handle) -> Result<Vec<u32>, Error> {
         let (mut carried, mut told) = (vec![0usize; self.len()], 0);
-        // SAFETY: as above. What else the call requires of the board, this function requires.
+        // SAFETY: as above. This function requires of the board whatever else the call requires.
         done(unsafe {
             ffi::msc_carry_over_(
                 left,

@@ -1,4 +1,4 @@
-//! What a whole board came to.
+//! The result of gathering a board.
 
 use crate::board::Board;
 use crate::error::{done, Error};
@@ -7,7 +7,7 @@ use crate::message::Name;
 use std::cell::UnsafeCell;
 use std::fmt;
 
-/// What a whole board came to: its chart, the races of each receive, and what still waits on its lanes.
+/// The result of gathering a board: its chart, the races of each receive, and the messages that still wait.
 ///
 /// ```
 /// # fn main() -> Result<(), msc::Error> {
@@ -40,7 +40,7 @@ pub struct Gathered {
 unsafe impl Send for Gathered {}
 
 impl Gathered {
-    /// What a board came to, with the number of its instances and of a lane's slots.
+    /// The result of a board with this many instances, whose lanes have this many slots.
     pub(crate) fn new(handle: Handle, instances: u32, capacity: u32) -> Gathered {
         Gathered { handle: UnsafeCell::new(handle), instances, capacity }
     }

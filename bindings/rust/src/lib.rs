@@ -1,8 +1,8 @@
 //! Message passing between threads that reports message races as they happen, for programs in Rust.
 //!
-//! A [`Board`] has 2 to 32 instances, with a lane from each to each other one. A lane is first in, first out, and has 1
-//! to 64 slots. An instance acts through its [`Post`], in any thread: it sends, receives and closes lanes. With each
-//! message come the races of its receive: the earlier events of this instance that came before it only by luck. In
+//! A [`Board`] has 2 to 32 instances, with a lane from each to every other. A lane is first in, first out, and has 1
+//! to 64 slots. An instance acts through its [`Post`], in any thread: it sends, receives and closes lanes. Each message
+//! comes with the races of its receive: the earlier events of this instance that came before it only by luck. In
 //! another run they may come after it.
 //!
 //! ```

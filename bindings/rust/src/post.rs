@@ -197,7 +197,7 @@ impl<'a> Post<'a> {
         }
     }
 
-    /// Closes the lane to the instance `to`. What waits on it can still be received; then the lane has ended.
+    /// Closes the lane to the instance `to`. Messages that wait on it can still be received; then it has ended.
     pub fn close(&mut self, to: u32) -> Result<(), Error> {
         // SAFETY: as above.
         done(unsafe { ffi::msc_close_(self.handle, to) })
