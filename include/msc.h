@@ -346,7 +346,7 @@ static inline int msc_meet(msc_post *posts, size_t count) {
 }
 
 /* Gathers a whole board: COUNT posts, all those of one board in any order, become empty. *BOARD receives the result:
- * the board's chart, the races of each receive, and the messages that still wait. It has to be empty, and no other
+ * the board's chart, the races of each receive, and the messages that still wait. *BOARD has to be empty, and no other
  * thread may use one of the posts. On MSC_NOT_ALL_POSTS, MSC_NO_MEMORY (which may come first, as in msc_meet) or
  * MSC_MISUSE (also for posts of two boards) the posts are as they were. */
 static inline int msc_gather(msc_post *posts, size_t count, msc_board *board) {
@@ -405,8 +405,8 @@ static inline int msc_board_left(msc_board *board, uint32_t from, uint32_t to, s
  * was closed is closed again. Then nothing is left on *BOARD. CARRIED, which may be NULL, has room for COUNT numbers:
  * how many sends each instance carried. These are the first events of its line.
  *
- * The caller promises that the new board has as many instances, lanes of at least as many slots, and posts that did
- * nothing yet. (MSC_MISUSE: one of them has an event.)
+ * The caller promises that the new board has as many instances, and lanes of at least as many slots. Its posts did
+ * nothing yet: no event (else MSC_MISUSE), no close, no coregion.
  *
  * A race whose earlier event is a carried send may be enforced by what the earlier board saw: leave it out. Races
  * between an event of the earlier board and a receive on the new one are lost: no board reports them. An open coregion
