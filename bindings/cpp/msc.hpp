@@ -1,8 +1,8 @@
-/* msc.hpp: message passing between threads that reports message races as they happen, for C++17 and later.
+/* msc.hpp: message passing between threads that reports message races as they happen, for programs in C++17 and later.
  *
- * A board has 2 to 32 instances, each with a post, by which it sends, receives and closes lanes. With each message come
- * the races of its receive: the earlier events of this instance that came before it by luck alone. All of this is
- * msc.h's, which says more of it; here boards let go of what they own by themselves, and texts and lists are C++'s.
+ * A board has 2 to 32 instances. Each has a post, through which it sends, receives and closes lanes. Each message comes
+ * with the races of its receive: the earlier events of this instance that came before it only by luck. All of this is
+ * done by msc.h, which says more about it. Here boards free what they own, and texts and lists are those of C++.
  *
  *     msc::board board(3, 4);                                // three instances, lanes of four slots
  *     std::thread client([&] { while (!board[1].send(3, "order", "tea")) std::this_thread::yield(); });
@@ -11,14 +11,14 @@
  *     client.join();
  *     std::cout << board.gather().text({"first", "second", "server"});
  *
- * VALUES AND EXCEPTIONS. What a loop over lanes meets as it runs is a value: that nothing waits, that a lane has ended,
- * that it is full. A program looks at these each time, and an exception for them would cost more than the call. What
- * nobody expects to go on from at the same place is an exception, as in the standard library: that memory is refused,
- * and each mistake, as a name that is none or an instance that isn't there. So constructors can fail, and no answer is
- * overlooked (the values are [[nodiscard]]). A program without exceptions uses msc.h.
+ * VALUES AND EXCEPTIONS. Outcomes that a loop over lanes expects are values: nothing waits, a lane has ended, a lane is
+ * full. A program checks these each time, and an exception would cost more than the call. Refused memory, from which
+ * nobody expects to go on at the same place, is an exception, as in the standard library. So is each mistake, such as
+ * an invalid name or instance. So constructors can fail, and no answer is overlooked (the values are [[nodiscard]]). A
+ * program without exceptions uses msc.h.
  *
- * THREADS. One thread at a time calls with a post. The posts of one board may be used by different threads at the same
- * time. A board itself is for one thread, and meet, gather and its end are for when no other thread uses a post of it.
+ * THREADS. One thread at a time uses a post. Different threads may use the posts of one board at the same time. A board
+ * itself is for one thread. It meets, gathers and ends only while no other thread uses one of its posts.
  */
 #ifndef MSC_HPP
 #define MSC_HPP
@@ -37,7 +37,7 @@
 
 namespace msc {
 
-/* Why a call was refused. Then nothing has changed, but that a post may have seen more. */
+/* Why a call was refused. A refused call changes nothing, except that a post may have seen more. */
 class error : public std::exception {
 public:
     explicit error(int answer) noexcept : answer_(answer) {}
@@ -59,32 +59,32 @@ inline const std::uint8_t *bytes_of(std::string_view text) {
 }
 } // namespace detail
 
-/* What a look at a lane finds: a message; none, and one may still come; none, and none will come. */
+/* What a receive finds: a message; none, and one may still come; none, and none will come. */
 enum class taken { got, nothing, ended };
 
 /* A message that was received. */
 struct message {
     std::uint32_t from = 0;           /* the number of its sender, from 1 */
-    std::uint32_t event = 0;          /* the number of its receive among the events of the instance, from 1 */
-    std::string name;                 /* 1 to 32 letters, digits and _, a letter first */
+    std::uint32_t event = 0;          /* the number of its receive among the instance's events, from 1 */
+    std::string name;                 /* a letter followed by letters, digits and _, 1 to 32 bytes */
     std::string body;                 /* at most 4096 bytes of any kind */
-    std::vector<std::uint32_t> races; /* the earlier events of the instance that came before it by luck alone */
+    std::vector<std::uint32_t> races; /* the instance's earlier events that came before it only by luck */
 };
 
 /* An event of an instance. */
 struct event {
-    std::uint32_t number;  /* among the events of its instance, from 1 */
-    bool receives;         /* or else it sends */
+    std::uint32_t number;  /* its number among the instance's events, from 1 */
+    bool receives;         /* whether it receives; otherwise it sends */
     std::uint32_t partner; /* the number of the instance at the other end of the message */
-    std::uint32_t region;  /* the coregion that it is in, from 1, or 0 outside of one */
-    std::string name;      /* of the message */
+    std::uint32_t region;  /* the number of its coregion, from 1, or 0 outside of one */
+    std::string name;      /* the message's name */
 };
 
 /* The races of a receive. */
 struct report {
     std::uint32_t instance;           /* the number of the instance that received, from 1 */
     std::uint32_t event;              /* the number of the receive among its events, from 1 */
-    std::vector<std::uint32_t> races; /* the earlier events of the instance that came before it by luck alone */
+    std::vector<std::uint32_t> races; /* the instance's earlier events that came before it only by luck */
 };
 
 /* A message that still waits on a gathered board. */
@@ -95,7 +95,7 @@ struct left {
     std::string body;
 };
 
-/* The post of an instance, which its board has. */
+/* The post of an instance. Its board owns it. */
 class post {
 public:
     post(const post &) = delete;
@@ -106,7 +106,7 @@ public:
     /* The number of its instance, from 1. */
     std::uint32_t number() const noexcept { return number_; }
 
-    /* Sends a message to the instance TO. The number of the send among the events of this instance, or nothing where
+    /* Sends a message to the instance TO. Returns the number of the send among this instance's events, or nothing if
      * the lane is full: try again later. */
     [[nodiscard]] std::optional<std::uint32_t> send(std::uint32_t to, std::string_view name,
                                                     std::string_view body = {}) {
@@ -116,8 +116,8 @@ public:
         return sent(answer, event);
     }
 
-    /* Sends these messages, each a name and a body, to the instance TO by one store, or none of them. The number of the
-     * first send, 0 where there is none, or nothing where fewer slots are free. */
+    /* Sends these messages, each a name and a body, to the instance TO with one store: all or none. Returns the number
+     * of the first send, 0 if there are no messages, or nothing if fewer slots are free. */
     [[nodiscard]] std::optional<std::uint32_t>
     send_all(std::uint32_t to, const std::vector<std::pair<std::string_view, std::string_view>> &messages) {
         std::string bytes;
@@ -131,22 +131,22 @@ public:
         return sent(answer, event);
     }
 
-    /* Receives the first message that waits on the lane from the instance FROM. Where none does, INTO stays as it is.
-     * The memory of INTO is used again. */
+    /* Receives the first message that waits on the lane from the instance FROM, and reuses the memory of INTO. If none
+     * waits, INTO stays as it is. */
     [[nodiscard]] taken receive(std::uint32_t from, message &into) {
         msc_arrival arrival;
         return took(msc_receive(handle_, from, &arrival), arrival, into);
     }
 
-    /* Receives the first message that it finds on the lanes from all other instances, which it looks at in turn. It has
-     * ended where all of them have. */
+    /* Receives the first message that it finds on the lanes from all other instances, which it looks at in turn.
+     * Returns ended if all of them have ended. */
     [[nodiscard]] taken any(message &into) {
         msc_arrival arrival;
         return took(msc_any(handle_, &arrival), arrival, into);
     }
 
-    /* Receives the first messages that wait on the lane from the instance FROM, by one call: at most MOST of them, and at
-     * least one where they are got. A refusal behind some that came is told by the next call. */
+    /* Receives the first messages that wait on the lane from the instance FROM by one call: at most MOST, and at least
+     * one for got. A refusal after the first one is thrown by the next call. */
     [[nodiscard]] taken receive_up_to(std::uint32_t from, std::size_t most, std::vector<message> &into) {
         // (a line has no more events)
         std::vector<msc_arrival> arrivals(most < 4096 ? most : 4096);
@@ -161,17 +161,17 @@ public:
         return taken::got;
     }
 
-    /* Closes the lane to the instance TO: what waits on it can still be received, and then it has ended. */
+    /* Closes the lane to the instance TO. Messages that wait on it can still be received; then the lane has ended. */
     void close(std::uint32_t to) { detail::done(msc_close(handle_, to)); }
 
-    /* Opens and closes a coregion: the order of the receives in it isn't claimed, and is no race. */
+    /* Open and close a coregion: the order of the receives in it isn't claimed, and is no race. */
     void open_coregion() { detail::done(msc_open_coregion(handle_)); }
     void close_coregion() { detail::done(msc_close_coregion(handle_)); }
 
-    /* Makes room for so many events. */
+    /* Allocates room for the next EVENTS events. */
     void reserve(std::uint32_t events) { detail::done(msc_reserve(handle_, events)); }
 
-    /* The event of this number, from 1, of what this post has sent and received, where there is one. */
+    /* The event with this number, from 1, among those that this post has sent and received, if it exists. */
     std::optional<msc::event> event(std::uint32_t number) const {
         msc_event told;
         char name[32];
@@ -205,7 +205,7 @@ private:
         return taken::got;
     }
 
-    /* Copies one of the messages that the post holds since the last call that received. */
+    /* Copies one of the messages that the post has kept since its last receive. */
     void copy(std::size_t which, const msc_arrival &arrival, message &into) {
         std::size_t length;
         into.from = arrival.from;
@@ -224,7 +224,7 @@ private:
 
 class board;
 
-/* What a whole board came to: its chart, the races of each receive, and what still waits. */
+/* The result of gathering a board: its chart, the races of each receive, and the messages that still wait. */
 class gathered {
 public:
     gathered(gathered &&other) noexcept
@@ -238,7 +238,7 @@ public:
     }
     ~gathered() { msc_board_free(&handle_); }
 
-    /* The text of its chart, with these names of its instances. mscrun check and mscview read it, and check below. */
+    /* The text of its chart, with these names of its instances. mscrun check, mscview and check below read it. */
     std::string text(const std::vector<std::string> &names) const {
         std::vector<const char *> words;
         std::string text;
@@ -253,7 +253,7 @@ public:
         return text;
     }
 
-    /* The report of each receive, in order of the instances and of their events. */
+    /* The report of each receive, ordered by instance and event. */
     std::vector<report> reports() const {
         std::vector<report> all;
         msc_report told;
@@ -273,10 +273,10 @@ public:
         return all;
     }
 
-    /* Opens the next board of a run whose lines are full, with as many instances and lanes of at least as many slots (0
-     * for as many), and carries over to it what still waits here; and tells how many sends each instance carried. They
-     * are the first events of its line there. Leave races out whose earlier event is one of them: the earlier board may
-     * have had them in order. */
+    /* Opens the next board of a run with full lines, and carries over to it what still waits here. It has as many
+     * instances, and lanes of at least as many slots (0 for as many). Also returns how many sends each instance
+     * carried: they are the first events of its line there. Leave out races whose earlier event is one of them: the
+     * earlier board may have had them in order. Races between the two boards are not reported. */
     inline std::pair<board, std::vector<std::size_t>> carry_over(std::uint32_t capacity = 0);
 
 private:
@@ -295,7 +295,7 @@ private:
         }
     }
 
-    // (the calls that only tell want a pointer too that may write)
+    // (the calls that only read also take a pointer that may write)
     mutable msc_board handle_ = MSC_BOARD_INIT;
     std::size_t size_;
     std::uint32_t capacity_;
@@ -332,10 +332,10 @@ public:
         return posts_[number - 1];
     }
 
-    /* All posts meet: from then on each has seen all that any of them did. It takes no race away. */
+    /* All posts meet: then each has seen all that any of them did. This removes no race. */
     void meet() { detail::done(msc_meet(handles_.data(), handles_.size())); }
 
-    /* Gathers the board: what it came to. Its posts are empty then. Where memory is refused all is as it was. */
+    /* Gathers the board and returns the result. Its posts are then empty. If memory is refused, all is as it was. */
     msc::gathered gather() {
         msc::gathered all(handles_.size(), capacity_);
         detail::done(msc_gather(handles_.data(), handles_.size(), &all.handle_));
@@ -357,8 +357,8 @@ inline std::pair<board, std::vector<std::size_t>> gathered::carry_over(std::uint
     return next;
 }
 
-/* What a program answers of a text: its exit status, 0, 1 where there are races, 2 where it refuses the text; and what
- * it writes to standard output and standard error. */
+/* What a program answers for a text: its exit status, and what it writes to standard output and standard error. The
+ * status is 0, or 1 if there are races, or 2 if it refuses the text. */
 struct answer {
     int status;
     std::string out;
@@ -366,7 +366,7 @@ struct answer {
 };
 
 namespace detail {
-/* The whole answer of a call that writes as much as there is room for: where that was too little it is made again. */
+/* The whole answer of a call that writes as much as fits. If there was too little room, the call is made again. */
 template <typename Call> answer whole(std::size_t length, Call call) {
     answer all{0, std::string(4096 + 4 * length, '\0'), std::string(4096, '\0')};
     for (;;) {
@@ -387,17 +387,17 @@ inline answer perform(int task, std::uint64_t seed, std::string_view text) {
 }
 } // namespace detail
 
-/* Checks a chart, as mscrun check does: a line for each of its races. */
+/* Checks a chart, as mscrun check does: one line for each of its races. */
 inline answer check(std::string_view chart) { return detail::perform(MSC_CHECK, 0, chart); }
 
-/* Replays a schedule, as mscrun replay does, or in the order that the seed draws, as mscrun random does. */
+/* Replays a schedule, as mscrun replay does, or in an order that the seed draws, as mscrun random does. */
 inline answer replay(std::string_view schedule) { return detail::perform(MSC_REPLAY, 0, schedule); }
 inline answer random(std::string_view schedule, std::uint64_t seed) {
     return detail::perform(MSC_RANDOM, seed, schedule);
 }
 
-/* Does what mscview does for these words of a command line, whose files are in memory: the texts are what the words read,
- * in the order in which they name them. An exception where they read another number of texts. */
+/* Does what mscview does for these words of a command line, whose files are in memory. The texts are what the words
+ * read, in the order in which they name them. Throws if they read another number of texts. */
 inline answer view(const std::vector<std::string> &words, const std::vector<std::string_view> &texts) {
     std::vector<const char *> names, at;
     std::vector<std::size_t> lengths;

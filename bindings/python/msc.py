@@ -1,9 +1,9 @@
-"""Message passing between threads that reports message races as they happen.
+"""Message passing between threads that reports message races as they happen, for programs in Python.
 
-A board has 2 to 32 instances, with a lane from each to each other one. A lane is first in, first out, and has 1 to 64
-slots. An instance acts by its post, in whatever thread: it sends, receives and closes lanes. With each message that is
-received come the races of its receive: the earlier events of this instance that came before it by luck alone, so that
-in another run they may come after it.
+A board has 2 to 32 instances, with a lane from each to every other. A lane is first in, first out, and has 1 to 64
+slots. An instance acts through its post, in any thread: it sends, receives and closes lanes. Each received message
+comes with the races of its receive: the earlier events of this instance that came before it only by luck. In another
+run they may come after it.
 
     import threading, msc
 
@@ -26,9 +26,9 @@ It prints `order may come before order (event 1)`, and the chart of the run.
 
 `check`, `replay` and `random` do with bytes what the program mscrun does with a file, and `view` what mscview does.
 
-The library is libmsc.so.1: that which the variable MSC_LIB names, or which was installed with this file, or which the
-system finds. It can be used from several threads at once; a call that finds a post in use by another thread waits for
-it.
+The library is libmsc.so.1: the one that the variable MSC_LIB names, the one installed with this file, or the one that
+the system finds. Several threads can use it at once. A call that finds a post in use by another thread waits for that
+thread.
 """
 
 from __future__ import annotations
@@ -74,9 +74,9 @@ WORDS = {
 
 
 class Refused(Exception):
-    """A call was refused. Then nothing has changed, but that a post may have seen more.
+    """A call was refused. It changed nothing, except that a post may have seen more.
 
-    `answer` is that of the C library: -N for the refusal FN, -100 for a misuse, as of a board that was gathered.
+    `answer` is that of the C library: -N for the refusal FN, -100 for a misuse, such as using a gathered board.
     """
 
     def __init__(self, answer: int) -> None:
@@ -97,11 +97,11 @@ class OutOfMemory(Refused, MemoryError):
 
 
 class Ended(Exception):
-    """No message waits, and none will come: the lane is closed, or with `any` all of them are."""
+    """No message waits, and none will come: the lane is closed, or for `any` all lanes are."""
 
 
 class BadText(ValueError):
-    """A text was refused: the line that the program writes, as `refused: F20 Syntax`."""
+    """A text was refused. The words are the line that the program writes, such as `refused: F20 Syntax`."""
 
 
 def _refuse(answer: int) -> NoReturn:
@@ -200,21 +200,21 @@ class Message:
     """A message that was received, with the races of its receive."""
 
     sender: int  #: the number of its sender, from 1
-    event: int  #: the number of its receive among the events of the instance that received it, from 1
+    event: int  #: the number of its receive among the receiving instance's events, from 1
     name: str
     body: bytes
-    races: Tuple[int, ...]  #: the earlier events of the instance that came before this receive by luck alone
+    races: Tuple[int, ...]  #: the instance's earlier events that came before this receive only by luck
 
 
 @dataclass(frozen=True)
 class Event:
     """An event of an instance."""
 
-    number: int  #: among the events of its instance, from 1
-    receives: bool  #: or else it sends
+    number: int  #: its number among the instance's events, from 1
+    receives: bool  #: whether it receives; otherwise it sends
     partner: int  #: the number of the instance at the other end of the message
-    name: str  #: of the message
-    region: Optional[int]  #: the coregion that it is in, from 1
+    name: str  #: the message's name
+    region: Optional[int]  #: the number of its coregion, from 1
 
 
 @dataclass(frozen=True)
@@ -223,7 +223,7 @@ class Report:
 
     instance: int  #: the number of the instance that received, from 1
     event: int  #: the number of the receive among its events, from 1
-    races: Tuple[int, ...]  #: the earlier events of the instance that came before it by luck alone
+    races: Tuple[int, ...]  #: the instance's earlier events that came before it only by luck
 
 
 @dataclass(frozen=True)
@@ -238,7 +238,7 @@ class Left:
 
 @dataclass(frozen=True)
 class Answer:
-    """What a program answers of a text that it doesn't refuse."""
+    """What a program answers for a text that it doesn't refuse."""
 
     has_races: bool  #: whether its exit status is 1
     out: bytes  #: what it writes to standard output
@@ -251,19 +251,19 @@ class Answer:
 
 
 def _number(number: int) -> int:
-    """A number as the library takes it; 0, which is no instance's and no event's, where it is too large for that."""
+    """A number as the library takes it. If it is too large, 0, which no instance and no event has."""
     return number if 0 <= number < 2**32 else 0
 
 
 def _name(name: str) -> bytes:
-    # (what isn't ASCII is refused by the library, as a byte that doesn't belong in a name)
+    # (the library refuses what isn't ASCII, as a byte that doesn't belong in a name)
     return name.encode(errors="surrogateescape")
 
 
 class Post:
-    """The post of an instance, by which it sends, receives and closes lanes. Its board has it (`Board.posts`).
+    """The post of an instance, through which it sends, receives and closes lanes. Its board has it (`Board.posts`).
 
-    No call waits, but for another thread that uses the same post.
+    No call waits, except for another thread that uses the same post.
     """
 
     def __init__(self, board: Board, handle: _Handle, number: int) -> None:
@@ -276,10 +276,10 @@ class Post:
         return f"<msc.Post {self.number}>"
 
     def send(self, to: int, name: str, body: bytes = b"") -> int:
-        """Sends a message to the instance `to`, and tells the number of the send among the events of this instance.
+        """Sends a message to the instance `to`, and returns the number of the send among this instance's events.
 
-        `Full` where the lane has no slot free: try again later. A name has 1 to 32 letters, digits and `_`, a letter
-        first; a body at most 4,096 bytes.
+        Raises `Full` if the lane has no free slot: try again later. A name is a letter followed by letters, digits and
+        `_`, 1 to 32 bytes in all. A body has at most 4,096 bytes.
         """
         event, text, data = c_uint32(), _name(name), bytes(memoryview(body))
         with self._lock:
@@ -287,8 +287,8 @@ class Post:
         return event.value
 
     def send_all(self, to: int, messages: Sequence[Tuple[str, bytes]]) -> List[int]:
-        """Sends these messages, each a name and a body, to the instance `to` by one store, or none of them, and tells
-        the numbers of the sends. `Full` where fewer slots are free."""
+        """Sends these messages, each a name and a body, to the instance `to` with one store: all or none. Returns the
+        numbers of the sends. Raises `Full` if fewer slots are free."""
         pairs = [(_name(name), bytes(memoryview(body))) for name, body in messages]
         joined = b"".join(name + body for name, body in pairs)
         lengths = (_Lengths * max(1, len(pairs)))(*(_Lengths(len(name), len(body)) for name, body in pairs))
@@ -302,23 +302,23 @@ class Post:
         return list(range(event.value, event.value + len(pairs)))
 
     def receive(self, sender: int) -> Optional[Message]:
-        """Receives the first message that waits on the lane from the instance `sender`: None where none does, `Ended`
-        where none will come."""
+        """Receives the first message that waits on the lane from the instance `sender`. Returns None if none waits, and
+        raises `Ended` if none will come."""
         arrival = _Arrival()
         with self._lock:
             return self._taken(_library.msc_receive_(self._handle, _number(sender), byref(arrival)), arrival)
 
     def any(self) -> Optional[Message]:
-        """Receives the first message that it finds on the lanes from all other instances, which it looks at in turn:
-        None where none waits, `Ended` where all lanes are closed."""
+        """Receives the first message that it finds on the lanes from all other instances, which it looks at in turn.
+        Returns None if none waits, and raises `Ended` if all lanes are closed and empty."""
         arrival = _Arrival()
         with self._lock:
             return self._taken(_library.msc_any_(self._handle, byref(arrival)), arrival)
 
     def receive_up_to(self, sender: int, most: int) -> List[Message]:
-        """Receives the first messages that wait on the lane from the instance `sender`, by one call: at most `most` of
-        them, none where none waits, `Ended` where none will come. A refusal behind some that came is told by the next
-        call."""
+        """Receives the first messages that wait on the lane from the instance `sender` by one call, at most `most` of
+        them. The list is empty if none waits. Raises `Ended` if none will come. If a message after the first is
+        refused, the next call raises it."""
         # (a line has no more events)
         most = min(max(0, most), 4096)
         arrivals, count = (_Arrival * max(1, most))(), c_size_t()
@@ -330,8 +330,8 @@ class Post:
         return messages
 
     def messages(self, sender: Optional[int] = None, timeout: Optional[float] = None) -> Iterator[Message]:
-        """The messages of one instance or of all, as they come, until the lanes end. Between looks it pauses, up to a
-        millisecond. TimeoutError where none has come for so many seconds."""
+        """The messages of one instance or of all, as they come, until the lanes end. Between tries it pauses, up to a
+        millisecond. Raises TimeoutError if none has come for `timeout` seconds."""
         last, pause = time.monotonic(), 1e-6
         while True:
             try:
@@ -348,7 +348,7 @@ class Post:
                 pause = min(2 * pause, 1e-3)
 
     def close(self, to: int) -> None:
-        """Closes the lane to the instance `to`: what waits on it can still be received, and then it has ended."""
+        """Closes the lane to the instance `to`. Messages that wait on it can still be received; then it has ended."""
         with self._lock:
             _done(_library.msc_close_(self._handle, _number(to)))
 
@@ -363,12 +363,12 @@ class Post:
             _done(_library.msc_close_coregion_(self._handle))
 
     def reserve(self, events: int) -> None:
-        """Makes room for so many events."""
+        """Allocates room for the next `events` events."""
         with self._lock:
             _done(_library.msc_reserve_(self._handle, min(max(0, events), 4096)))
 
     def event(self, number: int) -> Event:
-        """The event of this number, from 1, of what this post has sent and received. `IndexError` where there is none."""
+        """The event with this number, from 1, that this post has sent or received. Raises `IndexError` without one."""
         told, name = _Event(), ctypes.create_string_buffer(32)
         with self._lock:
             answer = _library.msc_event_(self._handle, _number(number), byref(told), name, 32)
@@ -398,7 +398,7 @@ class Post:
         return _done(answer) == 0
 
     def _copied(self, which: int, arrival: _Arrival) -> Message:
-        """One of the messages that the post holds since the last call that received."""
+        """One of the messages that the post has kept since its last receive."""
         name, body = ctypes.create_string_buffer(32), ctypes.create_string_buffer(arrival.body or 1)
         races, length = (c_uint32 * max(1, arrival.races))(), c_size_t()
         _done(_library.msc_name_of_(self._handle, which, name, 32, byref(length)))
@@ -414,11 +414,11 @@ class Post:
 
 
 class Board:
-    """A board of 2 to 32 instances whose lanes have 1 to 64 slots. `posts` are theirs, in order: that of the instance 1
-    is `posts[0]`."""
+    """A board of 2 to 32 instances whose lanes have 1 to 64 slots. `posts` has their posts, in order: instance 1 has
+    `posts[0]`."""
 
     def __init__(self, instances: int, capacity: int) -> None:
-        # (what memory can't be had for is no size of a board either)
+        # (a number that no memory is enough for is an invalid size too)
         count = instances if 0 <= instances <= 32 else 33
         self._handles = (_Handle * max(1, count))()
         self._count = count
@@ -436,13 +436,13 @@ class Board:
             free(byref(handle))
 
     def meet(self) -> None:
-        """All posts meet: from then on each has seen all that any of them did. It takes no race away."""
+        """All posts meet: then each has seen all that any of them did. This removes no race."""
         with _Holding(self.posts):
             _done(_library.msc_meet_(self._handles, self._count))
 
     def gather(self) -> Gathered:
-        """Gathers the board: what all of it came to. Its posts are empty then, and refuse each call. It waits for calls
-        that other threads are making by them."""
+        """Gathers the board and returns the result. Its posts are then empty, and refuse each call. It waits
+        for calls that other threads are making with them."""
         handle = _Handle()
         with _Holding(self.posts):
             _done(_library.msc_gather_(self._handles, self._count, byref(handle)))
@@ -465,7 +465,7 @@ class _Holding:
 
 
 class Gathered:
-    """What a whole board came to: its chart, the races of each receive, and what still waits."""
+    """The result of gathering a board: its chart, the races of each receive, and the messages that still wait."""
 
     def __init__(self, handle: _Handle, count: int, capacity: int) -> None:
         self._owned = handle
@@ -478,7 +478,7 @@ class Gathered:
         free(self._handle)
 
     def text(self, names: Sequence[str]) -> str:
-        """The text of its chart, with these names of its instances. `check` reads it, and so do mscrun and mscview."""
+        """The text of its chart, with these names of its instances. `check`, mscrun and mscview read it."""
         words = [_name(name) for name in names]
         joined, sizes = b"".join(words), (c_size_t * max(1, len(words)))(*map(len, words))
         length, room = c_size_t(), 0
@@ -495,7 +495,7 @@ class Gathered:
             room = length.value
 
     def reports(self) -> Iterator[Report]:
-        """The report of each receive, in order of the instances and of their events."""
+        """The report of each receive, ordered by instance and event."""
         number = 1
         while True:
             report = self._report(number)
@@ -535,10 +535,10 @@ class Gathered:
                     number += 1
 
     def carry_over(self, capacity: Optional[int] = None) -> Tuple[Board, List[int]]:
-        """Opens the next board of a run whose lines are full, with as many instances and as many slots, or more, and
-        carries over to it what still waits here; and tells how many sends each instance carried. They are the first
-        events of its line there. Leave races out whose earlier event is one of them: the earlier board may have had
-        them in order."""
+        """Opens the next board of a run with full lines, and carries over to it what still waits here. It has as many
+        instances, and as many slots or more. Also returns how many sends each instance carried: the first events of
+        its line there. Leave out races whose earlier event is one of them: the earlier board may have had them in
+        order. Races between the two boards are not reported."""
         capacity = self._capacity if capacity is None else capacity
         if capacity < self._capacity:
             _refuse(-100)
@@ -554,7 +554,7 @@ class Gathered:
 
 
 def check(chart: Union[bytes, str]) -> Answer:
-    """Checks a chart, as `mscrun check` does: a line for each of its races."""
+    """Checks a chart, as `mscrun check` does: one line for each of its races."""
     return _perform(2, 0, chart)
 
 
@@ -564,17 +564,17 @@ def replay(schedule: Union[bytes, str]) -> Answer:
 
 
 def random(schedule: Union[bytes, str], seed: int) -> Answer:
-    """Replays a schedule in the order that the seed draws (0 to 2**64 - 1), as `mscrun random` does."""
+    """Replays a schedule in an order that the seed draws (0 to 2**64 - 1), as `mscrun random` does."""
     if not 0 <= seed < 2**64:
         raise ValueError("a seed is 0 to 2**64 - 1")
     return _perform(1, seed, schedule)
 
 
 def view(words: Sequence[str], *texts: Union[bytes, str]) -> Answer:
-    """Does what `mscview` does for these words of a command line, whose files are in memory: the texts are what the words
-    read, in the order in which they name them. So `view(["races", "run.msc"], chart)` tells the races of a chart by the
-    names of their messages, and `view(["draw", "run.msc"], chart)` is its picture, as SVG. `Refused` where the words read
-    another number of texts."""
+    """Does what `mscview` does for these words of a command line, whose files are in memory. The texts are what the
+    words read, in the order in which they name them. So `view(["races", "run.msc"], chart)` lists the races of a chart
+    by the names of their messages, and `view(["draw", "run.msc"], chart)` is its picture, as SVG. Raises `Refused` if
+    the words read another number of texts."""
     data = [text.encode() if isinstance(text, str) else bytes(text) for text in texts]
     said = [os.fsencode(word) for word in words]
     names = (_Bytes * max(1, len(said)))(*(_Bytes(word, len(word)) for word in said))
@@ -589,7 +589,7 @@ def _perform(task: int, seed: int, text: Union[bytes, str]) -> Answer:
 
 
 def _whole(length: int, call: Callable[..., int]) -> Answer:
-    """The whole answer of a call that writes as much as there is room for. Where that was too little it is made again."""
+    """The whole answer of a call that writes as much as fits. If there was too little room, the call is made again."""
     out_room, err_room, written = 4096 + 4 * length, 4096, _Lengths()
     while True:
         out, err = ctypes.create_string_buffer(out_room), ctypes.create_string_buffer(err_room)

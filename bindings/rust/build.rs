@@ -1,9 +1,9 @@
-//! Finds `libmsc.a`: in the folder that `MSC_LIB_DIR` names, or by `pkg-config`.
+//! Finds `libmsc.a` in the folder that `MSC_LIB_DIR` names, or through `pkg-config`.
 
 use std::env;
 use std::process::Command;
 
-/// The folders that `pkg-config` says, or why it says none.
+/// The folders that `pkg-config` names, or why it names none.
 fn folders_by_pkg_config() -> Result<Vec<String>, String> {
     let program = env::var("PKG_CONFIG").unwrap_or_else(|_| "pkg-config".to_string());
     let output = Command::new(&program)

@@ -30,7 +30,7 @@ pub struct Board {
 unsafe impl Send for Board {}
 
 impl Board {
-    /// Opens a board of so many instances, whose lanes have `capacity` slots.
+    /// Opens a board of this many instances, whose lanes have `capacity` slots.
     ///
     /// [`Error::BadSize`], [`Error::BadCapacity`], [`Error::NoMemory`].
     pub fn new(instances: usize, capacity: u32) -> Result<Board, Error> {
@@ -38,7 +38,7 @@ impl Board {
             return Err(Error::BadSize);
         }
         let mut handles: Vec<Handle> = (0..instances).map(|_| Handle::EMPTY).collect();
-        // SAFETY: the handles are empty, and as many as is told.
+        // SAFETY: the handles are empty, and the length is theirs.
         done(unsafe { ffi::msc_open_(handles.as_mut_ptr(), handles.len(), capacity) })?;
         Ok(Board { handles, capacity })
     }
@@ -54,24 +54,24 @@ impl Board {
         self.capacity
     }
 
-    /// The posts of all instances, by their numbers: that of the instance 1 is `posts[0]`. A post that is dropped, also
-    /// by a thread that panics, is lent anew by the next call, as it was.
+    /// The posts of all instances, by number: instance 1 has `posts[0]`. A dropped post, even one dropped by a thread
+    /// that panics, is lent anew by the next call, as it was.
     pub fn posts(&mut self) -> Vec<Post<'_>> {
         self.handles.iter_mut().zip(1..).map(|(handle, number)| Post::new(handle, number)).collect()
     }
 
-    /// The same as an array, to be taken apart. [`Error::BadSize`] where the board has another number of instances.
+    /// The same as an array, to be destructured. [`Error::BadSize`] if the board has another number of instances.
     pub fn posts_array<const N: usize>(&mut self) -> Result<[Post<'_>; N], Error> {
         <[Post<'_>; N]>::try_from(self.posts()).map_err(|_| Error::BadSize)
     }
 
-    /// All posts meet: from then on each has seen all that any of them did. It adds no event, and takes no race away.
+    /// All posts meet: then each has seen all that any of them did. This adds no event and removes no race.
     pub fn meet(&mut self) -> Result<(), Error> {
         // SAFETY: the handles are all of one board, and nobody else has one of them.
         done(unsafe { ffi::msc_meet_(self.handles.as_mut_ptr(), self.handles.len()) })
     }
 
-    /// Gathers the board: what all of it came to. Where memory is refused the board comes back, in the error.
+    /// Gathers the board and returns the result. If memory is refused, the error has the board.
     pub fn gather(mut self) -> Result<Gathered, GatherError> {
         let mut board = Handle::EMPTY;
         // SAFETY: as above, and the board is empty.
@@ -82,11 +82,11 @@ impl Board {
         }
     }
 
-    /// Carries over to it, as nothing was done with it yet, what a gathered board of as many instances and at most as
-    /// many slots left. Tells how many sends each instance carried.
+    /// Carries over to this board, which has done nothing yet, what a gathered one left. That one has as many instances
+    /// and at most as many slots. Returns how many sends each instance carried.
     pub(crate) fn take_over(&mut self, left: *mut Handle) -> Result<Vec<u32>, Error> {
         let (mut carried, mut told) = (vec![0usize; self.len()], 0);
-        // SAFETY: as above. What else is asked of the board is what this asks.
+        // SAFETY: as above. This function requires of the board whatever else the call requires.
         done(unsafe {
             ffi::msc_carry_over_(
                 left,
@@ -120,7 +120,7 @@ impl fmt::Debug for Board {
     }
 }
 
-/// A board that wasn't gathered, since memory was refused. It is as it was.
+/// A board that wasn't gathered because memory was refused. It is as it was.
 #[derive(Debug)]
 pub struct GatherError {
     /// The board.

@@ -2,7 +2,7 @@
 
 use std::fmt;
 
-/// Why a call was refused. Then nothing has changed, but that a post may have seen more.
+/// Why a call was refused. A refused call changes nothing, except that a post may have seen more.
 #[derive(Clone, Copy, Debug, PartialEq, Eq, Hash)]
 #[non_exhaustive]
 pub enum Error {
@@ -10,9 +10,9 @@ pub enum Error {
     NameEmpty,
     /// F2: a name is longer than 32 bytes.
     NameTooLong,
-    /// F3: a name is a letter, and then letters, digits and `_`.
+    /// F3: a name is a letter followed by letters, digits and `_`.
     NameBadByte,
-    /// F4: a name is a word of the chart's text, as `in`.
+    /// F4: a name is a reserved word of the chart's text, such as `in`.
     NameReserved,
     /// F5: a body has more than 4,096 bytes.
     BodyTooLong,
@@ -30,23 +30,23 @@ pub enum Error {
     Closed,
     /// F13: an instance has no lane to itself.
     ToItself,
-    /// F14: instances have the numbers 1 to the board's size.
+    /// F14: instances are numbered from 1 to the board's size.
     NoSuchInstance,
-    /// F15: the posts are not all of their board.
+    /// F15: these are not all posts of their board.
     NotAllPosts,
-    /// F22: two instances are to have one name.
+    /// F22: two instances would have the same name.
     NameTwice,
-    /// F27: more messages at once than the lane has slots.
+    /// F27: more messages in one call than the lane has slots.
     TooMany,
     /// F28: a coregion is open.
     CoregionOpen,
     /// F29: no coregion is open.
     CoregionNotOpen,
-    /// F30: nothing is sent in a coregion.
+    /// F30: a coregion contains no sends.
     InCoregion,
-    /// F31: there is no event of this number.
+    /// F31: there is no event with this number.
     NoSuchEvent,
-    /// What doesn't belong together: as many names as the board has no instances, or a next board with fewer slots.
+    /// Arguments that don't belong together: a wrong number of names, or a next board with fewer slots.
     Misuse,
     /// An answer that this version of the crate doesn't know.
     Unknown(i32),
@@ -78,7 +78,7 @@ const TABLE: [(Error, i32, &str); 21] = [
 ];
 
 impl Error {
-    /// The refusal that an answer below 0 is.
+    /// The refusal for an answer below 0.
     pub(crate) fn of(answer: i32) -> Error {
         TABLE.iter().find(|row| row.1 == answer).map_or(Error::Unknown(answer), |row| row.0)
     }
@@ -105,7 +105,7 @@ impl fmt::Display for Error {
 
 impl std::error::Error for Error {}
 
-/// Nothing where the answer is none below 0, and else the refusal.
+/// The refusal, if the answer is below 0.
 pub(crate) fn done(answer: i32) -> Result<(), Error> {
     if answer < 0 {
         return Err(Error::of(answer));

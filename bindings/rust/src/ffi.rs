@@ -1,7 +1,7 @@
-//! The exports of the library, as `msc.h` has them. What stands on pointers and lengths there stands on slices in the
-//! calls of this crate, and each of them is lent for the call alone.
+//! The exports of the library, as `msc.h` has them. The calls of this crate make pointers and lengths from slices, and
+//! lend each slice for the call alone.
 
-/// A post or a board: its words are the library's, and all zero it is empty.
+/// A post or a board. Its words are for the library alone; it is empty when both are zero.
 #[repr(C)]
 pub struct Handle {
     state: u64,
@@ -12,7 +12,7 @@ impl Handle {
     pub const EMPTY: Handle = Handle { state: 0, at: std::ptr::null_mut() };
 }
 
-/// How long the name and the body of a message are that `msc_send_all_` sends.
+/// The lengths of the name and the body of a message that `msc_send_all_` sends.
 #[repr(C)]
 pub struct Lengths {
     pub name: usize,
@@ -60,7 +60,7 @@ pub struct Left {
     pub body_length: usize,
 }
 
-/// The bytes of a word or of a text.
+/// The bytes of a word or a text.
 #[repr(C)]
 pub struct Bytes {
     at: *const u8,
@@ -74,7 +74,7 @@ impl Bytes {
     }
 }
 
-/// How long the texts are that a program's task wrote.
+/// The lengths of the texts that a program's task wrote.
 #[repr(C)]
 #[derive(Default)]
 pub struct Written {

@@ -1,4 +1,4 @@
-//! What a whole board came to.
+//! The result of gathering a board.
 
 use crate::board::Board;
 use crate::error::{done, Error};
@@ -7,7 +7,7 @@ use crate::message::Name;
 use std::cell::UnsafeCell;
 use std::fmt;
 
-/// What a whole board came to: its chart, the races of each receive, and what still waits on its lanes.
+/// The result of gathering a board: its chart, the races of each receive, and the messages that still wait.
 ///
 /// ```
 /// # fn main() -> Result<(), msc::Error> {
@@ -30,7 +30,7 @@ use std::fmt;
 /// # }
 /// ```
 pub struct Gathered {
-    // (the library's calls want a pointer that may write, also those that only tell)
+    // (the library's calls take a pointer that may write, even those that only read)
     handle: UnsafeCell<Handle>,
     instances: u32,
     capacity: u32,
@@ -40,7 +40,7 @@ pub struct Gathered {
 unsafe impl Send for Gathered {}
 
 impl Gathered {
-    /// What a board of so many instances came to, with lanes of so many slots.
+    /// The result of a board with this many instances, whose lanes have this many slots.
     pub(crate) fn new(handle: Handle, instances: u32, capacity: u32) -> Gathered {
         Gathered { handle: UnsafeCell::new(handle), instances, capacity }
     }
@@ -50,16 +50,16 @@ impl Gathered {
         self.instances as usize
     }
 
-    /// The text of its chart, with these names of its instances, in their order. `mscrun check` and `mscview` read it,
-    /// and [`crate::check`].
+    /// The text of its chart, with these names of its instances, in order. `mscrun check`, `mscview` and
+    /// [`crate::check`] read it.
     ///
-    /// [`Error::Misuse`] for another number of names than it has instances, and then the first name's fault.
+    /// [`Error::Misuse`] if the number of names isn't that of the instances. Otherwise the fault of the first bad name.
     pub fn text<N: AsRef<str>>(&self, names: &[N]) -> Result<String, Error> {
         let joined: String = names.iter().map(AsRef::as_ref).collect();
         let lengths: Vec<usize> = names.iter().map(|name| name.as_ref().len()).collect();
         let (mut text, mut length) = (Vec::new(), 0);
         loop {
-            // SAFETY: the handle is this board's alone, the buffer is as long as is told, and the others are lent.
+            // SAFETY: the handle is this board's alone, the buffer has the length given, and the others are lent.
             done(unsafe {
                 ffi::msc_board_text_(
                     self.handle.get(),
@@ -79,8 +79,7 @@ impl Gathered {
         }
     }
 
-    /// The report of each receive, in order of the instances and of their events. It has those races that came with
-    /// the message.
+    /// The report of each receive, ordered by instance and event. It has the races that came with the message.
     pub fn reports(&self) -> Reports<'_> {
         Reports { board: self, next: 1 }
     }
@@ -96,15 +95,16 @@ impl Gathered {
     }
 
     /// Opens the next board of a run, with as many instances and lanes of `capacity` slots, and carries over to it what
-    /// this one left: each message that still waited is sent again by its sender, in its order, and each lane that was
-    /// closed is closed again. Then nothing is left here. It also tells how many sends each instance carried, by
+    /// this one left. Each message that still waited is sent again by its sender, in order, and each lane that was
+    /// closed is closed again. Then nothing is left here. Also returns how many sends each instance carried, by
     /// instance: they are the first events of its line on the new board.
     ///
-    /// A race whose earlier event is a carried send may be enforced by what this board saw; no other race is touched.
-    /// Leave these races out. An open coregion, and whom `any` begins with, aren't carried over.
+    /// A race whose earlier event is a carried send may be enforced by what this board saw: leave it out. Races between
+    /// an event of this board and a receive on the next one are not reported. An open coregion isn't carried over, nor
+    /// the instance with which `any` begins.
     ///
-    /// [`Error::Misuse`] where the lanes would have fewer slots than those of this board, [`Error::BadCapacity`],
-    /// [`Error::NoMemory`]; then what was left stays here.
+    /// [`Error::Misuse`] if the lanes would have fewer slots than those of this board. On this, [`Error::BadCapacity`]
+    /// and [`Error::NoMemory`], what was left stays here.
     ///
     /// ```
     /// # fn main() -> Result<(), msc::Error> {
@@ -126,7 +126,7 @@ impl Gathered {
         Ok((board, carried))
     }
 
-    /// The report of this number, from 1.
+    /// The report with this number, from 1.
     fn report(&self, number: usize) -> Option<Report> {
         let (mut told, mut races) = (ffi::Report::default(), Vec::new());
         loop {
@@ -144,7 +144,7 @@ impl Gathered {
         }
     }
 
-    /// The message of this number, from 1, that waits on a lane.
+    /// The message with this number, from 1, that waits on a lane.
     fn left_at(&self, from: u32, to: u32, number: usize) -> Option<Left> {
         let place = ffi::Place { from, to, number };
         let (mut told, mut name, mut body) = (ffi::Left::default(), Name::NONE, Vec::new());
@@ -194,9 +194,9 @@ impl fmt::Debug for Gathered {
 pub struct Report {
     /// The number of the instance that received, from 1.
     pub instance: u32,
-    /// The number of the receive among the events of that instance, from 1.
+    /// The number of the receive among that instance's events, from 1.
     pub event: u32,
-    /// The earlier events of the same instance that came before it by luck alone.
+    /// The earlier events of the same instance that came before it only by luck.
     pub races: Vec<u32>,
 }
 
@@ -220,9 +220,9 @@ impl Iterator for Reports<'_> {
 /// A message that still waits.
 #[derive(Clone, Debug, PartialEq, Eq)]
 pub struct Left {
-    /// Who sent it.
+    /// The number of its sender.
     pub from: u32,
-    /// To whom.
+    /// The number of its receiver.
     pub to: u32,
     /// Its name.
     pub name: Name,

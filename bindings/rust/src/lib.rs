@@ -1,9 +1,9 @@
-//! Message passing between threads that reports message races as they happen.
+//! Message passing between threads that reports message races as they happen, for programs in Rust.
 //!
-//! A [`Board`] has 2 to 32 instances, with a lane from each to each other one. A lane is first in, first out, and has 1
-//! to 64 slots. An instance acts by its [`Post`], in whatever thread: it sends, receives and closes lanes. With each
-//! message that is received come the races of its receive: the earlier events of this instance that came before it by
-//! luck alone, so that in another run they may come after it.
+//! A [`Board`] has 2 to 32 instances, with a lane from each to every other. A lane is first in, first out, and has 1
+//! to 64 slots. An instance acts through its [`Post`], in any thread: it sends, receives and closes lanes. Each message
+//! comes with the races of its receive: the earlier events of this instance that came before it only by luck. In
+//! another run they may come after it.
 //!
 //! ```
 //! use msc::{Board, Error, Post, Taken};
@@ -46,22 +46,22 @@
 //! }
 //! ```
 //!
-//! **Waiting.** No call waits. Who finds nothing, or a full lane ([`Error::Full`]), looks again, after
-//! [`std::thread::yield_now`] or a pause that gets longer. A timeout is a number of looks, or a time of the caller's
-//! own: `examples/give_up.rs` has a loop that sends and one that receives. To stop an instance from outside, send it a
+//! **Waiting.** No call waits. If nothing waits, or a lane is full ([`Error::Full`]), try again after
+//! [`std::thread::yield_now`] or a growing pause. A timeout is a number of tries, or a time that the caller takes:
+//! `examples/give_up.rs` has a loop that sends and one that receives. To stop an instance from outside, send it a
 //! message, or close the lanes to it: then it gets [`Taken::Ended`].
 //!
-//! **Long runs.** A line has 4,096 events. Then sends and receives are refused ([`Error::LineFull`]). A run that goes on
+//! **Long runs.** A line has 4,096 events; further sends and receives are refused ([`Error::LineFull`]). A longer run
 //! gathers its board before that, and goes on with the next one: [`Gathered::carry_over`].
 //!
-//! **Panics.** A post that is dropped in a thread that panics leaves its board as it was: it can still be gathered, and
-//! its posts be lent anew.
+//! **Panics.** If a thread panics and drops its post, the board stays as it was. It can still be gathered, and it can
+//! lend its posts anew.
 //!
-//! **Linking.** The crate links `libmsc.a`, of the folder that the variable `MSC_LIB_DIR` names, or which `pkg-config`
-//! finds, and `libmsc_malloc.a` beside it. With the feature `own-allocator` the second is left out, and the program
-//! defines `rattle_alloc`, `rattle_realloc` and `rattle_dealloc` itself.
+//! **Linking.** The crate links `libmsc.a` from the folder that the variable `MSC_LIB_DIR` names or `pkg-config` finds,
+//! and `libmsc_malloc.a` beside it. With the feature `own-allocator` it leaves out the second. The program then defines
+//! `rattle_alloc`, `rattle_realloc` and `rattle_dealloc` itself.
 //!
-//! What the library does is proved; this crate, which hands slices on to it, isn't.
+//! What the library does is proved. This crate, which passes slices to it, isn't.
 
 #![deny(missing_docs, unsafe_op_in_unsafe_fn)]
 

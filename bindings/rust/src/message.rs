@@ -2,7 +2,7 @@
 
 use std::fmt;
 
-/// The name of a message: 1 to 32 letters, digits and `_`, a letter first.
+/// The name of a message: a letter followed by letters, digits and `_`, 1 to 32 bytes in all.
 #[derive(Clone, Copy, PartialEq, Eq, Hash)]
 pub struct Name {
     bytes: [u8; Name::ROOM],
@@ -15,7 +15,7 @@ impl Name {
     /// No name yet.
     pub(crate) const NONE: Name = Name { bytes: [0; Name::ROOM], length: 0 };
 
-    /// The name that a call writes. It says how long the whole of it is, which is 32 bytes at most.
+    /// The name that a call writes. The call returns its whole length, which is at most 32 bytes.
     pub(crate) fn write(&mut self, by: impl FnOnce(&mut [u8; Name::ROOM]) -> usize) {
         self.length = by(&mut self.bytes).min(Name::ROOM);
     }
@@ -63,14 +63,14 @@ impl PartialEq<&str> for Name {
 pub struct Message {
     /// The number of its sender, from 1.
     pub from: u32,
-    /// The number of its receive among the events of the instance that received it, from 1.
+    /// The number of its receive among the receiving instance's events, from 1.
     pub event: u32,
     /// Its name.
     pub name: Name,
     /// Its body, of at most 4,096 bytes.
     pub body: Vec<u8>,
-    /// The earlier events of the same instance that came before this receive by luck alone: in another run they may
-    /// come after it. `Post::event` tells what each of them is.
+    /// The earlier events of the same instance that came before this receive only by luck: in another run they may
+    /// come after it. `Post::event` returns each of them.
     pub races: Vec<u32>,
 }
 
@@ -87,7 +87,7 @@ impl Default for Message {
     }
 }
 
-/// What a look at a lane finds.
+/// What a receive finds.
 #[derive(Clone, Debug, PartialEq, Eq)]
 #[must_use]
 pub enum Taken<T = Message> {
@@ -95,12 +95,12 @@ pub enum Taken<T = Message> {
     Got(T),
     /// No message waits, and one may still come.
     Nothing,
-    /// No message waits, and none will come: the lane is closed, or with `any` all of them are.
+    /// No message waits, and none will come: the lane is closed, or for `any` all lanes are.
     Ended,
 }
 
 impl<T> Taken<T> {
-    /// The message, where there is one.
+    /// The message, if there is one.
     pub fn got(self) -> Option<T> {
         match self {
             Taken::Got(message) => Some(message),
@@ -138,6 +138,6 @@ pub struct Event {
     pub partner: u32,
     /// The name of the message.
     pub name: Name,
-    /// The coregion that it is in, from 1.
+    /// The number of its coregion, from 1.
     pub region: Option<u32>,
 }

@@ -6,10 +6,10 @@ use crate::message::{Direction, Event, Message, Name, Taken};
 use std::marker::PhantomData;
 use std::ops::Range;
 
-/// The post of an instance: by it the instance sends, receives and closes lanes. It is lent by its board, and may be
-/// moved to another thread.
+/// The post of an instance, through which the instance sends, receives and closes lanes. Its board lends it, and it may
+/// be moved to another thread.
 ///
-/// No call waits. A thread can hand its post on:
+/// No call waits. A thread can pass its post on:
 ///
 /// ```
 /// let mut board = msc::Board::new(2, 2).unwrap();
@@ -24,7 +24,7 @@ use std::ops::Range;
 /// });
 /// ```
 ///
-/// Two threads can't call with one post at the same time, since that doesn't compile:
+/// Two threads can't use one post at the same time: that doesn't compile.
 ///
 /// ```compile_fail,E0499
 /// let mut board = msc::Board::new(2, 1).unwrap();
@@ -51,8 +51,8 @@ pub struct Post<'a> {
     board: PhantomData<&'a mut ffi::Handle>,
 }
 
-// SAFETY: the library lets any thread call with a post, one at a time. A post is the only way to its handle while it is
-// there, and isn't shared between threads (a pointer isn't `Sync`).
+// SAFETY: the library lets any thread call with a post, one at a time. A post is the only way to its handle while it
+// exists, and isn't shared between threads (a pointer isn't `Sync`).
 unsafe impl Send for Post<'_> {}
 
 impl<'a> Post<'a> {
@@ -66,9 +66,9 @@ impl<'a> Post<'a> {
         self.number
     }
 
-    /// Sends a message to the instance `to`, and tells the number of the send among the events of this instance.
+    /// Sends a message to the instance `to`, and returns the number of the send among this instance's events.
     ///
-    /// [`Error::Full`] where the lane has no slot free: try again later. [`Error::LineFull`] after 4,096 events.
+    /// [`Error::Full`] if the lane has no free slot: try again later. [`Error::LineFull`] after 4,096 events.
     pub fn send(&mut self, to: u32, name: &str, body: &[u8]) -> Result<u32, Error> {
         let mut event = 0;
         // SAFETY: the handle is this post's alone, and the others are lent for the call.
@@ -78,10 +78,10 @@ impl<'a> Post<'a> {
         done(answer).map(|()| event)
     }
 
-    /// Sends these messages to the instance `to`, one directly after another and by one store, or none of them; and
-    /// tells the numbers of the sends among the events of this instance.
+    /// Sends these messages to the instance `to`, one directly after another and with one store: all or none. Returns
+    /// the numbers of the sends among this instance's events.
     ///
-    /// [`Error::TooMany`] where the lane has fewer slots, [`Error::Full`] where fewer are free.
+    /// [`Error::TooMany`] if the lane has fewer slots, [`Error::Full`] if fewer are free.
     pub fn send_all<N: AsRef<str>, B: AsRef<[u8]>>(
         &mut self,
         to: u32,
@@ -116,26 +116,26 @@ impl<'a> Post<'a> {
         Ok(self.receive_into(from, &mut message)?.map(|()| message))
     }
 
-    /// Receives the first message that it finds on the lanes from all other instances, which it looks at in turn,
-    /// beginning after the one that the last message came from.
+    /// Receives the first message that it finds on the lanes from all other instances. It looks at them in turn,
+    /// beginning after the sender of the last message.
     pub fn any(&mut self) -> Result<Taken, Error> {
         let mut message = Message::empty();
         Ok(self.any_into(&mut message)?.map(|()| message))
     }
 
-    /// As `receive`, into a message whose memory is used again: it takes none where the new one finds room in it.
+    /// As `receive`, into a message whose memory is reused: it allocates nothing if the new one fits.
     pub fn receive_into(&mut self, from: u32, message: &mut Message) -> Result<Taken<()>, Error> {
         // SAFETY: as above.
         self.taken(message, |post, arrival| unsafe { ffi::msc_receive_(post, from, arrival) })
     }
 
-    /// As `any`, into a message whose memory is used again.
+    /// As `any`, into a message whose memory is reused.
     pub fn any_into(&mut self, message: &mut Message) -> Result<Taken<()>, Error> {
         // SAFETY: as above.
         self.taken(message, |post, arrival| unsafe { ffi::msc_any_(post, arrival) })
     }
 
-    /// What a call that receives finds, written to a message. Where it finds none, the message stays as it is.
+    /// What a call that receives finds, written to a message. If it finds none, the message stays as it is.
     fn taken(
         &mut self,
         message: &mut Message,
@@ -152,8 +152,8 @@ impl<'a> Post<'a> {
         Ok(Taken::Got(()))
     }
 
-    /// Receives the first messages that wait on the lane from the instance `from`, by one call: at most `most` of them,
-    /// and at least one where it is `Got`. A refusal behind some that came is told by the next call.
+    /// Receives the first messages that wait on the lane from the instance `from`, by one call: at most `most`, and at
+    /// least one for `Got`. If a message after the first is refused, the next call returns the refusal.
     pub fn receive_up_to(&mut self, from: u32, most: usize) -> Result<Taken<Vec<Message>>, Error> {
         // (a line has no more events)
         let mut arrivals = vec![ffi::Arrival::default(); most.min(4096)];
@@ -175,13 +175,13 @@ impl<'a> Post<'a> {
         Ok(Taken::Got(messages))
     }
 
-    /// Copies one of the messages that the post holds since the last call that received.
+    /// Copies one of the messages that the post has kept since its last receive.
     fn copy(&mut self, which: usize, arrival: &ffi::Arrival, message: &mut Message) {
         let mut length = 0;
         message.from = arrival.from;
         message.event = arrival.event;
-        // SAFETY: as above, and each buffer is as long as is told. The three calls copy from what the post holds since
-        // the call before, and aren't refused then.
+        // SAFETY: as above, and each buffer has the length given. The three calls copy from what the post has kept
+        // since the call before, so they aren't refused.
         unsafe {
             message.name.write(|bytes| {
                 ffi::msc_name_of_(self.handle, which, bytes.as_mut_ptr(), bytes.len(), &mut length);
@@ -197,13 +197,13 @@ impl<'a> Post<'a> {
         }
     }
 
-    /// Closes the lane to the instance `to`: what waits on it can still be received, and then it has ended.
+    /// Closes the lane to the instance `to`. Messages that wait on it can still be received; then it has ended.
     pub fn close(&mut self, to: u32) -> Result<(), Error> {
         // SAFETY: as above.
         done(unsafe { ffi::msc_close_(self.handle, to) })
     }
 
-    /// Opens a coregion, which the receives of this post are in from now on: their order isn't claimed, and is no
+    /// Opens a coregion, which contains the receives of this post from now on: their order isn't claimed, and is no
     /// race. Nothing is sent until it is closed.
     pub fn open_coregion(&mut self) -> Result<(), Error> {
         // SAFETY: as above.
@@ -216,14 +216,14 @@ impl<'a> Post<'a> {
         done(unsafe { ffi::msc_close_coregion_(self.handle) })
     }
 
-    /// Makes room for so many events. While there is some, on boards of up to 8 instances, a send takes memory for
-    /// its body alone.
+    /// Allocates room for the next `events` events. While some is left, on boards of up to 8 instances, a send
+    /// allocates only for its body.
     pub fn reserve(&mut self, events: u32) -> Result<(), Error> {
         // SAFETY: as above.
         done(unsafe { ffi::msc_reserve_(self.handle, events) })
     }
 
-    /// The event of this number, from 1, of what this post has sent and received.
+    /// The event with this number, from 1, among those that this post has sent and received.
     pub fn event(&self, number: u32) -> Option<Event> {
         let (mut event, mut name) = (ffi::Event::default(), Name::NONE);
         let mut answer = 0;

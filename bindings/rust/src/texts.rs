@@ -1,15 +1,15 @@
-//! What the programs `mscrun` and `mscview` do, of bytes.
+//! What the programs `mscrun` and `mscview` do, with bytes in place of files.
 
 use crate::error::Error;
 use crate::ffi::{self, Bytes, Written};
 use std::borrow::Cow;
 use std::fmt;
 
-/// What a program answers of a text that it doesn't refuse.
+/// What a program answers for a text that it doesn't refuse.
 #[derive(Clone, Debug, PartialEq, Eq)]
 pub struct Answer {
-    /// Whether its exit status is 1: of `check`, `replay` and `random`, whether there are races; of `view` whether there
-    /// is something of what was asked for.
+    /// Whether its exit status is 1. For `check`, `replay` and `random`: whether there are races. For `view`: whether
+    /// there is something of what was asked for.
     pub has_races: bool,
     /// What it writes to standard output.
     pub out: Vec<u8>,
@@ -24,7 +24,7 @@ impl Answer {
     }
 }
 
-/// Why a program refuses a text: the line that it writes, as `refused: F20 Syntax`.
+/// Why a program refuses a text: the line that it writes, such as `refused: F20 Syntax`.
 #[derive(Clone, Debug, PartialEq, Eq)]
 pub struct Refused {
     /// What it writes to standard error.
@@ -39,7 +39,7 @@ impl fmt::Display for Refused {
 
 impl std::error::Error for Refused {}
 
-/// Checks the chart that these bytes are, as `mscrun check` does: a line for each of its races.
+/// Checks the chart in these bytes, as `mscrun check` does: one line for each of its races.
 ///
 /// ```
 /// let mut board = msc::Board::new(2, 1)?;
@@ -57,20 +57,20 @@ pub fn check(chart: &[u8]) -> Result<Answer, Refused> {
     perform(2, 0, chart)
 }
 
-/// Replays the schedule that these bytes are, as `mscrun replay` does: its chart, its races and its notes.
+/// Replays the schedule in these bytes, as `mscrun replay` does: its chart, its races and its notes.
 pub fn replay(schedule: &[u8]) -> Result<Answer, Refused> {
     perform(0, 0, schedule)
 }
 
-/// Replays the schedule in the order that the seed draws, as `mscrun random` does.
+/// Replays the schedule in an order that the seed draws, as `mscrun random` does.
 pub fn random(schedule: &[u8], seed: u64) -> Result<Answer, Refused> {
     perform(1, seed, schedule)
 }
 
-/// Does what `mscview` does for these words of a command line, whose files are in memory: the texts are what the words
-/// read, in the order in which they name them, and standard input is one of them where no file is named.
+/// Does what `mscview` does for these words of a command line, whose files are in memory. The texts are what the words
+/// read, in the order in which they name them. If no file is named, standard input is one of them.
 ///
-/// A misuse is refused too: where the words read another number of texts.
+/// Another number of texts than the words read is refused too, as a misuse.
 ///
 /// ```
 /// let chart = b"msc run;\ninstance a;\nout m to b;\nendinstance;\ninstance b;\nendinstance;\nendmsc;\n";
@@ -103,7 +103,7 @@ pub fn view<W: AsRef<str>, T: AsRef<[u8]>>(words: &[W], texts: &[T]) -> Result<A
 
 fn perform(task: u32, seed: u64, text: &[u8]) -> Result<Answer, Refused> {
     whole(text.len(), |out, err, written| {
-        // SAFETY: the buffers are as long as is told, and all is lent for the call.
+        // SAFETY: the buffers have the lengths given, and all is lent for the call.
         unsafe {
             ffi::msc_perform_(
                 task,
@@ -120,7 +120,7 @@ fn perform(task: u32, seed: u64, text: &[u8]) -> Result<Answer, Refused> {
     })
 }
 
-/// The whole answer of a call that writes as much as there is room for. Where that was too little it is made once more.
+/// The whole answer of a call that writes as much as fits. If there was too little room, the call is made again.
 fn whole(
     length: usize,
     mut call: impl FnMut(&mut [u8], &mut [u8], &mut Written) -> i32,
