@@ -37,8 +37,14 @@ def paragraphs_of_markdown(text):
         elif bare.startswith("#"):
             yield bare.lstrip("# ")
         else:
-            lines.append(ITEM.sub("", bare, count=1))
+            item = ITEM.match(bare)
+            lines.append(bare[item.end() :] if item else bare)
     yield " ".join(lines)
+
+
+def without_links(text):
+    """A text with the words of its links alone, of which a path is code."""
+    return LINK.sub(lambda found: found[1] if " " in found[1] else CODE, text)
 
 
 def words_of_macro(words):
@@ -69,7 +75,8 @@ def paragraphs_of_page(text):
                 lines.append(words_of_macro(words))
             elif macro not in CODE_MACROS:
                 yield " ".join(lines)
-                lines = [" ".join(words)] if macro in HEAD_MACROS else []
+                lines = []
+                yield " ".join(words) if macro in HEAD_MACROS else ""
         if macro in ("Sh", "SH"):
             section = " ".join(words)
     yield " ".join(lines)
@@ -89,7 +96,7 @@ def sentences_of(path, text):
     else:
         paragraphs = paragraphs_of_markdown(text) if path.endswith(".md") else paragraphs_of_page(text)
     for paragraph in paragraphs:
-        yield from filter(None, BETWEEN.split(LINK.sub(r"\1", paragraph).strip()))
+        yield from filter(None, BETWEEN.split(without_links(paragraph).strip()))
 
 
 def words_in(sentence):
