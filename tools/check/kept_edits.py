@@ -1,0 +1,53 @@
+"""What is kept of edits that were refused, for tools/check/refused_edits: in a checkout, and on the machine for others."""
+import hashlib
+import os
+
+CHECKS = os.path.dirname(os.path.abspath(__file__))
+# What the machine keeps, and of how many crates at most.
+MACHINE = os.path.join(os.environ.get("XDG_CACHE_HOME") or os.path.expanduser("~/.cache"), "mscrun", "edits")
+MOST_KEPT = 500
+
+
+class Kept:
+    """What is kept of a crate whose edits were all refused: a sum of all that this rests on, and what was told."""
+
+    def __init__(self, root, crate, edits):
+        rests_on = [crate.stamp(), *[(edit.name, edit.pairs) for edit in edits]]
+        for name in ("refused_edits", "crate_functions.py"):
+            with open(os.path.join(CHECKS, name), "rb") as tool:
+                rests_on.append(tool.read())
+        self.sum = hashlib.sha256(repr(rests_on).encode()).hexdigest()
+        self.files = (f"{root}/out/edits/{crate.name}", f"{MACHINE}/{crate.name}-{self.sum}")
+
+    def read(self):
+        """What was told, or nothing where something has changed since, or no such thing is kept."""
+        for path in self.files:
+            try:
+                with open(path, encoding="utf-8") as file:
+                    made_of, *told = file.read().splitlines()
+            except (OSError, ValueError):
+                continue
+            if made_of == self.sum:
+                return told
+        return []
+
+    def write(self, told):
+        for path in self.files:
+            try:
+                os.makedirs(os.path.dirname(path), exist_ok=True)
+                with open(f"{path}.{os.getpid()}", "w", encoding="utf-8") as file:
+                    print(self.sum, *told, sep="\n", file=file)
+                os.replace(f"{path}.{os.getpid()}", path)
+            except OSError:
+                # (it is tried again then)
+                continue
+
+
+def forget_oldest():
+    """Leaves the machine what was kept last."""
+    try:
+        kept = sorted(os.scandir(MACHINE), key=lambda file: file.stat().st_mtime)
+        for file in kept[:-MOST_KEPT]:
+            os.remove(file.path)
+    except OSError:
+        return
