@@ -433,7 +433,7 @@ static inline void msc_board_free(msc_board *board) {
  * SEED. TEXT has the LENGTH bytes of the file. OUT receives the program's standard output and ERR its standard error,
  * as much of each as its room allows. *OUT_LENGTH and *ERR_LENGTH receive their whole lengths. The answer is the
  * program's exit status: 0, 1 if there are races, 2 if the text or memory is refused. With 2, ERR has a line that says
- * why (docs/FORMATS.md). MSC_MISUSE: another TASK. It uses no post, and any thread may call. */
+ * why (docs/reference/refusals.md). MSC_MISUSE: another TASK. It uses no post, and any thread may call. */
 static inline int msc_perform(int task, uint64_t seed, const char *text, size_t length, char *out, size_t out_room,
                               size_t *out_length, char *err, size_t err_room, size_t *err_length) {
     msc_lengths lengths = {0, 0};
@@ -512,9 +512,9 @@ int32_t msc_view_(const msc_bytes_ *words, size_t count, const msc_bytes_ *texts
  *
  * OUT receives the program's standard output and ERR its standard error, as much of each as its room allows.
  * *OUT_LENGTH and *ERR_LENGTH receive their whole lengths. The answer is the program's exit status: 0, 1 for a race or
- * another finding, 2 if a word, a text or memory is refused. With 2, ERR has a line that says why (docs/FORMATS.md).
- * MSC_MISUSE also if the words read another number of files than TEXTS; then nothing is written. It uses no post, and
- * any thread may call. */
+ * another finding, 2 if a word, a text or memory is refused. With 2, ERR has a line that says why
+ * (docs/reference/refusals.md). MSC_MISUSE also if the words read another number of files than TEXTS; then nothing is
+ * written. It uses no post, and any thread may call. */
 static inline int msc_view(int count, const char *const *words, size_t texts, const char *const *text,
                            const size_t *length, char *out, size_t out_room, size_t *out_length, char *err,
                            size_t err_room, size_t *err_length) {

@@ -1,4 +1,4 @@
-"""A chart's text, read and written line by line as docs/FORMATS.md tells."""
+"""A chart's text, read and written line by line as docs/reference/charts.md tells."""
 
 import re
 from collections import namedtuple

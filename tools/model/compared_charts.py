@@ -1,4 +1,4 @@
-"""What two recordings of one system differ in, by the definitions of docs/FORMATS.md."""
+"""What two recordings of one system differ in, by the definitions of docs/reference/comparisons.md."""
 
 import json
 

@@ -1,4 +1,4 @@
-"""The drawn order of a schedule's commands, by docs/FORMATS.md."""
+"""The drawn order of a schedule's commands, by docs/reference/schedules.md."""
 
 MASK = 2**64 - 1
 FACTOR = 6364136223846793005

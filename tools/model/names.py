@@ -1,4 +1,4 @@
-"""Names and refusals, line by line from docs/FORMATS.md."""
+"""Names and refusals, line by line from docs/reference/charts.md and refusals.md."""
 
 RESERVED = {
     b"msc", b"endmsc", b"instance", b"endinstance", b"out", b"to", b"in", b"from", b"concurrent", b"endconcurrent",

@@ -1,4 +1,4 @@
-"""What a schedule means, by docs/SPECIFICATION.md, and what its replay prints, by docs/FORMATS.md."""
+"""What a schedule means, by docs/SPECIFICATION.md, and what its replay prints, by docs/reference/replay.md."""
 
 from collections import deque
 

@@ -1,4 +1,4 @@
-"""A schedule's text, read line by line as docs/FORMATS.md tells."""
+"""A schedule's text, read line by line as docs/reference/schedules.md tells."""
 
 import re
 from collections import namedtuple
