@@ -1,8 +1,8 @@
 # shellcheck shell=bash
 # Read by ./mscrun and ./mscview, and by what ./install puts into PREFIX/bin. They set `usages` to the folder with the usage
 # texts and `version` to the file with the version, and define `at_once`, whether the program of a name answers at once. They
-# call `answer` with the program's name, a command that runs the program of a name with words, and the words of the command
-# line.
+# read spent_turns.sh too. They call `answer` with the program's name, a command that runs the program of a name with words,
+# and the words of the command line.
 
 # Whether the words ask for help.
 asks_for_help() {
@@ -347,9 +347,10 @@ tell_notes() {
 
 # Answers the words of a command line: the usage and the version where it asks for them, which takes no program. What the
 # program refuses as a command line has the usage behind it, and which word isn't known; what it refuses as a text has what to
-# try, and on a terminal a file that can't be read its name. There is also told what a schedule's races leave out.
+# try, and on a terminal a file that can't be read its name. There is also told what a schedule's races leave out, and what
+# instances on threads waited for.
 answer() {
-  local name=$1 program=$2 status said
+  local name=$1 program=$2 status said kept=''
   shift 2
   if asks_for_help "$@"; then
     usage_of "$name" "$([[ ${1-} == help ]] && echo "${2-}" || echo "${1-}")"
@@ -363,7 +364,7 @@ answer() {
     usage_of "$name" >&2
     return 2
   fi
-  runs "$program" "$name" "$@"
+  if is_kept "$name" "$@"; then runs_kept "$program" "$name" "$@"; else runs "$program" "$name" "$@"; fi
   status=$?
   if [[ $status == 2 && $said == 'refused: G1 Usage' ]]; then
     usage_of "$name" "$1" >&2
@@ -376,6 +377,8 @@ answer() {
     tell_missing "$said" >&2
   elif [[ $status != 2 && $name == mscview && $1 == races && " $* " != *' --from'* && -t 2 ]]; then
     tell_notes "$program" "$@"
+  elif [[ $status != 2 && -n $kept ]]; then
+    tell_spent "$kept" "$@" >&2 2>/dev/null
   fi
   return "$status"
 }

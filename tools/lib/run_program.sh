@@ -2,8 +2,10 @@
 # Read by ./mscrun and its like, which set `root` to the repository's top.
 . "$root/tools/lib/built.sh"
 . "$root/tools/lib/front.sh"
+. "$root/tools/lib/spent_turns.sh"
 . "$root/tools/lib/linked_kit.sh"
 usages=$root/tools/usage
+spent_turns=$root/tools/lib/spent_turns.awk
 version=$root/VERSION
 
 # Whether a command of mscview reads standard input where no file is named.
