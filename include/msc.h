@@ -220,7 +220,7 @@ static inline int msc_send_all(msc_post *post, uint32_t to, const void *bytes, s
 }
 
 /* Receives the first message that waits on the lane from the instance FROM, and describes it in *ARRIVAL. It stays in
- * the post until the next one comes. MSC_NOTHING: none waits. MSC_ENDED: none waits, and the lane is closed. */
+ * the post until the next one comes. MSC_NOTHING: none waits. MSC_ENDED: nor will one. The call itself never waits. */
 static inline int msc_receive(msc_post *post, uint32_t from, msc_arrival *arrival) {
     if (post == NULL || arrival == NULL) return MSC_MISUSE;
     return msc_receive_(post, from, arrival);
@@ -403,14 +403,14 @@ static inline int msc_board_left(msc_board *board, uint32_t from, uint32_t to, s
 /* Carries over what *BOARD left to all COUNT posts of a new board, in any order: so a run with full lines goes on. Each
  * message that still waited is sent again by its sender, lane by lane, in the order in which it waited. Each lane that
  * was closed is closed again. Then nothing is left on *BOARD. CARRIED, which may be NULL, has room for COUNT numbers:
- * how many sends each instance carried. These are the first events of its line.
+ * how many sends each instance carried, by instance. These are the first events of its line.
  *
  * The caller promises that the new board has as many instances, and lanes of at least as many slots. Its posts did
  * nothing yet: no event (else MSC_MISUSE), no close, no coregion.
  *
- * A race whose earlier event is a carried send may be enforced by what the earlier board saw: leave it out. Races
- * between an event of the earlier board and a receive on the new one are lost: no board reports them. An open coregion
- * isn't carried over, nor the instance with which msc_any begins.
+ * A race whose earlier event is a carried send may be enforced by what the earlier board saw: leave it out. No other
+ * reported race is touched. Races between an event of the earlier board and a receive on the new one are lost: no board
+ * reports them. An open coregion isn't carried over, nor the instance with which msc_any begins.
  *
  * On MSC_NOT_ALL_POSTS, MSC_NO_MEMORY (which may come first, as in msc_meet) or MSC_MISUSE nothing was sent, and what
  * was left stays in *BOARD. */
