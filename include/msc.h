@@ -25,10 +25,10 @@
  *   - All calls use one allocator. No call is made in a signal handler, nor in a forked child of a process with
  *     threads.
  *
- * ANSWERS. 0 is done. 1 means that no message waits. 2 means that none waits and none will come, since the lane is
- * closed. A number below 0 is a refusal: -N for the refusal FN, -100 for a misuse. A misuse is a null pointer, a handle
- * wrongly empty or wrongly in use, posts of two boards, or a wrong number of names. A refused call changes nothing,
- * except that the post may have seen more. msc_refusal_text gives each answer in words.
+ * ANSWERS. No call waits. 0 is done. 1 means that no message waits. 2 means that none waits and none will come, since
+ * the lane is closed. A number below 0 is a refusal: -N for the refusal FN, -100 for a misuse. A misuse is a null
+ * pointer, a handle wrongly empty or wrongly in use, posts of two boards, or a wrong number of names. A refused call
+ * changes nothing, except that the post may have seen more. msc_refusal_text gives each answer in words.
  */
 #ifndef MSC_H
 #define MSC_H
@@ -220,7 +220,7 @@ static inline int msc_send_all(msc_post *post, uint32_t to, const void *bytes, s
 }
 
 /* Receives the first message that waits on the lane from the instance FROM, and describes it in *ARRIVAL. It stays in
- * the post until the next one comes. MSC_NOTHING: none waits. MSC_ENDED: nor will one. The call itself never waits. */
+ * the post until the next one comes. MSC_NOTHING: none waits. MSC_ENDED: none waits, and the lane is closed. */
 static inline int msc_receive(msc_post *post, uint32_t from, msc_arrival *arrival) {
     if (post == NULL || arrival == NULL) return MSC_MISUSE;
     return msc_receive_(post, from, arrival);
