@@ -25,10 +25,10 @@
  *   - All calls use one allocator. No call is made in a signal handler, nor in a forked child of a process with
  *     threads.
  *
- * ANSWERS. 0 is done. 1 means that no message waits. 2 means that none waits and none will come, since the lane is
- * closed. A number below 0 is a refusal: -N for the refusal FN, -100 for a misuse. A misuse is a null pointer, a handle
- * wrongly empty or wrongly in use, posts of two boards, or a wrong number of names. A refused call changes nothing,
- * except that the post may have seen more. msc_refusal_text gives each answer in words.
+ * ANSWERS. No call waits. 0 is done. 1 means that no message waits. 2 means that none waits and none will come, since
+ * the lane is closed. A number below 0 is a refusal: -N for the refusal FN, -100 for a misuse. A misuse is a null
+ * pointer, a handle wrongly empty or wrongly in use, posts of two boards, or a wrong number of names. A refused call
+ * changes nothing, except that the post may have seen more. msc_refusal_text gives each answer in words.
  */
 #ifndef MSC_H
 #define MSC_H
@@ -403,14 +403,14 @@ static inline int msc_board_left(msc_board *board, uint32_t from, uint32_t to, s
 /* Carries over what *BOARD left to all COUNT posts of a new board, in any order: so a run with full lines goes on. Each
  * message that still waited is sent again by its sender, lane by lane, in the order in which it waited. Each lane that
  * was closed is closed again. Then nothing is left on *BOARD. CARRIED, which may be NULL, has room for COUNT numbers:
- * how many sends each instance carried. These are the first events of its line.
+ * how many sends each instance carried, by instance. These are the first events of its line.
  *
  * The caller promises that the new board has as many instances, and lanes of at least as many slots. Its posts did
  * nothing yet: no event (else MSC_MISUSE), no close, no coregion.
  *
- * A race whose earlier event is a carried send may be enforced by what the earlier board saw: leave it out. Races
- * between an event of the earlier board and a receive on the new one are lost: no board reports them. An open coregion
- * isn't carried over, nor the instance with which msc_any begins.
+ * A race whose earlier event is a carried send may be enforced by what the earlier board saw: leave it out. No other
+ * reported race is touched. Races between an event of the earlier board and a receive on the new one are lost: no board
+ * reports them. An open coregion isn't carried over, nor the instance with which msc_any begins.
  *
  * On MSC_NOT_ALL_POSTS, MSC_NO_MEMORY (which may come first, as in msc_meet) or MSC_MISUSE nothing was sent, and what
  * was left stays in *BOARD. */
