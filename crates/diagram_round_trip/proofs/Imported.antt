@@ -124,7 +124,7 @@ module _ (first : List ℕ) (others : List (List ℕ)) (lines : List LineView) (
       (subst (Each IsSent) (sym (reads first others lines drawing reports ends notes starts is are_ends are_reports).same) ((says first others lines drawing reports ends notes starts is are_ends are_reports).quiet (no_note none)))
 
   abbrev joined : JoinedChartView
-  joined = record { drawn = chart; overtaking = [] }
+  joined = record { built = chart; overtaking = [] }
 
   strict : (is_strict : Bool) → (is_strict ≡ true → has_races reports ≡ false) → strictly is_strict text joined ≡ Ok joined
   unfolding strictly first_place first_overtaking
@@ -133,18 +133,18 @@ module _ (first : List ℕ) (others : List (List ℕ)) (lines : List LineView) (
 
   pub comes_back : (tool : Option Tool) → IsDetectedOr Mscgen tool → (is_strict : Bool) → (is_strict ≡ true → has_races reports ≡ false) → IsChartOf names lines (imported tool text (all_lines is_strict))
   unfolding imported imported_from built_joined
-  comes_back tool race_notes is_strict none = record {
-    drawn = chart;
+  comes_back tool detected is_strict none = record {
+    built = chart;
     is =
         ap (λ t. imported_from tool [] is_strict (behind_mark t)) (unskipped 1 text)
         ∙ ap (imported_from tool [] is_strict) unmarked
-        ∙ ap (λ own. own >>= (λ t. diagram_in t text >>= (λ d. refused_as NoChart (built_joined d []) >>= (λ c. strictly is_strict text c)))) (tool_is tool race_notes)
+        ∙ ap (λ own. own >>= (λ t. diagram_in t text >>= (λ d. refused_as NoChart (built_joined d []) >>= (λ c. strictly is_strict text c)))) (tool_is tool detected)
         ∙ ap (λ read. read >>= (λ d. refused_as NoChart (built_joined d []) >>= (λ c. strictly is_strict text c))) diagram_is
         ∙ ap (λ d. refused_as NoChart (alone d) >>= (λ c. strictly is_strict text c)) (built_chart first others lines drawing reports ends notes starts is are_ends are_reports)
         ∙ strict is_strict none;
     same_names = names_out first others lines drawing reports ends notes starts is are_ends are_reports;
     same_lines = lines_out first others lines drawing reports ends notes starts is are_ends are_reports;
-    no_tool = renamed_out first others lines drawing reports ends notes starts is are_ends are_reports;
+    none_renamed = renamed_out first others lines drawing reports ends notes starts is are_ends are_reports;
     notes = all_of IsNote chart.left_out (notes_out first others lines drawing reports ends notes starts is are_ends are_reports);
   }
 
@@ -163,10 +163,10 @@ view_is its_names lines rows reports ends v e =
 
 -- the law
 pub mscgen_round_trip : MscgenRoundTrip
-mscgen_round_trip [] lines rows reports ends v e tool race_notes is_strict none =
+mscgen_round_trip [] lines rows reports ends v e tool detected is_strict none =
     let several = e.level.chart.several in
     let many = e.level.many in
     absurd (omega arith)
-mscgen_round_trip (first ∷ others) lines rows reports ends v e tool race_notes is_strict none =
+mscgen_round_trip (first ∷ others) lines rows reports ends v e tool detected is_strict none =
     subst (λ x. IsChartOf (first ∷ others) lines (imported tool (export_text x) (all_lines is_strict))) (sym (view_is (first ∷ others) lines rows reports ends v e.export))
-    (comes_back first others lines rows reports ends e.level e.ends_are e.reports_are tool race_notes is_strict none)
+    (comes_back first others lines rows reports ends e.level e.ends_are e.reports_are tool detected is_strict none)

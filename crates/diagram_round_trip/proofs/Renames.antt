@@ -41,10 +41,10 @@ not_renamed : (name : List ℕ) → IsName name → is_renamed name name ≡ fal
 not_renamed name is = rw (no_blanks name (name_bytes name is).1, (bytes_eq-Decides name name).1 refl) refl
 
 -- what is their own name isn't told
-no_renames : (race_notes : List (List ℕ × List ℕ)) (names : List (List ℕ)) → Each IsName names → renamed_from race_notes names names ≡ race_notes
+no_renames : (renames : List (List ℕ × List ℕ)) (names : List (List ℕ)) → Each IsName names → renamed_from renames names names ≡ renames
 unfolding renamed_from
-no_renames race_notes [] all = refl
-no_renames race_notes (name ∷ names) all = rw (not_renamed name all.0) (no_renames race_notes names all.1)
+no_renames renames [] all = refl
+no_renames renames (name ∷ names) all = rw (not_renamed name all.0) (no_renames renames names all.1)
 
 labels_are : (entities : List Entity) → Each (λ (e : Entity). IsName e.name × ArePlain e.name) entities → map (λ (p : ParticipantView). p.label) (participants_of entities) ≡ map (λ (e : Entity). e.name) entities
 labels_are [] all = refl

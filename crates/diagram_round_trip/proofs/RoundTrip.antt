@@ -80,7 +80,7 @@ module _ (first : List ℕ) (others : List (List ℕ)) (lines : List LineView) (
 
   are_kinds : AreKinds (whole_kinds first others says.exported) (tokens_of text)
   unfolding tokens_of mark_length
-  are_kinds = (whole_tokens first others says.exported plain_names plain_exported).located (length text) (behind start []) (omega arith)
+  are_kinds = (whole_tokens first others says.exported plain_names plain_exported).tokens (length text) (behind start []) (omega arith)
 
   pub reads : ReadsWhole names says.exported (tokens_of text)
   reads = reads_whole first others says.exported (tokens_of text) are_kinds

@@ -22,10 +22,10 @@ AreKinds (k ∷ kinds) tokens = (place : Place) × (text : List ℕ) × (rest : 
 
 -- the text's tokens are these, wherever it stands
 pub record HasTokens (text : List ℕ) (kinds : List KindView) : Type 0 where
-  pub race_notes : (n : ℕ) (place : Place) → length text ≤ n → AreKinds kinds (tokens_from n place text)
+  pub tokens : (n : ℕ) (place : Place) → length text ≤ n → AreKinds kinds (tokens_from n place text)
 
 pub nothing : HasTokens [] []
-nothing = record { race_notes = all }
+nothing = record { tokens = all }
   where
     all : (n : ℕ) (place : Place) → 0 ≤ n → tokens_from n place [] ≡ []
     all zero place le = refl
@@ -35,22 +35,22 @@ nothing = record { race_notes = all }
 pub token : (b : ℕ) (bytes rest : List ℕ) (kind : KindView) (more : List KindView) → (piece_at (b ∷ bytes ++ rest)).length ≡ suc (length bytes)
     → kind_of (piece_at (b ∷ bytes ++ rest)).shape (b ∷ bytes) ≡ Some kind → HasTokens rest more → HasTokens (b ∷ bytes ++ rest) (kind ∷ more)
 unfolding first_token
-token b bytes rest kind more is named behind_it = record { race_notes = all }
+token b bytes rest kind more is named behind_it = record { tokens = all }
   where
     all : (n : ℕ) (place : Place) → length (b ∷ bytes ++ rest) ≤ n → AreKinds (kind ∷ more) (tokens_from n place (b ∷ bytes ++ rest))
     all zero place le = absurd (omega arith)
     all (suc n) place le =
         rw (is, take-append_seam bytes rest, drop-append_seam bytes rest, named)
-        (place, b ∷ bytes ++ rest, _, refl, behind_it.race_notes n (behind place (b ∷ bytes)) (omega (arith, length-append bytes rest)))
+        (place, b ∷ bytes ++ rest, _, refl, behind_it.tokens n (behind place (b ∷ bytes)) (omega (arith, length-append bytes rest)))
 
 -- a blank
 pub blank : (b : ℕ) (rest : List ℕ) (more : List KindView) → (piece_at (b ∷ rest)).length ≡ 1 → kind_of (piece_at (b ∷ rest)).shape (b ∷ []) ≡ None → HasTokens rest more → HasTokens (b ∷ rest) more
 unfolding first_token
-blank b rest more is gap behind_it = record { race_notes = all }
+blank b rest more is gap behind_it = record { tokens = all }
   where
     all : (n : ℕ) (place : Place) → length (b ∷ rest) ≤ n → AreKinds more (tokens_from n place (b ∷ rest))
     all zero place le = absurd (omega arith)
-    all (suc n) place le = rw (is, gap) (behind_it.race_notes n (behind place (b ∷ [])) (omega arith))
+    all (suc n) place le = rw (is, gap) (behind_it.tokens n (behind place (b ∷ [])) (omega arith))
 
 -- a word ends where something else begins
 passes : (word : List ℕ) (b : ℕ) (rest : List ℕ) → list_all is_word_byte word ≡ true → is_word_byte b ≡ false → prefix_len (λ x. not (not (is_word_byte x))) (word ++ b ∷ rest) ≡ length word

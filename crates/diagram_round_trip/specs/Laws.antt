@@ -33,7 +33,7 @@ pub record IsChartOf (names : List (List ℕ)) (lines : List LineView) (read : R
   pub is : read ≡ Ok (record { built = built; overtaking = [] })
   pub same_names : built.names ≡ names
   pub same_lines : built.lines ≡ lines
-  pub no_tool : built.renamed ≡ []
+  pub none_renamed : built.renamed ≡ []
   pub notes : All (λ l. l.kind ≡ Note) built.left_out
 
 -- the export of a level chart to mscgen, with the races of its reports and the other ends of its messages
