@@ -3,10 +3,12 @@
 mod commands;
 mod reading;
 mod request;
+mod showing;
 
 pub use crate::CommandLineError;
 pub use reading::requested;
 pub use request::{
     Compare, Draw, DrawWitness, Export, Import, ImportLog, LogForm, LogRaces, Mend, Pair, Question,
-    Races, Reading, Request, Rows, Showing,
+    Races, Reading, Request, Rows,
 };
+pub use showing::Showing;

@@ -32,7 +32,7 @@ use Rattle.cli.specs.declared.view.request.LogForm.TheVariants as forms
 use Rattle.cli.specs.declared.view.request.Reading.{Reading}
 use Rattle.cli.specs.declared.view.request.Rows as lines
 use Rattle.cli.specs.declared.view.request.Rows.TheVariants as row_words
-use Rattle.cli.specs.declared.view.request.Showing.{Showing}
+use Rattle.cli.specs.declared.view.showing.Showing.{Showing}
 use Rattle.cmd_base.specs.declared.pairs.pair.Asked.{Asked}
 use Rattle.cmd_draw.specs.declared.witness.drawing.Wanted as witnesses
 

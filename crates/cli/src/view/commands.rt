@@ -1,5 +1,6 @@
 //! The commands, their options and their words.
 use crate::Word;
+use crate::view::showing::SHOWING;
 
 /// The file that a command may do without.
 const FILE: &[Word] = &[Word::Free("FILE")];
@@ -30,15 +31,6 @@ const LOGS: &[Word] = &[
     Word::Repeated("peer"),
     Word::Option("from-line", 1),
     Word::Option("to-line", 1),
-];
-
-/// Which races are shown, and how.
-const SHOWING: &[Word] = &[
-    Word::Option("only", 1),
-    Word::Flag("receives"),
-    Word::Flag("run-to-completion"),
-    Word::Flag("luck"),
-    Word::Flag("json"),
 ];
 
 /// What is drawn, and how.

@@ -2,8 +2,9 @@
 use crate::view::commands::COMMANDS;
 use crate::view::request::{
     Compare, Draw, DrawWitness, Export, Import, ImportLog, LogForm, LogRaces, Mend, Pair, Question,
-    Races, Reading, Request, Rows, Showing,
+    Races, Reading, Request, Rows,
 };
+use crate::view::showing::showing_of;
 use crate::{CommandLineError, program_of};
 use clap::ArgMatches;
 use std::alloc::{AllocError, Global};
@@ -214,17 +215,6 @@ fn compare_of<'a>(words: &ArgMatches<'a>) -> Option<Request<'a>> {
         first: words.get_str("A")?,
         second: words.get_str("B")?,
     }))
-}
-
-/// Which races the words of `races` ask for.
-fn showing_of<'a>(words: &ArgMatches<'a>) -> Showing<'a> {
-    Showing {
-        only: words.get_str("only"),
-        receives: words.get_flag("receives"),
-        run_to_completion: words.get_flag("run-to-completion"),
-        luck: words.get_flag("luck"),
-        json: words.get_flag("json"),
-    }
 }
 
 /// The races of a file that the words of `races` ask for.

@@ -1,4 +1,5 @@
 //! What a command line asks for.
+use crate::view::showing::Showing;
 
 /// What is asked about a pair of events.
 #[derive(Clone, Copy, Debug, PartialEq, Eq)]
@@ -128,21 +129,6 @@ pub struct Compare<'a> {
     pub json: bool,
     pub first: &'a str,
     pub second: &'a str,
-}
-
-/// Which races are to be shown, and how. The names are words still.
-#[derive(Clone, Copy, Debug, PartialEq, Eq)]
-pub struct Showing<'a> {
-    /// The names behind `--only`, joined by commas.
-    pub only: Option<&'a str>,
-    /// Whether `--receives` is given.
-    pub receives: bool,
-    /// Whether `--run-to-completion` is given.
-    pub run_to_completion: bool,
-    /// Whether `--luck` is given.
-    pub luck: bool,
-    /// Whether `--json` is given.
-    pub json: bool,
 }
 
 /// The races of a file that are to be shown.
