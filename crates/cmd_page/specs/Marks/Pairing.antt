@@ -6,7 +6,6 @@ use Rattle.chart.specs.declared.ranges.EventRange.{EventRange}
 use Rattle.chart.specs.Ranges.{IsRange, ranges_of}
 use Rattle.chart.specs.Reports.{ReportView}
 use Rattle.cmd_page.specs.declared.marks.pairs.RaceRange.{RaceRange}
-use Rattle.cmd_page.specs.declared.marks.pairs.TheConstants.{MOST_EXPLAINED, MOST_BYTES}
 
 -- its earlier events are neighbours, of which there is one, and their numbers are within 32 bits
 abbrev pub HasRange : RaceRange → Type 0
@@ -22,6 +21,6 @@ pairs_in report = map (pair_of report.receive) (ranges_of report.earlier)
 abbrev pub pairs_of : List ReportView → List RaceRange
 pairs_of reports = flat_map pairs_in reports
 
--- how many are told in full: the first ones
+-- how many are told in full: the first hundred at most, and none of a file of more than 131,072 bytes
 abbrev pub explained_of : ℕ → ℕ → ℕ
-explained_of bytes races = if nat_lt MOST_BYTES bytes then 0 else min MOST_EXPLAINED races
+explained_of bytes races = if nat_lt 131072 bytes then 0 else min 100 races

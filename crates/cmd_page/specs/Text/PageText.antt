@@ -1,17 +1,17 @@
 -- A page as text (this project's profile; the elements are those of HTML).
-use Rattle.std.specs.Prelude.{ℕ, List, [], ◌++◌, ◌==◌, length, decimal, nat_lt, if◌then◌else◌}
+use Rattle.std.specs.Prelude.{ℕ, List, [], ◌++◌, ◌==◌, codes, length, decimal, nat_lt, if◌then◌else◌}
 use Rattle.std.specs.List.{flat_map}
 use Rattle.texts.specs.Pieces.Pieces.{escaped}
-use Rattle.cmd_page.specs.declared.text.fixed.TheConstants.{POLICY, STYLE, CONTROLS, SCRIPT}
+use Rattle.cmd_page.specs.declared.text.fixed.TheConstants.{STYLE, CONTROLS, SCRIPT}
 use Rattle.cmd_page.specs.declared.text.page.Page.{Page}
 use Rattle.cmd_page.specs.declared.text.word.Word.{Word}
 use Rattle.cmd_page.specs.declared.text.word.Word.TheVariants as words
 use Rattle.cmd_page.specs.Text.RaceText.{race_text}
 use Rattle.cmd_page.specs.Text.Words.{word_text}
 
--- what the page may do
+-- what the page may do: show itself, and run the script with this digest (a policy of CSP)
 unfoldable pub policy : List ℕ
-policy = POLICY.now
+policy = codes "<meta http-equiv=\"Content-Security-Policy\" content=\"default-src 'none'; script-src 'sha256-vGViFwLYhTh9/zfDd5m7aEl8GEI5RD7IaToG0Vs21eM='; style-src 'unsafe-inline'; base-uri 'none'; form-action 'none'\">\n<meta name=\"viewport\" content=\"width=device-width,initial-scale=1\">\n<title>"
 
 unfoldable pub style : List ℕ
 style = STYLE.now
