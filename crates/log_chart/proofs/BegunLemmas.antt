@@ -8,11 +8,12 @@ use Rattle.log_chart.specs.BegunTables.{IsRising, IsBelowAll, AreGiven}
 use Rattle.log_chart.specs.Chains.{IsBelow, IsChain, with_first}
 use Rattle.log_chart.specs.Cursors.{left_from}
 use Rattle.log_chart.specs.Fates.{is_sent_at}
-use Rattle.log_chart.specs.Items.{invented, heads_from}
+use Rattle.log_chart.specs.Items.{invented, heads_in}
 use Rattle.log_chart.specs.LaneTables.{LaneSends}
 use Rattle.log_chart.specs.declared.begun.Begun.{Begun}
 use Rattle.log_chart.specs.declared.item.Item.{Item}
 use Rattle.log_chart.specs.declared.matching.LogLine.{LogLine}
+use Rattle.log_chart.specs.declared.name_order.HostName.{HostName}
 use Rattle.log_chart.proofs.MatchingLemmas.{from_here}
 
 -- of each lane the send of its last message behind so many lines
@@ -55,19 +56,15 @@ unfolding heads_to
 head_end items heads n p past = rw (drop_all n heads past) (append-nil items)
 
 -- and to all receivers
-pub heads_more : (items more : List Item) (heads : List Begun) (place count : ℕ) → place < count → more ≡ items ++ map (invented (suc place)) (heads_to heads (suc place))
-    → more ++ heads_from heads (suc (place + 1)) (count - (place + 1)) ≡ items ++ heads_from heads (suc place) (count - place)
-unfolding heads_from
-heads_more items more heads place count less grown =
-    let next : count - place ≡ suc (count - (place + 1)) = omega arith in
-    let after : suc (place + 1) ≡ suc (suc place) = omega arith in
-    rw (grown, next, after) (append_assoc items _ _)
+module _ (items : List Item) (heads : List Begun) (hosts : List HostName) (n : ℕ) where
+  pub heads_more : (x : HostName) (more : List Item) → n < length hosts → x ≡ get_or hosts n x → more ≡ items ++ map (invented x.host) (heads_to heads x.host)
+      → more ++ heads_in heads (drop (n + 1) hosts) ≡ items ++ heads_in heads (drop n hosts)
+  unfolding heads_in
+  heads_more x more within is grown = rw (grown, from_here hosts n x within is) (append_assoc items _ _)
 
-pub heads_end : (items : List Item) (heads : List Begun) (p place count : ℕ) → count ≤ place → items ++ heads_from heads p (count - place) ≡ items
-unfolding heads_from
-heads_end items heads p place count past =
-    let none : count - place ≡ zero = omega arith in
-    rw none (append-nil items)
+  pub heads_end : length hosts ≤ n → items ++ heads_in heads (drop n hosts) ≡ items
+  unfolding heads_in
+  heads_end past = rw (drop_all n hosts past) (append-nil items)
 
 -- the receives behind one send rise
 below_behind : (n : ℕ) (given : List Begun) (s : ℕ) → IsBelowAll n given → IsBelow n (behind given s)

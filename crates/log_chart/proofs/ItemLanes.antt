@@ -1,22 +1,23 @@
 -- The messages of one lane on the lines of its two hosts.
-use Rattle.std.proofs.Common.{◌≡◌, ◌≢◌, ℕ, zero, suc, ◌+◌, ◌<◌, ◌≤◌, ◌==◌, ◌&&◌, not, Bool, true, false, cond, List, [], ◌∷◌, ◌++◌, Some, map, refl, sym, ap, ap₂, ◌∙◌, arith, eqb-true, eq-eqb}
+use Rattle.std.proofs.Common.{◌≡◌, ℕ, ◌+◌, ◌==◌, ◌&&◌, not, Bool, true, false, cond, List, [], ◌∷◌, ◌++◌, Some, map, refl, sym, ap, ap₂, ◌∙◌, arith, eqb-true, eq-eqb}
 use Rattle.std.specs.List.{flat_map}
-use Rattle.std.proofs.lemmas.Bool.{ne_eqb}
 use Rattle.std.proofs.lemmas.List.{append-nil}
 use Rattle.log_chart.specs.Begun.{behind, heads, heads_to}
 use Rattle.log_chart.specs.Entries.{is_send}
 use Rattle.log_chart.specs.Fates.{is_on}
-use Rattle.log_chart.specs.Items.{received_message, invented, items_by, heads_from, items_of}
+use Rattle.log_chart.specs.Items.{received_message, invented, items_by, heads_in, items_of}
 use Rattle.log_chart.specs.Laws.{sent_to, received_from}
 use Rattle.log_chart.specs.declared.begun.Begun.{Begun}
 use Rattle.log_chart.specs.declared.item.Item.{Item}
 use Rattle.log_chart.specs.declared.item.MessageNo.{MessageNo}
 use Rattle.log_chart.specs.declared.item.MessageNo.TheVariants.{Sent, Begun as BegunMessage}
 use Rattle.log_chart.specs.declared.matching.LogLine.{LogLine}
+use Rattle.log_chart.specs.declared.name_order.HostName.{HostName}
 use Rattle.log_chart.proofs.LaneLists.{Taking}
 use Rattle.log_chart.proofs.BegunLanes.{behind_lane, sent_messages, received_messages}
 use Rattle.log_chart.proofs.LogLanes.{LineFits, Fits, sends_on, takes_on}
 use Rattle.log_chart.proofs.GivenLanes.{given_on, GivenFits, behind_on}
+use Rattle.log_chart.proofs.NameOrderLemmas.{times}
 
 sent-append : (p : ℕ) (xs ys : List Item) → sent_to p (xs ++ ys) ≡ sent_to p xs ++ sent_to p ys
 sent-append p [] ys = refl
@@ -48,34 +49,34 @@ none_received : (q r : ℕ) (numbers : List ℕ) → received_from q (map (inven
 none_received q r [] = refl
 none_received q r (n ∷ numbers) = none_received q r numbers
 
-heads_past : (p : ℕ) (given : List Begun) (k m : ℕ) → p < k → sent_to p (heads_from given k m) ≡ []
-unfolding heads_from
-heads_past p given k zero past = refl
-heads_past p given k (suc m) past =
-    let other : (k == p) ≡ false = ne_eqb k p (λ e. absurd (omega (arith, past, e))) in
-    sent-append p (map (invented k) (heads_to given k)) (heads_from given (suc k) m) ∙ ap₂ (λ (a b : List MessageNo). a ++ b) (none_sent p k (heads_to given k) other) (heads_past p given (suc k) m (omega arith))
-
-heads_sent : (p : ℕ) (given : List Begun) (k m : ℕ) → k ≤ p → p < k + m → sent_to p (heads_from given k m) ≡ map BegunMessage (heads_to given p)
-unfolding heads_from
-heads_sent p given k zero low high = absurd (omega arith)
-heads_sent p given k (suc m) low high =
-    sent-append p (map (invented k) (heads_to given k)) (heads_from given (suc k) m) ∙ go (k == p) refl (λ more. heads_sent p given (suc k) m more (omega arith))
+heads_other : (p : ℕ) (given : List Begun) (hosts : List HostName) → times p hosts ≡ 0 → sent_to p (heads_in given hosts) ≡ []
+unfolding heads_in
+heads_other p given [] none = refl
+heads_other p given (x ∷ hosts) none = sent-append p (map (invented x.host) (heads_to given x.host)) (heads_in given hosts) ∙ go (x.host == p) refl none (λ zero_is. heads_other p given hosts zero_is)
   where
-    above : (k == p) ≡ false → suc k ≤ p
-    above other = let differs : k ≢ p = λ e. absurd (let its = eq-eqb k p e in cc) in grind (arith, low, differs)
+    go : (its : Bool) → (x.host == p) ≡ its → cond its 1 0 + times p hosts ≡ 0 → (times p hosts ≡ 0 → sent_to p (heads_in given hosts) ≡ [])
+        → sent_to p (map (invented x.host) (heads_to given x.host)) ++ sent_to p (heads_in given hosts) ≡ []
+    go true e n rest = absurd (omega (arith, n))
+    go false e n rest = ap₂ (λ (a b : List MessageNo). a ++ b) (none_sent p x.host (heads_to given x.host) e) (rest (omega (arith, n)))
 
-    go : (its : Bool) → (k == p) ≡ its → (suc k ≤ p → sent_to p (heads_from given (suc k) m) ≡ map BegunMessage (heads_to given p))
-        → sent_to p (map (invented k) (heads_to given k)) ++ sent_to p (heads_from given (suc k) m) ≡ map BegunMessage (heads_to given p)
-    go true e rest =
-        let same = eqb-true k p e in
-        ap₂ (λ (a b : List MessageNo). a ++ b) (sent_invented p k (heads_to given k) same ∙ ap (λ x. map BegunMessage (heads_to given x)) same) (heads_past p given (suc k) m (omega (arith, same))) ∙ append-nil (map BegunMessage (heads_to given p))
-    go false e rest = ap₂ (λ (a b : List MessageNo). a ++ b) (none_sent p k (heads_to given k) e) (rest (above e))
+heads_sent : (p : ℕ) (given : List Begun) (hosts : List HostName) → times p hosts ≡ 1 → sent_to p (heads_in given hosts) ≡ map BegunMessage (heads_to given p)
+unfolding heads_in
+heads_sent p given [] once = absurd (omega (arith, once))
+heads_sent p given (x ∷ hosts) once = sent-append p (map (invented x.host) (heads_to given x.host)) (heads_in given hosts) ∙ go (x.host == p) refl once (λ one. heads_sent p given hosts one)
+  where
+    go : (its : Bool) → (x.host == p) ≡ its → cond its 1 0 + times p hosts ≡ 1 → (times p hosts ≡ 1 → sent_to p (heads_in given hosts) ≡ map BegunMessage (heads_to given p))
+        → sent_to p (map (invented x.host) (heads_to given x.host)) ++ sent_to p (heads_in given hosts) ≡ map BegunMessage (heads_to given p)
+    go true e n rest =
+        let same = eqb-true x.host p e in
+        ap₂ (λ (a b : List MessageNo). a ++ b) (sent_invented p x.host (heads_to given x.host) same ∙ ap (λ y. map BegunMessage (heads_to given y)) same) (heads_other p given hosts (omega (arith, n)))
+        ∙ append-nil (map BegunMessage (heads_to given p))
+    go false e n rest = ap₂ (λ (a b : List MessageNo). a ++ b) (none_sent p x.host (heads_to given x.host) e) (rest (omega (arith, n)))
 
-heads_received : (q : ℕ) (given : List Begun) (k m : ℕ) → received_from q (heads_from given k m) ≡ []
-unfolding heads_from
-heads_received q given k zero = refl
-heads_received q given k (suc m) =
-    received-append q (map (invented k) (heads_to given k)) (heads_from given (suc k) m) ∙ ap₂ (λ (a b : List MessageNo). a ++ b) (none_received q k (heads_to given k)) (heads_received q given (suc k) m)
+heads_received : (q : ℕ) (given : List Begun) (hosts : List HostName) → received_from q (heads_in given hosts) ≡ []
+unfolding heads_in
+heads_received q given [] = refl
+heads_received q given (x ∷ hosts) =
+    received-append q (map (invented x.host) (heads_to given x.host)) (heads_in given hosts) ∙ ap₂ (λ (a b : List MessageNo). a ++ b) (none_received q x.host (heads_to given x.host)) (heads_received q given hosts)
 
 -- what a line of the log adds
 module _ (from to : ℕ → ℕ) (q p : ℕ) (given : List Begun) (given_fit : GivenFits from to given) where
@@ -143,15 +144,15 @@ lines_received q p given (x ∷ lines) =
     go false e rest = ap₂ (λ (a b : List MessageNo). a ++ b) (received_by q p given x false e) rest
 
 -- a lane's messages on the line of its sender, and on that of its receiver
-pub line_sent : (from to : ℕ → ℕ) (n : ℕ) (lines : List LogLine) (given : List Begun) (q p : ℕ) → 1 ≤ p → p ≤ n → Fits from to lines → GivenFits from to given
-    → sent_to p (items_of n lines given q) ≡ map BegunMessage (heads_to (heads given q) p) ++ sent_messages (given_on q p given) (sends_on q p lines)
+pub line_sent : (from to : ℕ → ℕ) (hosts : List HostName) (lines : List LogLine) (given : List Begun) (q p : ℕ) → times p hosts ≡ 1 → Fits from to lines → GivenFits from to given
+    → sent_to p (items_of hosts lines given q) ≡ map BegunMessage (heads_to (heads given q) p) ++ sent_messages (given_on q p given) (sends_on q p lines)
 unfolding items_of
-line_sent from to n lines given q p low high fits given_fit =
-    sent-append p (heads_from (heads given q) 1 n) (flat_map (items_by given q) lines)
-    ∙ ap₂ (λ (a b : List MessageNo). a ++ b) (heads_sent p (heads given q) 1 n low (omega arith)) (lines_sent from to q p given given_fit lines fits)
+line_sent from to hosts lines given q p once fits given_fit =
+    sent-append p (heads_in (heads given q) hosts) (flat_map (items_by given q) lines)
+    ∙ ap₂ (λ (a b : List MessageNo). a ++ b) (heads_sent p (heads given q) hosts once) (lines_sent from to q p given given_fit lines fits)
 
-pub line_received : (n : ℕ) (lines : List LogLine) (given : List Begun) (q p : ℕ) → received_from q (items_of n lines given p) ≡ received_messages (takes_on q p lines)
+pub line_received : (hosts : List HostName) (lines : List LogLine) (given : List Begun) (q p : ℕ) → received_from q (items_of hosts lines given p) ≡ received_messages (takes_on q p lines)
 unfolding items_of
-line_received n lines given q p =
-    received-append q (heads_from (heads given p) 1 n) (flat_map (items_by given p) lines)
-    ∙ ap₂ (λ (a b : List MessageNo). a ++ b) (heads_received q (heads given p) 1 n) (lines_received q p given lines)
+line_received hosts lines given q p =
+    received-append q (heads_in (heads given p) hosts) (flat_map (items_by given p) lines)
+    ∙ ap₂ (λ (a b : List MessageNo). a ++ b) (heads_received q (heads given p) hosts) (lines_received q p given lines)

@@ -6,6 +6,7 @@ use Rattle.log_chart.specs.Fates.{fate_of, stays}
 use Rattle.log_chart.specs.HostLines.{kept}
 use Rattle.log_chart.specs.Laws.{AreOfLanes, sent_to, received_from, line_of}
 use Rattle.log_chart.specs.Matching.{sends_from, matched}
+use Rattle.log_chart.specs.NameOrder.{by_name}
 use Rattle.log_chart.specs.declared.entry.Entry.{Entry}
 use Rattle.log_chart.specs.declared.item.MessageNo.{MessageNo}
 use Rattle.log_chart.specs.declared.item.MessageNo.TheVariants.{Sent, Begun as BegunMessage}
@@ -15,6 +16,7 @@ use Rattle.log_chart.proofs.BegunLanes.{behind_lane, begun_lane, sent_messages, 
 use Rattle.log_chart.proofs.LogLanes.{Fits, sends_on, takes_on, sends_left, takes_left}
 use Rattle.log_chart.proofs.GivenLanes.{given_on, given_lane, given_fits, heads_on}
 use Rattle.log_chart.proofs.ItemLanes.{line_sent, line_received}
+use Rattle.log_chart.proofs.NameOrderLemmas.{times_once}
 use Rattle.log_chart.proofs.OrderLemmas.{matched_rises, kept_rises}
 use Rattle.log_chart.proofs.TakenLanes.{stream_at, all_left, taken_apart, matched_fit, taken_logged, lane_rises, fits_some}
 
@@ -22,11 +24,11 @@ pub lane_in_order : (n : ℕ) (from to : ℕ → ℕ) (log : List Entry) → Are
     → (rest : List ℕ) × (sent_to p (line_of n log q) ≡ received_from q (line_of n log p) ++ map Sent rest)
 lane_in_order n from to log lanes q p low high = (
   waiting_sends rs sends,
-  line_sent f t n (kept log) (begun (kept log)) q p low high kept_fit (given_fits f t (λ a b. None) (kept log) kept_fit (λ a b s is. absurd (cc is)))
+  line_sent f t (by_name n log) (kept log) (begun (kept log)) q p (times_once n p log low high) kept_fit (given_fits f t (λ a b. None) (kept log) kept_fit (λ a b s is. absurd (cc is)))
       ∙ ap₂ (λ (a b : List MessageNo). a ++ b) (ap (map BegunMessage) (heads_on q p (begun (kept log)) ∙ ap (behind_lane None) given)) (ap₂ sent_messages given stay)
       ∙ in_order None (staying_receives rs) (waiting_sends rs sends) (subst IsRising stay (lane_rises q p (kept log) (kept_rises log))) tt
       ∙ ap (λ l. received_messages l ++ map Sent (waiting_sends rs sends)) (sym taken)
-      ∙ ap (λ l. l ++ map Sent (waiting_sends rs sends)) (sym (line_received n (kept log) (begun (kept log)) q p)),
+      ∙ ap (λ l. l ++ map Sent (waiting_sends rs sends)) (sym (line_received (by_name n log) (kept log) (begun (kept log)) q p)),
 )
   where
     f : ℕ → ℕ

@@ -12,6 +12,7 @@ pub mod LaneLists
 pub mod LawLemmas
 pub mod LogLanes
 pub mod MatchingLemmas
+pub mod NameOrderLemmas
 pub mod NamedLemmas
 pub mod OrderLemmas
 pub mod RisingLists

@@ -1,5 +1,5 @@
 -- The events of each host: those of its lines that stay, in their order, and the sends that are invented.
-use Rattle.std.specs.Prelude.{ℕ, zero, suc, ◌==◌, true, List, [], ◌∷◌, ◌++◌, map, Option, None, Some, if◌then◌else◌}
+use Rattle.std.specs.Prelude.{ℕ, ◌==◌, true, List, [], ◌∷◌, ◌++◌, map, Option, None, Some, if◌then◌else◌}
 use Rattle.std.specs.List.{flat_map}
 use Rattle.log_chart.specs.Begun.{behind, heads, heads_to}
 use Rattle.log_chart.specs.Entries.{is_send}
@@ -8,6 +8,7 @@ use Rattle.log_chart.specs.declared.item.Item.{Item}
 use Rattle.log_chart.specs.declared.item.MessageNo.{MessageNo}
 use Rattle.log_chart.specs.declared.item.MessageNo.TheVariants as messages
 use Rattle.log_chart.specs.declared.matching.LogLine.{LogLine}
+use Rattle.log_chart.specs.declared.name_order.HostName.{HostName}
 
 -- a message is known by the line that sends it or, where its send is invented, by the one that receives it
 abbrev pub received_message : ℕ → Option ℕ → MessageNo
@@ -38,11 +39,11 @@ invented_behind given x = if is_send x.entry.kind then map (invented x.entry.pee
 abbrev pub items_by : List Begun → ℕ → LogLine → List Item
 items_by given q x = if x.entry.host == q then item_of x ∷ invented_behind given x else []
 
--- the sends that are invented at the head of a line, to so many instances, the first of which is p
-unfoldable pub heads_from : List Begun → ℕ → ℕ → List Item
-heads_from given p zero = []
-heads_from given p (suc n) = map (invented p) (heads_to given p) ++ heads_from given (suc p) n
+-- the sends that are invented at the head of a line, to these hosts one after another
+unfoldable pub heads_in : List Begun → List HostName → List Item
+heads_in given [] = []
+heads_in given (x ∷ hosts) = map (invented x.host) (heads_to given x.host) ++ heads_in given hosts
 
--- q's line, of n
-unfoldable pub items_of : ℕ → List LogLine → List Begun → ℕ → List Item
-items_of n lines given q = heads_from (heads given q) 1 n ++ flat_map (items_by given q) lines
+-- q's line, of these hosts, which are by their names
+unfoldable pub items_of : List HostName → List LogLine → List Begun → ℕ → List Item
+items_of hosts lines given q = heads_in (heads given q) hosts ++ flat_map (items_by given q) lines

@@ -4,6 +4,7 @@ use Rattle.log_chart.specs.Begun.{begun}
 use Rattle.log_chart.specs.Fates.{sender_of, receiver_of}
 use Rattle.log_chart.specs.HostLines.{kept}
 use Rattle.log_chart.specs.Items.{items_of}
+use Rattle.log_chart.specs.NameOrder.{by_name}
 use Rattle.log_chart.specs.declared.entry.Entry.{Entry}
 use Rattle.log_chart.specs.declared.item.Item.{Item}
 use Rattle.log_chart.specs.declared.item.MessageNo.{MessageNo}
@@ -25,7 +26,7 @@ received_from q (i ∷ items) = if not i.sends && i.partner == q then i.message 
 
 -- a host's line
 abbrev pub line_of : ℕ → List Entry → ℕ → List Item
-line_of n log p = items_of n (kept log) (begun (kept log)) p
+line_of n log p = items_of (by_name n log) (kept log) (begun (kept log)) p
 
 -- on each lane the n-th message that is received is the n-th that is sent; those that are left were sent last, and
 -- nobody received them

@@ -12,4 +12,5 @@ pub mod Items
 pub mod LaneTables
 pub mod Laws
 pub mod Matching
+pub mod NameOrder
 pub mod Named

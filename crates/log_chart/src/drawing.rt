@@ -17,6 +17,7 @@ use crate::host_line::{behind_of, items_of};
 use crate::item::Item;
 use crate::losing::sift;
 use crate::matching::{LogLine, matched};
+use crate::name_order::{HostName, hosts_by_name};
 use chart::InstanceNo;
 use std::alloc::{AllocError, Global};
 use std::marker::Model;
@@ -58,25 +59,25 @@ pub struct HostLines {
     pub lines: Vec<HostLine>,
 }
 
-/// The lines of so many hosts.
+/// The lines of the hosts, which are these by their names.
 fn lines_of(
     alloc: Global,
-    count: usize,
+    hosts: &[HostName],
     lines: &[LogLine],
     given: &[Begun],
     behind_sends: &Chains,
 ) -> Result<Vec<HostLine>, AllocError>
-    requires count { count ≤ MAX_INSTANCES }
+    requires count { length hosts.now ≤ MAX_INSTANCES }
     requires behind { AreChains behind_sends.now.first.items behind_sends.now.next.items (behind given.now) }
     requires rising { HoldsRising behind_sends.now }
     requires within { AreNumberedBelow (length behind_sends.now.first.items) lines.now }
-    ensures { IfOk result (λ made. made.items ≡ lines_from count lines.now given.now 1 count) }
+    ensures { IfOk result (λ made. made.items ≡ lines_from hosts.now lines.now given.now 1 (length hosts.now)) }
 {
     let mut made = Vec::new(alloc);
-    for place in 0..count {
+    for place in 0..hosts.len() {
         let host = InstanceNo::at_place(place);
         made.push(HostLine {
-            items: items_of(alloc, count, lines, given, behind_sends, host)?,
+            items: items_of(alloc, hosts, lines, given, behind_sends, host)?,
         })?;
     }
     Ok(made)
@@ -98,7 +99,7 @@ pub fn kept_lines(alloc: Global, log: &[Entry]) -> Result<Vec<LogLine>, AllocErr
 ///
 /// Each receive takes the first send of its stream that none before it took. Lost messages and those that overtake are
 /// left out. A receive without a send gives its peer one, directly behind the send of the last message before it on its
-/// lane that is left, or at the head of the peer's line.
+/// lane that is left, or at the head of the peer's line: there by the names of the receivers.
 ///
 /// F6: it fails only where there is no memory.
 pub fn host_lines(alloc: Global, count: usize, log: &[Entry]) -> Result<HostLines, AllocError>
@@ -113,7 +114,8 @@ pub fn host_lines(alloc: Global, count: usize, log: &[Entry]) -> Result<HostLine
     let sifted = sift(alloc, &matched)?;
     let given = begun_sends(alloc, &sifted.staying)?;
     let behind_sends = behind_of(alloc, log.len(), &given)?;
-    let lines = lines_of(alloc, count, &sifted.staying, &given, &behind_sends)?;
+    let hosts = hosts_by_name(alloc, count, log)?;
+    let lines = lines_of(alloc, &hosts, &sifted.staying, &given, &behind_sends)?;
     Ok(HostLines {
         matched,
         fates: sifted.fates,

@@ -23,6 +23,8 @@ pub struct Place {
 #[derive(Clone, Copy, Debug)]
 pub struct Entry {
     pub host: InstanceNo,
+    /// The host's name: where one of several hosts comes first, it is the first by the bytes of its name.
+    pub host_name: Name,
     pub kind: Kind,
     pub peer: InstanceNo,
     pub name: Name,

@@ -1,15 +1,15 @@
 //! The events of each host.
-ghost use Rattle.std.specs.Prelude.{◌≡◌, ◌<◌, ◌≤◌, ◌++◌, ℕ, List, length, map, IfOk, OnOk};
-ghost use Rattle.chart.specs.declared.instance.TheConstants.{MAX_INSTANCES};
+ghost use Rattle.std.specs.Prelude.{◌≡◌, ◌<◌, ◌++◌, ℕ, List, length, map, IfOk, OnOk};
 ghost use Rattle.log_chart.specs.Begun.{behind as behind_numbers, heads, heads_to};
 ghost use Rattle.log_chart.specs.BegunTables.{AreGiven, HoldsRising, AreNumberedBelow};
 ghost use Rattle.log_chart.specs.Chains.{AreChains};
-ghost use Rattle.log_chart.specs.Items.{invented, items_by, heads_from, items_of};
+ghost use Rattle.log_chart.specs.Items.{invented, items_by, heads_in, items_of};
 
 use crate::begun::Begun;
 use crate::chains::Chains;
 use crate::item::{Item, invented, item_of};
 use crate::matching::{LogLine, is_send};
+use crate::name_order::HostName;
 use chart::InstanceNo;
 use std::alloc::{AllocError, Global};
 
@@ -59,13 +59,12 @@ fn push_heads_to(
     Ok(())
 }
 
-/// All of them, by their receivers.
-fn push_heads(items: &mut Vec<Item>, heads: &[Begun], count: usize) -> Result<(), AllocError>
-    requires { count ≤ MAX_INSTANCES }
-    ensures { OnOk result (items.new.items ≡ items.old.items ++ heads_from heads.now 1 count) }
+/// Those to these hosts, one after another.
+fn push_heads(items: &mut Vec<Item>, heads: &[Begun], hosts: &[HostName]) -> Result<(), AllocError>
+    ensures { OnOk result (items.new.items ≡ items.old.items ++ heads_in heads.now hosts.now) }
 {
-    for place in 0..count {
-        push_heads_to(items, heads, InstanceNo::at_place(place))?;
+    for receiver in hosts {
+        push_heads_to(items, heads, receiver.host)?;
     }
     Ok(())
 }
@@ -107,23 +106,22 @@ fn push_items(
     Ok(())
 }
 
-/// The events of a host, of so many: those of its lines that stay, and the sends that are invented.
+/// The events of a host, of these by their names: those of its lines that stay, and the sends that are invented.
 pub(crate) fn items_of(
     alloc: Global,
-    count: usize,
+    hosts: &[HostName],
     lines: &[LogLine],
     given: &[Begun],
     behind: &Chains,
     host: InstanceNo,
 ) -> Result<Vec<Item>, AllocError>
-    requires count { count ≤ MAX_INSTANCES }
     requires behind { AreChains behind.now.first.items behind.now.next.items (behind_numbers given.now) }
     requires rising { HoldsRising behind.now }
     requires within { AreNumberedBelow (length behind.now.first.items) lines.now }
-    ensures { IfOk result (λ items. items.items ≡ items_of count lines.now given.now host) }
+    ensures { IfOk result (λ items. items.items ≡ items_of hosts.now lines.now given.now host) }
 {
     let mut items = Vec::new(alloc);
-    push_heads(&mut items, &heads(alloc, given, host)?, count)?;
+    push_heads(&mut items, &heads(alloc, given, host)?, hosts)?;
     for line in lines {
         push_items(&mut items, behind, line, host)?;
     }

@@ -26,6 +26,7 @@ mod lane_sends;
 mod laws;
 mod losing;
 mod matching;
+mod name_order;
 pub mod named;
 
 pub use begun::Begun;

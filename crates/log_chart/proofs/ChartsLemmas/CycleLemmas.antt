@@ -27,6 +27,8 @@ use Rattle.log_chart.proofs.CyclesLemmas.SettleLemmas.{kept_takes}
 use Rattle.log_chart.specs.Charts.ChartLines.{event_of}
 use Rattle.log_chart.proofs.ChartsLemmas.LineLemmas.{chart_of_log, line_is, host_of_event, item_of_event}
 use Rattle.log_chart.proofs.ChartsLemmas.OriginLemmas.{IsBehind, behind_is}
+use Rattle.log_chart.specs.NameOrder.{by_name}
+use Rattle.log_chart.proofs.NameOrderLemmas.{are_up_to}
 use Rattle.log_chart.proofs.ChartsLemmas.PlacedLemmas.{Placed, placed, items_placed, IsOf, placed_are, IsUp, placed_up}
 use Rattle.log_chart.proofs.ChartsLemmas.PlacedLemmas.IsOf.{head, own, after}
 use Rattle.log_chart.proofs.ChartsLemmas.RoundLemmas.{no_cycle}
@@ -73,7 +75,7 @@ module _ (n : ℕ) (from to : ℕ → ℕ) (log : List Entry) (lanes : AreOfLane
   Lines = kept log
 
   abbrev Host : ℕ → List Placed
-  Host q = placed n (kept log) (begun (kept log)) q
+  Host q = placed (by_name n log) (kept log) (begun (kept log)) q
 
   abbrev stands_of : Option Placed → Option ℕ
   stands_of None = None
@@ -90,7 +92,7 @@ module _ (n : ℕ) (from to : ℕ → ℕ) (log : List Entry) (lanes : AreOfLane
   -- the event of a host that stands there
   placed_at : (e : Place) (x : Item) → ith (line_of n log e.instance) e.index ≡ Some x → (w : Placed) × (ith (Host e.instance) e.index ≡ Some w) × (w.item ≡ x)
   placed_at e x is =
-      ith_of (λ (w : Placed). w.item) (Host e.instance) e.index x (subst (λ l. ith l e.index ≡ Some x) (sym (items_placed n (kept log) (begun (kept log)) e.instance)) is)
+      ith_of (λ (w : Placed). w.item) (Host e.instance) e.index x (subst (λ l. ith l e.index ≡ Some x) (sym (items_placed (by_name n log) (kept log) (begun (kept log)) e.instance)) is)
 
   -- the line at which it stands
   host_line : (q a : ℕ) (w : Placed) → IsOf n Lines (begun Lines) q w → w.stands ≡ Some a → (x : LogLine) × Contains Lines x × (x.entry.host ≡ q) × (x.number ≡ a)
@@ -100,7 +102,7 @@ module _ (n : ℕ) (from to : ℕ → ℕ) (log : List Entry) (lanes : AreOfLane
 
   -- an earlier event of a line
   along : (e f : Place) (x : Item) → IsEarlier e f → ith (line_of n log f.instance) f.index ≡ Some x → IsSooner Lines (stands_at e) (stands_at f) e f
-  along e f x earlier x_is = sooner_at e f w v w_at v_is (by_place w.stands v.stands refl refl (placed_up n (kept log) (begun (kept log)) f.instance e.index f.index w v (kept_rises log) w_is v_is earlier.less))
+  along e f x earlier x_is = sooner_at e f w v w_at v_is (by_place w.stands v.stands refl refl (placed_up (by_name n log) (kept log) (begun (kept log)) f.instance e.index f.index w v (kept_rises log) w_is v_is earlier.less))
     where
       v : Placed
       v = (placed_at f x x_is).0
@@ -130,8 +132,8 @@ module _ (n : ℕ) (from to : ℕ → ℕ) (log : List Entry) (lanes : AreOfLane
           elim (cases_eq a b) [
             | inl same ↦ inr (same, earlier.line, earlier.less)
             | inr differs ↦
-                let y = host_line f.instance a there.0 (placed_are n Lines (begun Lines) f.instance e.index there.0 w_is) a_is in
-                let z = host_line f.instance b (placed_at f x x_is).0 (placed_are n Lines (begun Lines) f.instance f.index (placed_at f x x_is).0 v_is) b_is in
+                let y = host_line f.instance a there.0 (placed_are n (by_name n log) (are_up_to n log) Lines (begun Lines) f.instance e.index there.0 w_is) a_is in
+                let z = host_line f.instance b (placed_at f x x_is).0 (placed_are n (by_name n log) (are_up_to n log) Lines (begun Lines) f.instance f.index (placed_at f x x_is).0 v_is) b_is in
                 let less : a < b = grind (arith, up, differs) in
                 inl (direct (host y.0 z.0 y.1 z.1 y.3 z.3 (y.2 ∙ sym z.2) less))
           ]
@@ -169,7 +171,7 @@ module _ (n : ℕ) (from to : ℕ → ℕ) (log : List Entry) (lanes : AreOfLane
       let w = placed_at e x x_is in
       let v = placed_at f y y_is in
       sooner_at e f w.0 v.0 w.1 v.1
-      (go w.0 v.0 (placed_are n Lines (begun Lines) e.instance e.index w.0 w.1) (placed_are n Lines (begun Lines) f.instance f.index v.0 v.1) (ap (λ (i : Item). i.sends) w.2 ∙ sends) (ap (λ (i : Item). i.sends) v.2 ∙ receives)
+      (go w.0 v.0 (placed_are n (by_name n log) (are_up_to n log) Lines (begun Lines) e.instance e.index w.0 w.1) (placed_are n (by_name n log) (are_up_to n log) Lines (begun Lines) f.instance f.index v.0 v.1) (ap (λ (i : Item). i.sends) w.2 ∙ sends) (ap (λ (i : Item). i.sends) v.2 ∙ receives)
       (ap (λ (i : Item). i.message) w.2 ∙ same ∙ ap (λ (i : Item). i.message) (sym v.2)))
     where
       go : (w v : Placed) → IsOf n Lines (begun Lines) e.instance w → IsOf n Lines (begun Lines) f.instance v → w.item.sends ≡ true → v.item.sends ≡ false → w.item.message ≡ v.item.message → IsSooner Lines w.stands v.stands e f

@@ -17,7 +17,9 @@ use Rattle.log_chart.specs.declared.matching.LogLine.{LogLine}
 use Rattle.log_chart.specs.Items.{naming_line}
 use Rattle.log_chart.specs.Cycles.Freeing.{AreAmong}
 use Rattle.log_chart.proofs.CyclesLemmas.SettleLemmas.{kept_all}
+use Rattle.log_chart.specs.NameOrder.{by_name}
 use Rattle.log_chart.specs.Charts.ChartLines.{name_at, message_name, event_of}
+use Rattle.log_chart.proofs.NameOrderLemmas.{are_up_to}
 use Rattle.log_chart.proofs.ChartsLemmas.CycleLemmas.{message_is}
 use Rattle.log_chart.proofs.ChartsLemmas.LineLemmas.{chart_of_log, line_is, host_of_event, item_of_event}
 use Rattle.log_chart.proofs.ChartsLemmas.OriginLemmas.{head_is}
@@ -31,10 +33,10 @@ module _ (n : ℕ) (from to : ℕ → ℕ) (log : List Entry) (lanes : AreOfLane
 
   -- the host at the other end of a message
   pub partner_in : (p i : ℕ) (x : Item) → ith (line_of n log p) i ≡ Some x → (1 ≤ x.partner) × (x.partner ≤ n) × (x.partner ≢ p)
-  partner_in p i x is = go w.0 w.2 (placed_are n (kept log) (begun (kept log)) p i w.0 w.1)
+  partner_in p i x is = go w.0 w.2 (placed_are n (by_name n log) (are_up_to n log) (kept log) (begun (kept log)) p i w.0 w.1)
     where
-      w : (w : Placed) × (ith (placed n (kept log) (begun (kept log)) p) i ≡ Some w) × (w.item ≡ x)
-      w = ith_of (λ (v : Placed). v.item) (placed n (kept log) (begun (kept log)) p) i x (subst (λ l. ith l i ≡ Some x) (sym (items_placed n (kept log) (begun (kept log)) p)) is)
+      w : (w : Placed) × (ith (placed (by_name n log) (kept log) (begun (kept log)) p) i ≡ Some w) × (w.item ≡ x)
+      w = ith_of (λ (v : Placed). v.item) (placed (by_name n log) (kept log) (begun (kept log)) p) i x (subst (λ l. ith l i ≡ Some x) (sym (items_placed (by_name n log) (kept log) (begun (kept log)) p)) is)
 
       by_peer : (y : LogLine) → Contains (kept log) y → y.entry.host ≡ p → y.entry.peer ≡ x.partner → (1 ≤ x.partner) × (x.partner ≤ n) × (x.partner ≢ p)
       by_peer y y_in y_host its =

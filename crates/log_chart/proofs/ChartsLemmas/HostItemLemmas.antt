@@ -6,11 +6,13 @@ use Rattle.std.proofs.lemmas.List.Elements.{All-nil, All-cons, All-head, All-tai
 use Rattle.log_chart.specs.Begun.{begun, behind, heads, heads_to}
 use Rattle.log_chart.specs.Entries.{is_send}
 use Rattle.log_chart.specs.HostLines.{lines_from, kept, host_lines}
-use Rattle.log_chart.specs.Items.{item_of, invented, items_by, heads_from, items_of}
+use Rattle.log_chart.specs.NameOrder.{by_name}
+use Rattle.log_chart.specs.Items.{item_of, invented, items_by, heads_in, items_of}
 use Rattle.log_chart.specs.declared.begun.Begun.{Begun}
 use Rattle.log_chart.specs.declared.entry.Entry.{Entry}
 use Rattle.log_chart.specs.declared.item.Item.{Item}
 use Rattle.log_chart.specs.declared.matching.LogLine.{LogLine}
+use Rattle.log_chart.specs.declared.name_order.HostName.{HostName}
 use Rattle.log_chart.proofs.OrderLemmas.{are_given}
 use Rattle.log_chart.proofs.ChartsLemmas.ItemLemmas.{AllBelow, AreBelow, given_below, heads_below, heads_to_below, behind_below}
 
@@ -19,11 +21,11 @@ module _ (P : Item → Type 0) (n : ℕ) (made : (p r : ℕ) → r < n → P (in
   all_invented p [] below = All-nil P
   all_invented p (r ∷ numbers) below = All-cons P (invented p r) (map (invented p) numbers) (made p r below.0) (all_invented p numbers below.1)
 
-  all_heads : (given : List Begun) (p m : ℕ) → AreBelow n given → All P (heads_from given p m)
-  unfolding heads_from
-  all_heads given p zero below = All-nil P
-  all_heads given p (suc m) below =
-      All-append P (map (invented p) (heads_to given p)) (heads_from given (suc p) m) (all_invented p (heads_to given p) (heads_to_below n p given below)) (all_heads given (suc p) m below)
+  all_heads : (given : List Begun) (hosts : List HostName) → AreBelow n given → All P (heads_in given hosts)
+  unfolding heads_in
+  all_heads given [] below = All-nil P
+  all_heads given (x ∷ hosts) below =
+      All-append P (map (invented x.host) (heads_to given x.host)) (heads_in given hosts) (all_invented x.host (heads_to given x.host) (heads_to_below n x.host given below)) (all_heads given hosts below)
 
   of_line : (given : List Begun) (q : ℕ) (x : LogLine) → AreBelow n given → P (item_of x) → All P (items_by given q x)
   of_line given q x below its = go (x.entry.host == q)
@@ -42,16 +44,16 @@ module _ (P : Item → Type 0) (n : ℕ) (made : (p r : ℕ) → r < n → P (in
       All-append P (items_by given q x) (flat_map (items_by given q) lines) (of_line given q x below (All-head (λ y. P (item_of y)) x lines all))
       (of_lines given q lines below (All-tail (λ y. P (item_of y)) x lines all))
 
-  of_host : (hosts : ℕ) (lines : List LogLine) (given : List Begun) (q : ℕ) → AreBelow n given → All (λ x. P (item_of x)) lines → All P (items_of hosts lines given q)
+  of_host : (hosts : List HostName) (lines : List LogLine) (given : List Begun) (q : ℕ) → AreBelow n given → All (λ x. P (item_of x)) lines → All P (items_of hosts lines given q)
   unfolding items_of
   of_host hosts lines given q below all =
-      All-append P (heads_from (heads given q) 1 hosts) (flat_map (items_by given q) lines) (all_heads (heads given q) 1 hosts (heads_below n q given below)) (of_lines given q lines below all)
+      All-append P (heads_in (heads given q) hosts) (flat_map (items_by given q) lines) (all_heads (heads given q) hosts (heads_below n q given below)) (of_lines given q lines below all)
 
-  of_hosts : (hosts : ℕ) (lines : List LogLine) (given : List Begun) (p m : ℕ) → AreBelow n given → All (λ x. P (item_of x)) lines → All (All P) (lines_from hosts lines given p m)
+  of_hosts : (hosts : List HostName) (lines : List LogLine) (given : List Begun) (p m : ℕ) → AreBelow n given → All (λ x. P (item_of x)) lines → All (All P) (lines_from hosts lines given p m)
   unfolding lines_from
   of_hosts hosts lines given p zero below all = All-nil (All P)
   of_hosts hosts lines given p (suc m) below all =
       All-cons (All P) (items_of hosts lines given p) (lines_from hosts lines given (suc p) m) (of_host hosts lines given p below all) (of_hosts hosts lines given (suc p) m below all)
 
 pub all_items : (P : Item → Type 0) (hosts : ℕ) (log : List Entry) → ((p r : ℕ) → r < length log → P (invented p r)) → All (λ x. P (item_of x)) (kept log) → All (All P) (host_lines hosts log)
-all_items P hosts log made all = of_hosts P (length log) made hosts (kept log) (begun (kept log)) 1 hosts (given_below (length log) (begun (kept log)) (are_given log)) all
+all_items P hosts log made all = of_hosts P (length log) made (by_name hosts log) (kept log) (begun (kept log)) 1 hosts (given_below (length log) (begun (kept log)) (are_given log)) all

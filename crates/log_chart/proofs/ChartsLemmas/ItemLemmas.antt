@@ -9,12 +9,14 @@ use Rattle.log_chart.specs.Entries.{is_send}
 use Rattle.log_chart.specs.Fates.{is_sent_at}
 use Rattle.log_chart.specs.FateTables.{IsWithin}
 use Rattle.log_chart.specs.HostLines.{lines_from, kept, host_lines}
-use Rattle.log_chart.specs.Items.{received_message, message_of, item_of, invented, invented_behind, items_by, heads_from, items_of, naming_line}
+use Rattle.log_chart.specs.Items.{received_message, message_of, item_of, invented, invented_behind, items_by, heads_in, items_of, naming_line}
+use Rattle.log_chart.specs.NameOrder.{by_name}
 use Rattle.log_chart.specs.declared.begun.Begun.{Begun}
 use Rattle.log_chart.specs.declared.entry.Entry.{Entry}
 use Rattle.log_chart.specs.declared.item.Item.{Item}
 use Rattle.log_chart.specs.declared.item.MessageNo.TheVariants.{Sent}
 use Rattle.log_chart.specs.declared.matching.LogLine.{LogLine}
+use Rattle.log_chart.specs.declared.name_order.HostName.{HostName}
 use Rattle.log_chart.proofs.OrderLemmas.{Within, kept_within, are_given}
 use Rattle.log_chart.specs.Charts.ChartLines.{AreNamed}
 
@@ -65,11 +67,11 @@ module _ (n : ℕ) where
   invented_named p [] below = All-nil (Named n)
   invented_named p (r ∷ numbers) below = All-cons (Named n) (invented p r) (map (invented p) numbers) below.0 (invented_named p numbers below.1)
 
-  heads_named : (given : List Begun) (p m : ℕ) → AreBelow n given → AreNamed n (heads_from given p m)
-  unfolding heads_from
-  heads_named given p zero below = All-nil (Named n)
-  heads_named given p (suc m) below =
-      All-append (Named n) (map (invented p) (heads_to given p)) (heads_from given (suc p) m) (invented_named p (heads_to given p) (heads_to_below p given below)) (heads_named given (suc p) m below)
+  heads_named : (given : List Begun) (hosts : List HostName) → AreBelow n given → AreNamed n (heads_in given hosts)
+  unfolding heads_in
+  heads_named given [] below = All-nil (Named n)
+  heads_named given (x ∷ hosts) below =
+      All-append (Named n) (map (invented x.host) (heads_to given x.host)) (heads_in given hosts) (invented_named x.host (heads_to given x.host) (heads_to_below x.host given below)) (heads_named given hosts below)
 
   message_named : (x : LogLine) → x.number < n → IsWithin n x.send → naming_line (message_of x) < n
   message_named x within sends = go (is_send x.entry.kind) x.send sends
@@ -95,24 +97,24 @@ module _ (n : ℕ) where
   lines_named given q (x ∷ lines) below within =
       All-append (Named n) (items_by given q x) (flat_map (items_by given q) lines) (line_named given q x below within.0 within.1) (lines_named given q lines below within.2)
 
-  items_named : (hosts : ℕ) (lines : List LogLine) (given : List Begun) (q : ℕ) → AreBelow n given → Within n lines → AreNamed n (items_of hosts lines given q)
+  items_named : (hosts : List HostName) (lines : List LogLine) (given : List Begun) (q : ℕ) → AreBelow n given → Within n lines → AreNamed n (items_of hosts lines given q)
   unfolding items_of
   items_named hosts lines given q below within =
-      All-append (Named n) (heads_from (heads given q) 1 hosts) (flat_map (items_by given q) lines) (heads_named (heads given q) 1 hosts (heads_below q given below)) (lines_named given q lines below within)
+      All-append (Named n) (heads_in (heads given q) hosts) (flat_map (items_by given q) lines) (heads_named (heads given q) hosts (heads_below q given below)) (lines_named given q lines below within)
 
-  all_named : (hosts : ℕ) (lines : List LogLine) (given : List Begun) (p m : ℕ) → AreBelow n given → Within n lines → All (AreNamed n) (lines_from hosts lines given p m)
+  all_named : (hosts : List HostName) (lines : List LogLine) (given : List Begun) (p m : ℕ) → AreBelow n given → Within n lines → All (AreNamed n) (lines_from hosts lines given p m)
   unfolding lines_from
   all_named hosts lines given p zero below within = All-nil (AreNamed n)
   all_named hosts lines given p (suc m) below within =
       All-cons (AreNamed n) (items_of hosts lines given p) (lines_from hosts lines given (suc p) m) (items_named hosts lines given p below within) (all_named hosts lines given (suc p) m below within)
 
 pub hosts_named : (hosts : ℕ) (log : List Entry) → All (AreNamed (length log)) (host_lines hosts log)
-hosts_named hosts log = all_named (length log) hosts (kept log) (begun (kept log)) 1 hosts (given_below (length log) (begun (kept log)) (are_given log)) (kept_within log)
+hosts_named hosts log = all_named (length log) (by_name hosts log) (kept log) (begun (kept log)) 1 hosts (given_below (length log) (begun (kept log)) (are_given log)) (kept_within log)
 
-lines_count : (hosts : ℕ) (lines : List LogLine) (given : List Begun) (p m : ℕ) → length (lines_from hosts lines given p m) ≡ m
+lines_count : (hosts : List HostName) (lines : List LogLine) (given : List Begun) (p m : ℕ) → length (lines_from hosts lines given p m) ≡ m
 unfolding lines_from
 lines_count hosts lines given p zero = refl
 lines_count hosts lines given p (suc m) = let rest = lines_count hosts lines given (suc p) m in omega (arith, rest)
 
 pub hosts_count : (hosts : ℕ) (log : List Entry) → length (host_lines hosts log) ≡ hosts
-hosts_count hosts log = lines_count hosts (kept log) (begun (kept log)) 1 hosts
+hosts_count hosts log = lines_count (by_name hosts log) (kept log) (begun (kept log)) 1 hosts

@@ -10,10 +10,12 @@ use Rattle.log_chart.specs.Begun.{begun}
 use Rattle.log_chart.specs.HostLines.{lines_from, kept, host_lines}
 use Rattle.log_chart.specs.Items.{items_of}
 use Rattle.log_chart.specs.Laws.{line_of}
+use Rattle.log_chart.specs.NameOrder.{by_name}
 use Rattle.log_chart.specs.declared.begun.Begun.{Begun}
 use Rattle.log_chart.specs.declared.entry.Entry.{Entry}
 use Rattle.log_chart.specs.declared.item.Item.{Item}
 use Rattle.log_chart.specs.declared.matching.LogLine.{LogLine}
+use Rattle.log_chart.specs.declared.name_order.HostName.{HostName}
 use Rattle.log_chart.specs.Charts.ChartLines.{event_of, chart_from}
 use Rattle.log_chart.proofs.ChartsLemmas.ItemLemmas.{hosts_count}
 use Rattle.log_chart.proofs.ChartsLemmas.TurnLemmas.{ith_of}
@@ -30,11 +32,11 @@ chart_at log k (items ∷ lines) (suc p) x d less is =
     let same : suc k + p ≡ k + suc p = omega arith in
     chart_at log (suc k) lines p x d (omega (arith, less)) is ∙ ap (λ i. record { instance = i; events = map (event_of log) x }) same
 
-host_at : (n : ℕ) (lines : List LogLine) (given : List Begun) (k m p : ℕ) (d : List Item) → p < m → get_or (lines_from n lines given k m) p d ≡ items_of n lines given (k + p)
+host_at : (hosts : List HostName) (lines : List LogLine) (given : List Begun) (k m p : ℕ) (d : List Item) → p < m → get_or (lines_from hosts lines given k m) p d ≡ items_of hosts lines given (k + p)
 unfolding lines_from
-host_at n lines given k zero p d less = absurd (omega (arith, less))
-host_at n lines given k (suc m) zero d less = let same : k ≡ k + zero = omega arith in ap (items_of n lines given) same
-host_at n lines given k (suc m) (suc p) d less = let same : suc k + p ≡ k + suc p = omega arith in host_at n lines given (suc k) m p d (omega (arith, less)) ∙ ap (items_of n lines given) same
+host_at hosts lines given k zero p d less = absurd (omega (arith, less))
+host_at hosts lines given k (suc m) zero d less = let same : k ≡ k + zero = omega arith in ap (items_of hosts lines given) same
+host_at hosts lines given k (suc m) (suc p) d less = let same : suc k + p ≡ k + suc p = omega arith in host_at hosts lines given (suc k) m p d (omega (arith, less)) ∙ ap (items_of hosts lines given) same
 
 pub chart_count : (log : List Entry) (p : ℕ) (lines : List (List Item)) → length (chart_from log p lines) ≡ length lines
 unfolding chart_from
@@ -46,7 +48,7 @@ module _ (n : ℕ) (log : List Entry) where
   chart_of_log = chart_lines (chart_from log 1 (host_lines n log))
 
   pub host_is : (p : ℕ) (d : List Item) → p < n → get_or (host_lines n log) p d ≡ line_of n log (suc p)
-  host_is p d less = let same : 1 + p ≡ suc p = omega arith in host_at n (kept log) (begun (kept log)) 1 n p d less ∙ ap (line_of n log) same
+  host_is p d less = let same : 1 + p ≡ suc p = omega arith in host_at (by_name n log) (kept log) (begun (kept log)) 1 n p d less ∙ ap (line_of n log) same
 
   pub view_is : (p : ℕ) (d : LineView) → p < n → get_or (chart_from log 1 (host_lines n log)) p d ≡ record { instance = suc p; events = map (event_of log) (line_of n log (suc p)) }
   view_is p d less =

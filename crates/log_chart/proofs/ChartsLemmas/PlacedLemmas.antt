@@ -1,6 +1,6 @@
 -- The events of a host's line with the lines of the log at which they stand: an event at its own line, an invented send at
 -- that of the send behind which it is, and one at the head of the host's line at none.
-use Rattle.std.proofs.Common.{◌≡◌, ℕ, zero, suc, ◌+◌, ◌<◌, ◌≤◌, inl, inr, ◌==◌, Bool, true, false, cond, List, [], ◌∷◌, ◌++◌, Option, None, Some, map, refl, sym, ap, ap₂, ◌∙◌, subst, arith, eqb-true}
+use Rattle.std.proofs.Common.{◌≡◌, ℕ, zero, suc, ◌<◌, ◌≤◌, inl, inr, ◌==◌, Bool, true, false, cond, List, [], ◌∷◌, ◌++◌, Option, None, Some, map, refl, sym, ap, ap₂, ◌∙◌, subst, arith, eqb-true}
 use Rattle.std.specs.Prelude.{Contains}
 use Rattle.std.specs.List.{flat_map, AllByRecursion}
 use Rattle.std.proofs.lemmas.Option.{none-some, same_Some}
@@ -9,11 +9,13 @@ use Rattle.std.proofs.lemmas.List.Elements.{All-contains_itself, recursion_from_
 use Rattle.chart.specs.Events.{ith}
 use Rattle.log_chart.specs.Begun.{behind, heads, heads_to}
 use Rattle.log_chart.specs.Entries.{is_send}
-use Rattle.log_chart.specs.Items.{item_of, invented, items_by, heads_from, items_of}
+use Rattle.log_chart.specs.Items.{item_of, invented, items_by, heads_in, items_of}
 use Rattle.log_chart.specs.declared.begun.Begun.{Begun}
 use Rattle.log_chart.specs.declared.item.Item.{Item}
 use Rattle.log_chart.specs.declared.matching.LogLine.{LogLine}
+use Rattle.log_chart.specs.declared.name_order.HostName.{HostName}
 use Rattle.log_chart.proofs.LaneLists.{Has}
+use Rattle.log_chart.proofs.NameOrderLemmas.{AreUpTo}
 use Rattle.log_chart.proofs.OrderLemmas.{IsAbove, Rises}
 
 pub record Placed : Type 0 where
@@ -29,8 +31,8 @@ at_line k i = record { item = i; stands = Some k }
 abbrev pub placed_by : List Begun → ℕ → LogLine → List Placed
 placed_by given q x = map (at_line x.number) (items_by given q x)
 
-abbrev pub placed : ℕ → List LogLine → List Begun → ℕ → List Placed
-placed n lines given q = map at_head (heads_from (heads given q) 1 n) ++ flat_map (placed_by given q) lines
+abbrev pub placed : List HostName → List LogLine → List Begun → ℕ → List Placed
+placed hosts lines given q = map at_head (heads_in (heads given q) hosts) ++ flat_map (placed_by given q) lines
 
 -- they are the line's
 item_back : (k : Option ℕ) (items : List Item) → map (λ (w : Placed). w.item) (map (λ i. record { item = i; stands = k }) items) ≡ items
@@ -43,11 +45,11 @@ lines_placed given q (x ∷ lines) =
     map-append (λ (w : Placed). w.item) (placed_by given q x) (flat_map (placed_by given q) lines)
     ∙ ap₂ (λ (a b : List Item). a ++ b) (item_back (Some x.number) (items_by given q x)) (lines_placed given q lines)
 
-pub items_placed : (n : ℕ) (lines : List LogLine) (given : List Begun) (q : ℕ) → map (λ (w : Placed). w.item) (placed n lines given q) ≡ items_of n lines given q
+pub items_placed : (hosts : List HostName) (lines : List LogLine) (given : List Begun) (q : ℕ) → map (λ (w : Placed). w.item) (placed hosts lines given q) ≡ items_of hosts lines given q
 unfolding items_of
-items_placed n lines given q =
-    map-append (λ (w : Placed). w.item) (map at_head (heads_from (heads given q) 1 n)) (flat_map (placed_by given q) lines)
-    ∙ ap₂ (λ (a b : List Item). a ++ b) (item_back None (heads_from (heads given q) 1 n)) (lines_placed given q lines)
+items_placed hosts lines given q =
+    map-append (λ (w : Placed). w.item) (map at_head (heads_in (heads given q) hosts)) (flat_map (placed_by given q) lines)
+    ∙ ap₂ (λ (a b : List Item). a ++ b) (item_back None (heads_in (heads given q) hosts)) (lines_placed given q lines)
 
 -- each of a list, and each with each later one
 abbrev Each : (Placed → Type 0) → List Placed → Type 0
@@ -87,17 +89,17 @@ pub data IsOf (n : ℕ) (lines : List LogLine) (given : List Begun) (q : ℕ) (w
   after : (x : LogLine) (r : ℕ) → Contains lines x → x.entry.host ≡ q → Has (behind given x.number) r → w.item ≡ invented x.entry.peer r → w.stands ≡ Some x.number → IsOf n lines given q w
 
 module _ (n : ℕ) (all : List LogLine) (given : List Begun) (q : ℕ) where
-  heads_are : (p m : ℕ) → 1 ≤ p → p + m ≡ suc n → Each (IsOf n all given q) (map at_head (heads_from (heads given q) p m))
-  unfolding heads_from
-  heads_are p zero low whole = tt
-  heads_are p (suc m) low whole =
-      subst (Each (IsOf n all given q)) (sym (map-append at_head (map (invented p) (heads_to (heads given q) p)) (heads_from (heads given q) (suc p) m)))
-      (each_append (IsOf n all given q) (map at_head (map (invented p) (heads_to (heads given q) p))) (map at_head (heads_from (heads given q) (suc p) m)) (one (heads_to (heads given q) p) (λ r h. h))
-      (heads_are (suc p) m (omega arith) (omega (arith, whole))))
+  heads_are : (hosts : List HostName) → AreUpTo n hosts → Each (IsOf n all given q) (map at_head (heads_in (heads given q) hosts))
+  unfolding heads_in
+  heads_are [] up_to = tt
+  heads_are (x ∷ hosts) up_to =
+      subst (Each (IsOf n all given q)) (sym (map-append at_head (map (invented x.host) (heads_to (heads given q) x.host)) (heads_in (heads given q) hosts)))
+      (each_append (IsOf n all given q) (map at_head (map (invented x.host) (heads_to (heads given q) x.host))) (map at_head (heads_in (heads given q) hosts))
+      (one (heads_to (heads given q) x.host) (λ r h. h)) (heads_are hosts up_to.1))
     where
-      one : (numbers : List ℕ) → ((r : ℕ) → Has numbers r → Has (heads_to (heads given q) p) r) → Each (IsOf n all given q) (map at_head (map (invented p) numbers))
+      one : (numbers : List ℕ) → ((r : ℕ) → Has numbers r → Has (heads_to (heads given q) x.host) r) → Each (IsOf n all given q) (map at_head (map (invented x.host) numbers))
       one [] sub = tt
-      one (r ∷ numbers) sub = (head p r low (omega (arith, whole)) (sub r (inl refl)) refl refl, one numbers (λ s h. sub s (inr h)))
+      one (r ∷ numbers) sub = (head x.host r up_to.0.0 up_to.0.1 (sub r (inl refl)) refl refl, one numbers (λ s h. sub s (inr h)))
 
   line_is : (x : LogLine) → Contains all x → Each (IsOf n all given q) (placed_by given q x)
   line_is x has = go (x.entry.host == q) refl
@@ -118,10 +120,10 @@ module _ (n : ℕ) (all : List LogLine) (given : List Begun) (q : ℕ) where
   lines_are [] sub = tt
   lines_are (x ∷ lines) sub = each_append (IsOf n all given q) (placed_by given q x) (flat_map (placed_by given q) lines) (line_is x sub.0) (lines_are lines sub.1)
 
-pub placed_are : (n : ℕ) (lines : List LogLine) (given : List Begun) (q i : ℕ) (w : Placed) → ith (placed n lines given q) i ≡ Some w → IsOf n lines given q w
-placed_are n lines given q i w is =
-    each_at (IsOf n lines given q) (placed n lines given q) i w
-    (each_append (IsOf n lines given q) (map at_head (heads_from (heads given q) 1 n)) (flat_map (placed_by given q) lines) (heads_are n lines given q 1 n (omega arith) (omega arith))
+pub placed_are : (n : ℕ) (hosts : List HostName) → AreUpTo n hosts → (lines : List LogLine) (given : List Begun) (q i : ℕ) (w : Placed) → ith (placed hosts lines given q) i ≡ Some w → IsOf n lines given q w
+placed_are n hosts up_to lines given q i w is =
+    each_at (IsOf n lines given q) (placed hosts lines given q) i w
+    (each_append (IsOf n lines given q) (map at_head (heads_in (heads given q) hosts)) (flat_map (placed_by given q) lines) (heads_are n lines given q hosts up_to)
     (lines_are n lines given q lines (recursion_from_All (Contains lines) lines (All-contains_itself lines)))) is
 
 -- where they stand doesn't fall along a line
@@ -172,9 +174,9 @@ module _ (given : List Begun) (q : ℕ) where
   lines_up (x ∷ lines) rises =
       pairs_append Up (placed_by given q x) (flat_map (placed_by given q) lines) (line_pairs x.number (items_by given q x)) (lines_up lines rises.1) (all_up x.number (items_by given q x) lines rises.0)
 
-pub placed_up : (n : ℕ) (lines : List LogLine) (given : List Begun) (q i j : ℕ) (w v : Placed) → Rises lines → ith (placed n lines given q) i ≡ Some w → ith (placed n lines given q) j ≡ Some v → i < j
+pub placed_up : (hosts : List HostName) (lines : List LogLine) (given : List Begun) (q i j : ℕ) (w v : Placed) → Rises lines → ith (placed hosts lines given q) i ≡ Some w → ith (placed hosts lines given q) j ≡ Some v → i < j
     → IsUp w.stands v.stands
-placed_up n lines given q i j w v rises w_is v_is less =
-    pairs_at Up (placed n lines given q) i j w v
-    (pairs_append Up (map at_head (heads_from (heads given q) 1 n)) (flat_map (placed_by given q) lines) (heads_up (heads_from (heads given q) 1 n)) (lines_up given q lines rises)
-    (from_head (heads_from (heads given q) 1 n) (flat_map (placed_by given q) lines))) w_is v_is less
+placed_up hosts lines given q i j w v rises w_is v_is less =
+    pairs_at Up (placed hosts lines given q) i j w v
+    (pairs_append Up (map at_head (heads_in (heads given q) hosts)) (flat_map (placed_by given q) lines) (heads_up (heads_in (heads given q) hosts)) (lines_up given q lines rises)
+    (from_head (heads_in (heads given q) hosts) (flat_map (placed_by given q) lines))) w_is v_is less

@@ -6,7 +6,7 @@ use Rattle.log_chart.specs.Matching.{matched}
 use Rattle.log_chart.specs.declared.entry.Entry.{Entry}
 use Rattle.log_chart.specs.Cycles.Freeing.{Settles}
 use Rattle.log_chart.specs.Charts.ChartLines.{chart_from, first_full}
-use Rattle.log_chart.specs.Charts.Listing.{freed_places, lost_of, overtakings_of, all_invented}
+use Rattle.log_chart.specs.Charts.Listing.{freed_places, is_one_ended, lost_of, overtakings_of, all_invented}
 use Rattle.log_chart.specs.declared.charts.drawing.DrawError.{DrawError}
 use Rattle.log_chart.specs.declared.charts.drawing.DrawError.TheVariants.{Memory, Instances, LineFull}
 use Rattle.log_chart.specs.declared.charts.drawing.LogChart.{LogChart}
@@ -18,6 +18,7 @@ pub record IsLogChart (hosts : ℕ) (log : List Entry) (d : LogChart) : Type 0 w
   pub overtaking : d.overtaking.items ≡ overtakings_of log (matched log) (fates (matched log))
   pub invented : d.invented.items ≡ all_invented 1 (host_lines hosts log)
   pub freed : d.freed.items ≡ freed_places log
+  pub one_ended : d.is_one_ended ≡ is_one_ended (matched log) log
 
 -- why there is no chart of a log whose receives are freed
 abbrev pub IsSettledRefusal : ℕ → List Entry → DrawError → Type 0

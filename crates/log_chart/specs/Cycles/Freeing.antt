@@ -1,6 +1,9 @@
 -- Logs whose lines come before themselves, as one that begins in the middle of a ping-pong: receives are freed, one after
 -- another, until none does (this project's profile).
-use Rattle.std.specs.Prelude.{◌≡◌, ℕ, zero, suc, ◌<◌, List, [], ◌∷◌, Some, Contains, All}
+use Rattle.std.specs.Prelude.{◌≡◌, ℕ, zero, suc, Bool, true, List, [], ◌∷◌, Some, Contains, All}
+use Rattle.std.specs.Cmp.Lexicographic.{slice_cmp}
+use Rattle.std.specs.Ordering.{nat_cmp, ordering_then, is_lt}
+use Rattle.std.specs.declared.cmp.Ordering.{Ordering}
 use Rattle.chart.specs.Histories.{AreTwo}
 use Rattle.log_chart.specs.HostLines.{kept}
 use Rattle.log_chart.specs.Laws.{AreOfLanes}
@@ -18,10 +21,19 @@ pub record IsOnCycle (lines : List LogLine) (k : ℕ) : Type 0 where
   pub takes : line.send ≡ Some send
   pub cycle : Comes lines k k
 
--- no such receive stands earlier in the files
+-- lines by the bytes of their hosts' names, and those of one name by their places in the log, where a host's lines stand
+-- in its own order
+abbrev pub by_host : LogLine → LogLine → Ordering
+by_host x y = ordering_then (slice_cmp nat_cmp x.entry.host_name y.entry.host_name) (nat_cmp x.number y.number)
+
+-- the line comes sooner
+abbrev pub is_sooner : LogLine → LogLine → Bool
+is_sooner x y = is_lt (by_host x y)
+
+-- no such receive is of a host with a lesser name, or of this host and earlier on its line
 pub record IsFirst (lines : List LogLine) (k : ℕ) : Type 0 where
   pub on : IsOnCycle lines k
-  pub first : (j : ℕ) → j < k → IsOnCycle lines j → ⊥
+  pub first : (j : ℕ) (other : IsOnCycle lines j) → is_sooner other.line on.line ≡ true → ⊥
 
 -- there is none
 abbrev pub HasNone : List LogLine → Type 0

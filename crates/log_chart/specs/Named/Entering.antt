@@ -50,6 +50,7 @@ stream_of names host peer s = record {
 abbrev pub entry_of : List Stream → Stream → ℕ → ℕ → HostEvent → Entry
 entry_of streams stream host peer s = record {
   host = host;
+  host_name = s.host;
   kind = kind_of s;
   peer = peer;
   name = s.name;

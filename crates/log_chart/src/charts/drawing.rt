@@ -10,7 +10,9 @@ ghost use Rattle.log_chart.specs.Charts.Drawing.{IsLogChart, IsSettledRefusal, I
 ghost use Rattle.log_chart.specs.declared.charts.drawing.DrawError.TheVariants.{Memory};
 
 use crate::charts::chart_lines::{first_full, lines_of};
-use crate::charts::listing::{Overtaking, freed_places, invented_sends, lost_places, overtakings};
+use crate::charts::listing::{
+    Overtaking, freed_places, invented_sends, is_one_ended, lost_places, overtakings,
+};
 use crate::cycles::settle;
 use crate::{Entry, HostLine, Place, host_lines};
 use chart::{Chart, EventNo, InstanceNo};
@@ -59,6 +61,8 @@ pub struct LogChart {
     pub invented: Vec<EventNo>,
     /// The lines of receives that are freed, in the order of the log.
     pub freed: Vec<Place>,
+    /// Whether the log has one end of each message: no receive takes a send of it, and none is freed.
+    pub is_one_ended: bool,
 }
 
 /// The chart of these lines, which are those of one. It fails only where there is no memory.
@@ -98,6 +102,7 @@ fn draw_settled(alloc: Global, hosts: usize, log: &[Entry]) -> Result<LogChart, 
         overtaking: overtakings(alloc, log, &built.matched, &built.fates)?,
         invented: invented_sends(alloc, lines)?,
         freed: freed_places(alloc, log)?,
+        is_one_ended: is_one_ended(&built.matched, log),
     })
 }
 

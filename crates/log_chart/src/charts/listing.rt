@@ -2,7 +2,7 @@
 ghost use Rattle.std.specs.Prelude.{◌≡◌, ◌++◌, ◌<◌, ◌≤◌, length, slice_index_or, is_none, All, IfOk, OnOk};
 ghost use Rattle.chart.specs.declared.instance.TheConstants.{MAX_INSTANCES};
 ghost use Rattle.chart.specs.declared.line.TheConstants.{MAX_EVENTS};
-ghost use Rattle.log_chart.specs.Charts.Listing.{is_freed, freed_places, is_lost, lost_of, place_at, overtaking_of, overtakings_of};
+ghost use Rattle.log_chart.specs.Charts.Listing.{is_freed, freed_places, has_taken, has_freed, is_one_ended, is_lost, lost_of, place_at, overtaking_of, overtakings_of};
 ghost use Rattle.log_chart.specs.Charts.Listing.{invented_from, all_invented};
 ghost use Rattle.log_chart.specs.declared.fate.Fate.{Fate};
 
@@ -36,6 +36,27 @@ pub(crate) fn freed_places(alloc: Global, log: &[Entry]) -> Result<Vec<Place>, A
         .filter(|entry| is_freed(entry.kind))
         .map(|entry| entry.place)
         .collect(alloc)
+}
+
+/// Whether one of these lines takes a send.
+fn has_taken(lines: &[LogLine]) -> bool
+    ensures { result ≡ has_taken lines.now }
+{
+    lines.iter().any(|line| line.send.is_some())
+}
+
+/// Whether a receive of the log is freed.
+fn has_freed(log: &[Entry]) -> bool
+    ensures { result ≡ has_freed log.now }
+{
+    log.iter().any(|entry| is_freed(entry.kind))
+}
+
+/// Whether of these lines of a log none takes a send, and none is a receive that is freed of one.
+pub(crate) fn is_one_ended(lines: &[LogLine], log: &[Entry]) -> bool
+    ensures { result ≡ is_one_ended lines.now log.now }
+{
+    !has_taken(lines) && !has_freed(log)
 }
 
 fn is_lost(fate: Fate) -> bool

@@ -1,8 +1,10 @@
 //! The first receive of a log that comes before itself.
-ghost use Rattle.std.specs.Prelude.{ℕ, ◌≡◌, ◌<◌, ◌≤◌, ◌⊎◌, ◌==◌, ◌&&◌, false, nat_lt, is_some, slice_index_or, IfOk, MatchOption};
+ghost use Rattle.std.specs.Prelude.{ℕ, ◌≡◌, ◌<◌, ◌≤◌, ◌==◌, ◌&&◌, [], length, true, false, is_some, slice_index_or, IfOk, MatchOption};
 ghost use Rattle.chart.specs.declared.instance.TheConstants.{MAX_INSTANCES};
-ghost use Rattle.log_chart.specs.Cycles.Freeing.{IsOnCycle, IsFirst, HasNone};
-ghost use Rattle.log_chart.specs.Cycles.Sources.{AreLines, HaveHosts, AreSources};
+ghost use Rattle.log_chart.specs.Cycles.Choosing.{is_ahead, IsFound, IsAheadToo, HasPassed};
+ghost use Rattle.log_chart.specs.Cycles.Freeing.{IsOnCycle, is_sooner, IsFirst, HasNone};
+ghost use Rattle.log_chart.specs.Cycles.Searching.{IsClosed, AreBefore};
+ghost use Rattle.log_chart.specs.Cycles.Sources.{AreLines, HaveHosts, IsDirect, AreSources};
 
 use crate::LogLine;
 use crate::cycles::past::Past;
@@ -10,11 +12,34 @@ use crate::cycles::sources::{Sources, sources_of};
 use chart::InstanceNo;
 use std::alloc::{AllocError, Global};
 
-/// Whether a line is the host's, and stands before the limit.
-fn is_own(line: &LogLine, host: InstanceNo, limit: usize) -> bool
-    ensures { result ≡ (line.now.entry.host == host && nat_lt line.now.number limit) }
+/// Whether a line comes sooner than another: the one of the lesser host by the bytes of its name, and of one host the
+/// one that stands first on its line.
+fn is_sooner(line: &LogLine, other: &LogLine) -> bool
+    ensures { result ≡ is_sooner line.now other.now }
 {
-    line.entry.host == host && line.number < limit
+    let names = line
+        .entry
+        .host_name
+        .as_bytes()
+        .cmp(other.entry.host_name.as_bytes());
+    names.then(line.number.cmp(&other.number)).is_lt()
+}
+
+/// Whether a line comes sooner than the one that was found, if one was.
+fn is_ahead(line: &LogLine, found: &Option<LogLine>) -> bool
+    ensures { result ≡ is_ahead line.now found.now }
+{
+    match found {
+        None => true,
+        Some(other) => is_sooner(line, other),
+    }
+}
+
+/// Whether a line is the host's, and comes sooner than the one that was found.
+fn is_own(line: &LogLine, host: InstanceNo, found: &Option<LogLine>) -> bool
+    ensures { result ≡ (line.now.entry.host == host && is_ahead line.now found.now) }
+{
+    line.entry.host == host && is_ahead(line, found)
 }
 
 /// Whether a line, whose past this is, takes a send and comes before itself.
@@ -24,36 +49,62 @@ fn is_on_cycle(line: &LogLine, past: &Past) -> bool
     line.send.is_some() && past.has(line.number)
 }
 
-/// Of a host's lines before a limit, of so many lines, the first that receives a message whose send is logged and comes
-/// before itself. Where there is none, the limit.
-fn first_of_host(
+/// The line that comes soonest, with one line more.
+fn soonest_with(
+    past: &mut Past,
+    sources: &Sources,
+    line: &LogLine,
+    host: InstanceNo,
+    soonest: Option<LogLine>,
+) -> Result<Option<LogLine>, AllocError>
+    requires within { (a b : ℕ) → IsDirect sources.now.above.items sources.now.sends.items a b
+        → a < length past.old.seen.items }
+    requires stack { past.old.stack.items ≡ [] }
+    requires closed { IsClosed sources.now.above.items sources.now.sends.items past.old.seen.items }
+    requires before { line.now.entry.host ≡ host
+        → AreBefore sources.now.above.items sources.now.sends.items past.old.seen.items line.now.number }
+    ensures { IfOk result (λ next. HasPassed sources.now.above.items sources.now.sends.items line.now host soonest
+        past.old.seen.items past.old.stack.items past.new.seen.items past.new.stack.items next) }
+{
+    if !is_own(line, host, &soonest) {
+        return Ok(soonest);
+    }
+    past.pass(sources, line.number)?;
+    if is_on_cycle(line, past) {
+        Ok(Some(*line))
+    } else {
+        Ok(soonest)
+    }
+}
+
+/// Of the line that was found so far and a host's lines, of so many lines, the one that comes soonest of those that
+/// receive a message whose send is logged and come before themselves.
+fn soonest_of_host(
     alloc: Global,
     count: usize,
     sources: &Sources,
     lines: &[LogLine],
     host: InstanceNo,
-    limit: usize,
-) -> Result<usize, AllocError>
+    found: Option<LogLine>,
+) -> Result<Option<LogLine>, AllocError>
     requires lines { AreLines count lines.now }
     requires sources { AreSources lines.now count sources.now.above.items sources.now.sends.items }
-    ensures within { IfOk result (λ k. k ≤ limit) }
-    ensures found { IfOk result (λ k. (k ≡ limit) ⊎ IsOnCycle lines.now k) }
-    ensures first { IfOk result (λ k. (j : ℕ) → j < k → (on : IsOnCycle lines.now j) → on.line.entry.host ≡ host → ⊥) }
+    requires found { IsFound lines.now found }
+    ensures found { IfOk result (IsFound lines.now) }
+    ensures ahead { IfOk result (λ soonest. IsAheadToo soonest found) }
+    ensures soonest { IfOk result (λ soonest. (j : ℕ) (on : IsOnCycle lines.now j) → on.line.entry.host ≡ host
+        → is_ahead on.line soonest ≡ true → ⊥) }
 {
     let mut past = Past::nothing(alloc, count)?;
+    let mut soonest = found;
     for line in lines {
-        if is_own(line, host, limit) {
-            past.pass(sources, line.number)?;
-            if is_on_cycle(line, &past) {
-                return Ok(line.number);
-            }
-        }
+        soonest = soonest_with(&mut past, sources, line, host, soonest)?;
     }
-    Ok(limit)
+    Ok(soonest)
 }
 
-/// The first of these lines, of so many by so many hosts, that receives a message whose send is logged and comes before
-/// itself.
+/// Of these lines, of so many by so many hosts, the one that is freed: of those that receive a message whose send is
+/// logged and come before themselves the one of the least host by its name, and of this host the first on its line.
 pub(crate) fn first_on_cycle(
     alloc: Global,
     count: usize,
@@ -66,14 +117,13 @@ pub(crate) fn first_on_cycle(
     ensures { IfOk result (λ found. MatchOption found (HasNone lines.now) (IsFirst lines.now)) }
 {
     let sources = sources_of(alloc, count, lines)?;
-    let mut limit = count;
+    let mut found = None;
     for place in 0..hosts {
         let host = InstanceNo::at_place(place);
-        limit = first_of_host(alloc, count, &sources, lines, host, limit)?;
+        found = soonest_of_host(alloc, count, &sources, lines, host, found)?;
     }
-    if limit < count {
-        Ok(Some(limit))
-    } else {
-        Ok(None)
+    match found {
+        None => Ok(None),
+        Some(line) => Ok(Some(line.number)),
     }
 }

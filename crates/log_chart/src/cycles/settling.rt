@@ -34,8 +34,9 @@ fn free(log: &mut [Entry], number: usize)
 
 /// Frees receives of a log, with so many hosts, until no line comes before itself.
 ///
-/// Of the receives that take a send of the log and come before themselves, the one that stands first in the files is
-/// freed: it takes no logged send, now or later. Then pairing begins anew.
+/// Of the receives that take a send of the log and come before themselves, the one of the least host by the bytes of
+/// its name, and of this host the first on its line, is freed: it takes no logged send, now or later. Then pairing
+/// begins anew.
 ///
 /// F6: it fails only where there is no memory. The log is then in between.
 pub fn settle(alloc: Global, hosts: usize, log: &mut [Entry]) -> Result<(), AllocError>

@@ -103,6 +103,7 @@ impl Reading {
         let stream = number_of(&mut self.streams, stream_between(host, peer, event, number))?;
         self.entries.push(Entry {
             host,
+            host_name: event.host,
             kind: kind_of(event),
             peer,
             name: event.name,

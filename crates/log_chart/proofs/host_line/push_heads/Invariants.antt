@@ -1,6 +1,6 @@
-use Rattle.std.proofs.Common.{◌≡◌, ◌++◌, ◌-◌, suc}
-use Rattle.log_chart.specs.Items.{heads_from}
+use Rattle.std.proofs.Common.{◌≡◌, ◌++◌, drop}
+use Rattle.log_chart.specs.Items.{heads_in}
 use Rattle.log_chart.proofs.host_line.push_heads.Given as goal
 
-abbrev pub invariant-loop-place : goal.invariant-loop-place
-invariant-loop-place l = l.items.items ++ heads_from l.heads (suc l.place) (l.count - l.place) ≡ l.fn.items.items ++ heads_from l.heads 1 l.count
+abbrev pub invariant-loop-receiver : goal.invariant-loop-receiver
+invariant-loop-receiver l = l.items.items ++ heads_in l.heads (drop l.receiver-index l.hosts) ≡ l.fn.items.items ++ heads_in l.heads l.hosts

@@ -3,7 +3,7 @@ use Rattle.std.specs.Prelude.{All}
 use Rattle.chart.specs.Charts.{chart_lines, IsChart, IsPossible}
 use Rattle.log_chart.specs.HostLines.{host_lines}
 use Rattle.log_chart.specs.Charts.ChartLines.{AreNamed, chart_from, first_full}
-use Rattle.log_chart.specs.Charts.Listing.{lost_of, overtakings_of, all_invented}
+use Rattle.log_chart.specs.Charts.Listing.{is_one_ended, lost_of, overtakings_of, all_invented}
 use Rattle.log_chart.proofs.ChartsLemmas.ChartLemmas.{is_chart, is_possible}
 use Rattle.log_chart.proofs.ChartsLemmas.ItemLemmas.{hosts_named, hosts_count}
 use Rattle.log_chart.proofs.ChartsLemmas.WalkLemmas.{short_all}
@@ -48,6 +48,7 @@ returns c =
         overtaking = c.in_ok-overtakings.ensures ∙ ap₂ (overtakings_of c.args.log.now) (c.deref-3.ensures.value ∙ c.in_ok-built.ensures.matched) (c.deref-4.ensures.value ∙ c.in_ok-built.ensures.fates);
         invented = c.in_ok-invented_sends.ensures ∙ ap (all_invented 1) lines;
         freed = c.in_ok-freed_places.ensures;
+        one_ended = c.is_one_ended.ensures ∙ ap (λ lines. is_one_ended lines c.args.log.now) (c.deref-5.ensures.value ∙ c.in_ok-built.ensures.matched);
       };
       possible =
           subst (λ l. IsPossible (length l) (chart_lines l)) (sym chart)
