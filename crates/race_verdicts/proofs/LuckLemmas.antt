@@ -1,13 +1,17 @@
 pub mod ArrivalLemmas
 pub mod BeginningLemmas
 pub mod BehindLemmas
+pub mod HostLemmas
 pub mod InventionLemmas
 pub mod ItemLemmas
 pub mod JudgeLemmas
 pub mod LaneLemmas
+pub mod LawLemmas
 pub mod LineLemmas
 pub mod LogLemmas
 pub mod MarkLemmas
+pub mod MomentLemmas
 pub mod OrderLemmas
+pub mod QueueLemmas
 pub mod TableLemmas
 pub mod TakingLemmas

@@ -4,9 +4,11 @@ pub mod Behind
 pub mod Invention
 pub mod Judging
 pub mod LaneTables
+pub mod Laws
 pub mod LineTables
 pub mod Marking
 pub mod Places
+pub mod QueueTables
 pub mod Recorded
 pub mod Tables
 pub mod Taking

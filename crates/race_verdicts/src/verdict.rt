@@ -3,11 +3,12 @@
 /// Whether a race was luck in a recording, and else the first reason why it wasn't.
 #[derive(Clone, Copy, Debug, PartialEq, Eq)]
 pub enum Verdict {
-    /// The receive would have taken the other message, had that come first.
+    /// As far as is known, the earlier receive would have taken the later message, had that come first.
     Luck,
     /// The earlier event is a send: the instance chose to make it.
     EarlierIsSend,
-    /// The message's send is invented, or comes behind one that is: what was before it isn't known.
+    /// The earlier event is invented, or the message's send is, or an invented send comes before the receive: it isn't
+    /// known whether this is a race.
     BegunInTheMiddle,
     /// A message that the chart leaves out puts the earlier event before the message's send.
     OrderedByLeftOut,

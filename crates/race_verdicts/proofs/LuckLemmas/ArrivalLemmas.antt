@@ -1,146 +1,217 @@
 -- Which message arrived when, arrival by arrival.
-use Rattle.std.proofs.Common.{◌≡◌, ◌≢◌, ℕ, ◌+◌, ◌<◌, ◌≤◌, ◌↔◌, min, inl, inr, Bool, true, false, List, Option, None, Some, length, get_or, refl, sym, ap, ◌∙◌, subst, arith}
-use Rattle.std.specs.Prelude.{slice_get, Contains, IsTrue, nat_lt, if◌then◌else◌, ◌⊎◌}
+use Rattle.std.proofs.Common.{◌≡◌, ◌≢◌, ℕ, ◌+◌, ◌<◌, ◌↔◌, ◌==◌, inl, inr, Bool, true, false, List, [], ◌∷◌, ◌++◌, Option, None, Some, length, get_or, replicate, drop, cond, refl, sym, ap, ap₂, ◌∙◌, subst, arith, eqb-true, eq-eqb, add-one}
+use Rattle.std.specs.Prelude.{slice_get, Contains, IsTrue, nat_lt, filter, if◌then◌else◌, ◌⊎◌}
 use Rattle.std.proofs.lemmas.Bool.{cases_eq, cases_lt, false≢true, ltb-true, lt-ltb}
-use Rattle.std.proofs.lemmas.List.{get_or_past}
-use Rattle.std.proofs.lemmas.List.Elements.{All-contains}
+use Rattle.std.proofs.lemmas.List.Elements.{filter-append}
 use Rattle.std.proofs.lemmas.Option.{slice_get_within}
 use Rattle.log_chart.specs.Entries.{is_send}
 use Rattle.log_chart.specs.Items.{message_of, received_message, naming_line}
 use Rattle.log_chart.specs.declared.item.MessageNo.{MessageNo}
 use Rattle.log_chart.specs.declared.item.MessageNo.TheVariants as messages
 use Rattle.log_chart.specs.declared.matching.LogLine.{LogLine}
-use Rattle.race_verdicts.specs.Luck.ArrivalTables.{arrival_in, IsArrivedAt, AreArrived, IsPut}
-use Rattle.race_verdicts.specs.Luck.Arrivals.{IsReceivedLater, IsReceivedNext, IsLeft, IsLeftFirst, IsArrivalOf, IsFirstArrival, CameFirst}
-use Rattle.race_verdicts.specs.Luck.Arrivals.IsArrivalOf.{received, unreceived}
-use Rattle.race_verdicts.specs.Luck.LineTables.{IsReceiveAt, AreNext, IsLeftAt, AreLeft}
+use Rattle.race_verdicts.specs.Luck.ArrivalTables.{arrival_in, AreArrived, IsPut}
+use Rattle.race_verdicts.specs.Luck.Arrivals.{IsArrivalOf, IsFirstArrival, CameFirst, waiting, behind, is_open, of_stream, receives, is_left}
+use Rattle.race_verdicts.specs.Luck.QueueTables.{IsSomeQueue, AreQueues, AreWaiting, with_list, first_number}
 use Rattle.race_verdicts.specs.Luck.Recorded.{IsLog}
-use Rattle.race_verdicts.specs.Luck.Tables.{IsFirst, IsNext}
-use Rattle.race_verdicts.proofs.LuckLemmas.LogLemmas.{get_contained, contained_get, line_at, number_within, one_line, taken_within}
-use Rattle.race_verdicts.proofs.LuckLemmas.TableLemmas.{some_same, next_pass, next_found, next_first}
+use Rattle.race_verdicts.specs.Luck.Tables.{IsFirst}
+use Rattle.race_verdicts.proofs.LuckLemmas.LogLemmas.{contained_get, number_within, taken_within}
+use Rattle.race_verdicts.proofs.LuckLemmas.QueueLemmas.{HasFirst, open_sends, queue_some, number_first}
+use Rattle.race_verdicts.proofs.LuckLemmas.TableLemmas.{some_same, first_pass, first_kept, first_found, none_at, none_whole}
 use Rattle.race_verdicts.specs.Recordings.{RecordingView}
 use Rattle.race_verdicts.specs.declared.recording.Arrival.{Arrival}
 
 -- the line of a message's number is one of the log
-module _ (lines : List LogLine) (log : IsLog lines) where
-  pub message_within : (x : LogLine) → Contains lines x → naming_line (message_of x) < length lines
-  message_within x has = go (is_send x.entry.kind)
-    where
-      taken : (t : Option ℕ) → x.send ≡ t → naming_line (received_message x.number t) < length lines
-      taken (Some s) e = taken_within lines log x s has e
-      taken None e = number_within lines log x has
+pub message_within : (lines : List LogLine) → IsLog lines → (x : LogLine) → Contains lines x → naming_line (message_of x) < length lines
+message_within lines log x has = go (is_send x.entry.kind)
+  where
+    taken : (t : Option ℕ) → x.send ≡ t → naming_line (received_message x.number t) < length lines
+    taken (Some s) e = taken_within lines log x s has e
+    taken None e = number_within lines log x has
 
-      go : (its : Bool) → naming_line (if its then messages.Sent x.number else received_message x.number x.send) < length lines
-      go true = number_within lines log x has
-      go false = taken x.send refl
+    go : (its : Bool) → naming_line (if its then messages.Sent x.number else received_message x.number x.send) < length lines
+    go true = number_within lines log x has
+    go false = taken x.send refl
 
-  next_number : (a : Arrival) (x y : LogLine) → IsReceivedNext lines a x → IsReceivedNext lines a y → x ≡ y
-  next_number a x y one two =
-      one_line lines log x y one.received.among two.received.among (let low = one.first y two.received in let high = two.first x one.received in omega arith)
+-- an arrival is of one message
+pub one_message : (lines : List LogLine) (arrivals : List Arrival) (i : ℕ) (m o : MessageNo) → IsArrivalOf lines arrivals m i → IsArrivalOf lines arrivals o i → m ≡ o
+one_message lines arrivals i m o one two =
+    let same : one.arrival ≡ two.arrival = some_same (sym one.is ∙ two.is) in
+    let line : one.line ≡ two.line = some_same (sym one.first ∙ ap (λ (a : Arrival). slice_get (filter (is_open a.«at») (waiting lines arrivals i a.stream)) 0) same ∙ two.first) in
+    one.message ∙ ap message_of line ∙ sym two.message
 
-  left_number : (c : ℕ) (x y : LogLine) → IsLeftFirst lines c x → IsLeftFirst lines c y → x.number ≡ y.number
-  left_number c x y one two = let low = one.first y two.left in let high = two.first x one.left in omega arith
+-- at the beginning all messages of a stream wait
+pub waiting_begins : (lines : List LogLine) (arrivals : List Arrival) (c : ℕ) → waiting lines arrivals 0 c ≡ of_stream receives lines c ++ of_stream (is_left lines) lines c
+unfolding waiting
+waiting_begins lines arrivals c = refl
 
-  -- an arrival is of one message
-  pub one_message : (a : Arrival) (m o : MessageNo) → IsArrivalOf lines a m → IsArrivalOf lines a o → m ≡ o
-  one_message a m o (received x one is) (received y two is_too) = is ∙ ap message_of (next_number a x y one two) ∙ sym is_too
-  one_message a m o (received x one is) (unreceived none y two is_too) = absurd (none x one.received)
-  one_message a m o (unreceived none x one is) (received y two is_too) = absurd (none y two.received)
-  one_message a m o (unreceived none x one is) (unreceived none_too y two is_too) = is ∙ ap (λ n. messages.Sent n) (left_number a.stream x y one two) ∙ sym is_too
+-- what waits behind an arrival
+module _ (lines : List LogLine) (arrivals : List Arrival) (i : ℕ) (a : Arrival) (here : slice_get arrivals i ≡ Some a) where
+  pub waiting_next : (c : ℕ) → waiting lines arrivals (i + 1) c ≡ behind c (waiting lines arrivals i c) (Some a)
+  unfolding waiting
+  waiting_next c = ap (λ n. waiting lines arrivals n c) (add-one i) ∙ ap (behind c (waiting lines arrivals i c)) here
 
-  module _ (a : Arrival) (from : ℕ) (next lefts : List (Option ℕ)) (are : AreNext lines from next) (left : AreLeft lines lefts) (is_from : from ≡ min a.«at» (length lines)) where
-    received_at : (y : LogLine) → IsReceivedLater lines a y → IsReceiveAt lines a.stream y.number
-    received_at y its = record { line = y; is = line_at lines log y its.among; receives = its.receives; its = its.stream }
+  module _ (received left : ℕ → List LogLine) (first next : List (Option ℕ)) (left_are : AreQueues lines true first next 0 left) (both : (c : ℕ) → waiting lines arrivals i c ≡ received c ++ left c) where
+    -- those that no line above receives
+    abbrev kept : List LogLine
+    kept = filter (is_open a.«at») (received a.stream)
 
-    later_at : (k : ℕ) → from ≤ k → (its : IsReceiveAt lines a.stream k) → IsReceivedLater lines a its.line
-    later_at k low its =
-        let number = log.numbered k its.line its.is in
-        let within = slice_get_within lines k its.line its.is in
-        record { among = contained_get lines k its.line its.is; receives = its.receives; stream = its.its; later = omega arith }
+    open_is : filter (is_open a.«at») (waiting lines arrivals i a.stream) ≡ kept ++ left a.stream
+    open_is =
+        ap (filter (is_open a.«at»)) (both a.stream) ∙ filter-append (is_open a.«at») (received a.stream) (left a.stream)
+        ∙ ap (λ l. kept ++ l) (open_sends lines next a.«at» 0 (get_or first a.stream None) (left a.stream) (left_are.each a.stream))
 
-    stream_within : (y : LogLine) → Contains lines y → y.entry.stream ≡ a.stream → a.stream < length lines
-    stream_within y has same = subst (λ c. c < length lines) same (All-contains (λ (x : LogLine). x.entry.stream < length lines) lines y log.streams has)
+    pub arrived_first : (x : LogLine) (xs : List LogLine) → kept ++ left a.stream ≡ x ∷ xs → IsArrivalOf lines arrivals (message_of x) i
+    arrived_first x xs is = record { arrival = a; is = here; line = x; first = ap (λ l. slice_get l 0) (open_is ∙ is); message = refl }
 
-    -- it is received
-    pub next_is : (n : ℕ) → get_or next a.stream None ≡ Some n → (a.stream < length lines) × IsNext (IsReceiveAt lines a.stream) from (length lines) (Some n)
-    next_is n is =
-        elim (cases_lt a.stream (length lines)) [
-          | inl less ↦ (less, subst (IsNext (IsReceiveAt lines a.stream) from (length lines)) is (are.each a.stream less))
-          | inr past ↦ absurd (let none : get_or next a.stream None ≡ None = get_or_past next a.stream None (omega (arith, are.whole)) in cc (none, is))
-        ]
+    pub arrived_never : kept ++ left a.stream ≡ [] → (m : MessageNo) → IsArrivalOf lines arrivals m i → ⊥
+    arrived_never none m its =
+        let same : its.arrival ≡ a = some_same (sym its.is ∙ here) in
+        let first : slice_get (filter (is_open a.«at») (waiting lines arrivals i a.stream)) 0 ≡ Some its.line =
+        subst (λ (b : Arrival). slice_get (filter (is_open b.«at») (waiting lines arrivals i b.stream)) 0 ≡ Some its.line) same its.first in
+        let gone : None ≡ Some its.line = sym (ap (λ l. slice_get l 0) (open_is ∙ none)) ∙ first in
+        absurd (cc gone)
 
-    pub arrived_received : (n : ℕ) (x : LogLine) → get_or next a.stream None ≡ Some n → slice_get lines n ≡ Some x → IsArrivalOf lines a (message_of x) × (naming_line (message_of x) < length lines)
-    arrived_received n x is x_is =
-        let its = (next_is n is).1 in
-        let same : its.2.line ≡ x = some_same (sym its.2.is ∙ x_is) in
-        let has = contained_get lines n x x_is in (
-          received x
-              (record {
-                received = subst (IsReceivedLater lines a) same (later_at n its.0 its.2);
-                first = λ y later.
-                    let number = log.numbered n x x_is in
-                    let low : from ≤ y.number = let l = later.later in omega arith in
-                    elim (cases_lt y.number n) [
-                      | inl less ↦ absurd (its.3 y.number low less (received_at y later))
-                      | inr past ↦ omega arith
-                    ];
-              })
-              refl,
-          message_within x has,
-        )
+    -- the lists of the streams, when the first of these was taken
+    module _ (others : ℕ → List LogLine) (others_left : ℕ → List LogLine) (taken : others a.stream ++ others_left a.stream ≡ drop 1 (kept ++ left a.stream))
+        (stays : (c : ℕ) → (a.stream == c) ≡ false → others c ++ others_left c ≡ received c ++ left c) where
+      pub both_next : (c : ℕ) → waiting lines arrivals (i + 1) c ≡ others c ++ others_left c
+      both_next c = waiting_next c ∙ go (a.stream == c) refl
+        where
+          go : (its : Bool) → (a.stream == c) ≡ its → cond its (drop 1 (filter (is_open a.«at») (waiting lines arrivals i c))) (waiting lines arrivals i c) ≡ others c ++ others_left c
+          go true same =
+              subst (λ k. drop 1 (filter (is_open a.«at») (waiting lines arrivals i k)) ≡ others k ++ others_left k) (eqb-true a.stream c same)
+              (ap (drop 1) open_is ∙ sym taken)
+          go false other = both c ∙ sym (stays c other)
 
-    -- it isn't
-    pub none_received : get_or next a.stream None ≡ None → (y : LogLine) → IsReceivedLater lines a y → ⊥
-    none_received is y its =
-        let within = stream_within y its.among its.stream in
-        let later = its.later in
-        let none : IsNext (IsReceiveAt lines a.stream) from (length lines) None = subst (IsNext (IsReceiveAt lines a.stream) from (length lines)) is (are.each a.stream within) in
-        none y.number (omega arith) (number_within lines log y its.among) (received_at y its)
+-- one list is changed
+pub with_same : (lists : ℕ → List LogLine) (c : ℕ) (list : List LogLine) → with_list lists c list c ≡ list
+with_same lists c list = ap (λ b. cond b list (lists c)) (eq-eqb c c refl)
 
-    left_at : (k : ℕ) → (its : IsLeftAt lines a.stream k) → IsLeft lines a.stream its.line
-    left_at k its = record {
-      among = contained_get lines k its.line its.is;
-      sends = its.sends;
-      stream_is = its.its;
-      untaken = λ y has takes. its.untaken has.0 (record { line = y; is = get_contained lines y has; send = takes ∙ ap (λ n. Some n) (log.numbered k its.line its.is) });
-    }
+pub with_other : (lists : ℕ → List LogLine) (c : ℕ) (list : List LogLine) (d : ℕ) → (c == d) ≡ false → with_list lists c list d ≡ lists d
+with_other lists c list d other = ap (λ b. cond b list (lists d)) other
 
-    is_left_at : (y : LogLine) → IsLeft lines a.stream y → IsLeftAt lines a.stream y.number
-    is_left_at y its = record {
-      line = y;
-      is = line_at lines log y its.among;
-      sends = its.sends;
-      its = its.stream_is;
-      untaken = λ t takes. its.untaken takes.line (contained_get lines t takes.line takes.is) takes.send;
-    }
+-- a line of a stream was taken: of those that lines receive, or of those that none does
+module _ (lines : List LogLine) (arrivals : List Arrival) (i : ℕ) (a : Arrival) (here : slice_get arrivals i ≡ Some a) (received left : ℕ → List LogLine) (first next : List (Option ℕ))
+    (left_are : AreQueues lines true first next 0 left) (both : (c : ℕ) → waiting lines arrivals i c ≡ received c ++ left c) where
+  abbrev opened : ℕ → List LogLine
+  opened = with_list received a.stream (filter (is_open a.«at») (received a.stream))
 
-    pub arrived_left : (n : ℕ) → get_or next a.stream None ≡ None → get_or lefts a.stream None ≡ Some n → IsArrivalOf lines a (messages.Sent n) × (n < length lines)
-    arrived_left n none is =
-        let its : IsFirst (IsLeftAt lines a.stream) (length lines) (Some n) =
-        elim (cases_lt a.stream (length lines)) [
-          | inl less ↦ subst (IsFirst (IsLeftAt lines a.stream) (length lines)) is (left.each a.stream less)
-          | inr past ↦ absurd (let past_it : get_or lefts a.stream None ≡ None = get_or_past lefts a.stream None (omega (arith, left.whole)) in cc (past_it, is))
-        ] in
-        let number = log.numbered n its.1.line its.1.is in (
-          unreceived (none_received none) its.1.line
-              (record {
-                left = left_at n its.1;
-                first = λ y left_too.
-                    elim (cases_lt y.number n) [
-                      | inl less ↦ absurd (its.2 y.number less (is_left_at y left_too))
-                      | inr past ↦ omega arith
-                    ];
-              })
-              (ap (λ k. messages.Sent k) (sym number)),
-          its.0,
-        )
+  abbrev pub others_received : ℕ → List LogLine
+  others_received = with_list opened a.stream (drop 1 (opened a.stream))
 
-    pub arrived_none : get_or next a.stream None ≡ None → get_or lefts a.stream None ≡ None → (m : MessageNo) → IsArrivalOf lines a m → ⊥
-    arrived_none none is m (received x its m_is) = none_received none x its.received
-    arrived_none none is m (unreceived none_too x its m_is) =
-        let within = stream_within x its.left.among its.left.stream_is in
-        let none_left : IsFirst (IsLeftAt lines a.stream) (length lines) None = subst (IsFirst (IsLeftAt lines a.stream) (length lines)) is (left.each a.stream within) in
-        none_left x.number (number_within lines log x its.left.among) (is_left_at x its.left)
+  opened_is : opened a.stream ≡ filter (is_open a.«at») (received a.stream)
+  opened_is = with_same received a.stream (filter (is_open a.«at») (received a.stream))
+
+  others_stay : (c : ℕ) → (a.stream == c) ≡ false → others_received c ≡ received c
+  others_stay c other = with_other opened a.stream (drop 1 (opened a.stream)) c other ∙ with_other received a.stream (filter (is_open a.«at») (received a.stream)) c other
+
+  pub next_received : (x : LogLine) (xs : List LogLine) → opened a.stream ≡ x ∷ xs → (c : ℕ) → waiting lines arrivals (i + 1) c ≡ others_received c ++ left c
+  next_received x xs is =
+      let kept_is = sym opened_is ∙ is in
+      both_next lines arrivals i a here received left first next left_are both others_received left
+      (ap (λ l. l ++ left a.stream) (with_same opened a.stream (drop 1 (opened a.stream)) ∙ ap (drop 1) is) ∙ sym (ap (λ l. drop 1 (l ++ left a.stream)) kept_is))
+      (λ c other. ap (λ l. l ++ left c) (others_stay c other))
+
+  pub received_arrived : (x : LogLine) (xs : List LogLine) → opened a.stream ≡ x ∷ xs → IsArrivalOf lines arrivals (message_of x) i
+  received_arrived x xs is = arrived_first lines arrivals i a here received left first next left_are both x (xs ++ left a.stream) (ap (λ l. l ++ left a.stream) (sym opened_is ∙ is))
+
+  none_kept : opened a.stream ≡ [] → filter (is_open a.«at») (received a.stream) ++ left a.stream ≡ left a.stream
+  none_kept none = ap (λ l. l ++ left a.stream) (sym opened_is ∙ none)
+
+  pub next_left : opened a.stream ≡ [] → (c : ℕ) → waiting lines arrivals (i + 1) c ≡ others_received c ++ with_list left a.stream (drop 1 (left a.stream)) c
+  next_left none =
+      both_next lines arrivals i a here received left first next left_are both others_received (with_list left a.stream (drop 1 (left a.stream)))
+      (ap₂ (λ l r. l ++ r) (with_same opened a.stream (drop 1 (opened a.stream)) ∙ ap (drop 1) none) (with_same left a.stream (drop 1 (left a.stream))) ∙ sym (ap (drop 1) (none_kept none)))
+      (λ c other. ap₂ (λ l r. l ++ r) (others_stay c other) (with_other left a.stream (drop 1 (left a.stream)) c other))
+
+  pub left_arrived : opened a.stream ≡ [] → (x : LogLine) (xs : List LogLine) → left a.stream ≡ x ∷ xs → IsArrivalOf lines arrivals (message_of x) i
+  left_arrived none x xs is = arrived_first lines arrivals i a here received left first next left_are both x xs (none_kept none ∙ is)
+
+  pub never_arrived : opened a.stream ≡ [] → left a.stream ≡ [] → (m : MessageNo) → IsArrivalOf lines arrivals m i → ⊥
+  never_arrived none none_left = arrived_never lines arrivals i a here received left first next left_are both (none_kept none ∙ none_left)
+
+-- the first of a list by its number
+no_first : (list : List LogLine) → None ≡ first_number list → list ≡ []
+no_first [] e = refl
+no_first (x ∷ xs) e = absurd (cc e)
+
+-- what waits where an arrival more stands above, and of which message the arrival is
+module _ (lines : List LogLine) (arrivals : List Arrival) (i : ℕ) (a : Arrival) (here : slice_get arrivals i ≡ Some a) (received received_next left left_next : List (Option ℕ))
+    (w : AreWaiting lines arrivals i received received_next left left_next) where
+  abbrev pub opened_lists : ℕ → List LogLine
+  opened_lists = with_list w.received_lists a.stream (filter (is_open a.«at») (w.received_lists a.stream))
+
+  abbrev pub then_lists : ℕ → List LogLine
+  then_lists = with_list opened_lists a.stream (drop 1 (opened_lists a.stream))
+
+  abbrev pub left_then : ℕ → List LogLine
+  left_then = with_list w.left_lists a.stream (drop 1 (w.left_lists a.stream))
+
+  pub some_queue : IsSomeQueue received_next (get_or received a.stream None)
+  some_queue = record { lines = lines; sends = false; list = w.received_lists a.stream; low = 0; is = let are = w.received_are in are.each a.stream }
+
+  -- the first line of a stream
+  first_at : (sends : Bool) (first next : List (Option ℕ)) (lists : ℕ → List LogLine) → AreQueues lines sends first next 0 lists → (n : ℕ) → Some n ≡ first_number (lists a.stream) → HasFirst lines sends next 0 n (lists a.stream)
+  first_at sends first next lists are n some =
+      let q = are.each a.stream in
+      queue_some lines sends next 0 n (get_or first a.stream None) (lists a.stream) q (number_first lines sends next 0 (get_or first a.stream None) (lists a.stream) q ∙ sym some)
+
+  pub number_in : (sends : Bool) (first next : List (Option ℕ)) (lists : ℕ → List LogLine) → AreQueues lines sends first next 0 lists → (n : ℕ) → Some n ≡ first_number (lists a.stream) → n < length lines
+  number_in sends first next lists are n some = let its = first_at sends first next lists are n some in slice_get_within lines n its.x its.here
+
+  -- it is of the message of the line with this number
+  pub record IsAtLine (n : ℕ) : Type 0 where
+    pub line : LogLine
+    pub stands : slice_get lines n ≡ Some line
+    pub its : IsArrivalOf lines arrivals (message_of line) i
+
+  pub arrived_received : (opened_first opened_next first next : List (Option ℕ)) → AreQueues lines false opened_first opened_next 0 opened_lists → AreQueues lines false first next 0 then_lists
+      → (n : ℕ) → Some n ≡ first_number (opened_lists a.stream) → AreWaiting lines arrivals (i + 1) first next left left_next × IsAtLine n
+  arrived_received opened_first opened_next first next opened are n some =
+      let its = first_at false opened_first opened_next opened_lists opened n some in (
+        record {
+          received_lists = then_lists;
+          left_lists = w.left_lists;
+          received_are = are;
+          left_are = w.left_are;
+          both = next_received lines arrivals i a here w.received_lists w.left_lists left left_next w.left_are w.both its.x its.xs its.is;
+        },
+        record { line = its.x; stands = its.here; its = received_arrived lines arrivals i a here w.received_lists w.left_lists left left_next w.left_are w.both its.x its.xs its.is },
+      )
+
+  pub arrived_left : (first next left_first left_behind : List (Option ℕ)) → AreQueues lines false first next 0 then_lists → AreQueues lines true left_first left_behind 0 left_then
+      → None ≡ first_number (opened_lists a.stream) → (n : ℕ) → Some n ≡ first_number (w.left_lists a.stream)
+      → AreWaiting lines arrivals (i + 1) first next left_first left_behind × IsAtLine n
+  arrived_left first next left_first left_behind are left_is none n some =
+      let its = first_at true left left_next w.left_lists w.left_are n some in (
+        record {
+          received_lists = then_lists;
+          left_lists = left_then;
+          received_are = are;
+          left_are = left_is;
+          both = next_left lines arrivals i a here w.received_lists w.left_lists left left_next w.left_are w.both (no_first (opened_lists a.stream) none);
+        },
+        record { line = its.x; stands = its.here; its = left_arrived lines arrivals i a here w.received_lists w.left_lists left left_next w.left_are w.both (no_first (opened_lists a.stream) none) its.x its.xs its.is },
+      )
+
+  pub message_told : IsLog lines → (n : ℕ) → IsAtLine n → (m : MessageNo) → ((x : LogLine) → slice_get lines n ≡ Some x → m ≡ message_of x)
+      → IsArrivalOf lines arrivals m i × (naming_line m < length lines)
+  message_told log n told m is =
+      subst (λ k. IsArrivalOf lines arrivals k i × (naming_line k < length lines)) (sym (is told.line told.stands)) (told.its, message_within lines log told.line (contained_get lines n told.line told.stands))
+
+  pub arrived_nothing : (first next left_first left_behind : List (Option ℕ)) → AreQueues lines false first next 0 then_lists → AreQueues lines true left_first left_behind 0 left_then
+      → None ≡ first_number (opened_lists a.stream) → None ≡ first_number (w.left_lists a.stream)
+      → AreWaiting lines arrivals (i + 1) first next left_first left_behind × ((m : MessageNo) → IsArrivalOf lines arrivals m i → ⊥)
+  arrived_nothing first next left_first left_behind are left_is none none_left = (
+    record {
+      received_lists = then_lists;
+      left_lists = left_then;
+      received_are = are;
+      left_are = left_is;
+      both = next_left lines arrivals i a here w.received_lists w.left_lists left left_next w.left_are w.both (no_first (opened_lists a.stream) none);
+    },
+    never_arrived lines arrivals i a here w.received_lists w.left_lists left left_next w.left_are w.both (no_first (opened_lists a.stream) none) (no_first (w.left_lists a.stream) none_left),
+  )
 
 same_message : (a b : MessageNo) → (a ≡ b) ⊎ (a ≢ b)
 same_message (messages.Sent n) (messages.Sent k) =
@@ -157,69 +228,80 @@ same_message (messages.Begun n) (messages.Begun k) =
     ]
 
 -- an arrival more
-module _ (lines : List LogLine) (log : IsLog lines) (arrivals : List Arrival) (n : ℕ) (a : Arrival) (here : slice_get arrivals n ≡ Some a) (sent begun : List (Option ℕ))
-    (are : AreArrived lines arrivals (n + 1) sent begun) where
-  arrival_at : (m : MessageNo) → (its : IsArrivedAt lines arrivals m n) → IsArrivalOf lines a m
-  arrival_at m its = subst (λ (b : Arrival). IsArrivalOf lines b m) (some_same (sym its.is ∙ here)) its.its
-
-  pub arrived_pass : ((m : MessageNo) → IsArrivalOf lines a m → ⊥) → AreArrived lines arrivals n sent begun
+module _ (lines : List LogLine) (arrivals : List Arrival) (n : ℕ) (sent begun : List (Option ℕ)) (are : AreArrived lines arrivals n sent begun) where
+  pub arrived_pass : ((m : MessageNo) → IsArrivalOf lines arrivals m n → ⊥) → AreArrived lines arrivals (n + 1) sent begun
   arrived_pass none = record {
     sent_whole = are.sent_whole;
     begun_whole = are.begun_whole;
-    each = λ m within. next_pass (IsArrivedAt lines arrivals m) n (length arrivals) (arrival_in sent begun m) (λ its. none m (arrival_at m its)) (are.each m within);
+    each = λ m within. first_pass (IsArrivalOf lines arrivals m) n (arrival_in sent begun m) (none m) (are.each m within);
   }
 
-  pub arrived_put : (m : MessageNo) (sent' begun' : List (Option ℕ)) → IsArrivalOf lines a m → IsPut sent begun sent' begun' m n → AreArrived lines arrivals n sent' begun'
+  pub arrived_put : (m : MessageNo) (sent' begun' : List (Option ℕ)) → IsArrivalOf lines arrivals m n → IsPut sent begun sent' begun' m n → AreArrived lines arrivals (n + 1) sent' begun'
   arrived_put m sent' begun' its put = record {
     sent_whole = put.sent_whole ∙ are.sent_whole;
     begun_whole = put.begun_whole ∙ are.begun_whole;
     each = λ o within.
         elim (same_message o m) [
           | inl same ↦
-              subst (IsNext (IsArrivedAt lines arrivals o) n (length arrivals)) (sym (ap (arrival_in sent' begun') same ∙ put.here))
-              (next_found (IsArrivedAt lines arrivals o) n (length arrivals) (slice_get_within arrivals n a here) (record { arrival = a; is = here; its = subst (IsArrivalOf lines a) (sym same) its }))
+              subst (λ k. IsFirst (IsArrivalOf lines arrivals k) (n + 1) (arrival_in sent' begun' k)) (sym same)
+              (go (arrival_in sent begun m) refl (subst (λ k. IsFirst (IsArrivalOf lines arrivals k) n (arrival_in sent begun k)) same (are.each o within)))
           | inr other ↦
-              subst (IsNext (IsArrivedAt lines arrivals o) n (length arrivals)) (sym (put.others o other))
-              (next_pass (IsArrivedAt lines arrivals o) n (length arrivals) (arrival_in sent begun o) (λ its_too. other (one_message lines log a o m (arrival_at o its_too) its)) (are.each o within))
+              subst (IsFirst (IsArrivalOf lines arrivals o) (n + 1)) (sym (put.others o other))
+              (first_pass (IsArrivalOf lines arrivals o) n (arrival_in sent begun o) (λ its_too. other (one_message lines arrivals n o m its_too its)) (are.each o within))
         ];
   }
+    where
+      go : (entry : Option ℕ) → arrival_in sent begun m ≡ entry → IsFirst (IsArrivalOf lines arrivals m) n (arrival_in sent begun m)
+          → IsFirst (IsArrivalOf lines arrivals m) (n + 1) (arrival_in sent' begun' m)
+      go None e first =
+          subst (IsFirst (IsArrivalOf lines arrivals m) (n + 1)) (sym (put.noted e)) (first_found (IsArrivalOf lines arrivals m) n its (subst (IsFirst (IsArrivalOf lines arrivals m) n) e first))
+      go (Some k) e first =
+          subst (IsFirst (IsArrivalOf lines arrivals m) (n + 1)) (sym (put.kept k e)) (first_kept (IsArrivalOf lines arrivals m) n k (subst (IsFirst (IsArrivalOf lines arrivals m) n) e first))
+
+-- none was gone over
+pub arrived_none : (lines : List LogLine) (arrivals : List Arrival) (sent begun : List (Option ℕ)) → sent ≡ replicate (length lines) None → begun ≡ replicate (length lines) None → AreArrived lines arrivals 0 sent begun
+arrived_none lines arrivals sent begun sent_is begun_is = record {
+  sent_whole = none_whole (length lines) sent sent_is;
+  begun_whole = none_whole (length lines) begun begun_is;
+  each = λ m within. subst (IsFirst (IsArrivalOf lines arrivals m) 0) (sym (go m)) (λ k less its. absurd (omega arith));
+}
+  where
+    go : (m : MessageNo) → arrival_in sent begun m ≡ None
+    go (messages.Sent n) = ap (λ t. get_or t n None) sent_is ∙ none_at (length lines) n
+    go (messages.Begun n) = ap (λ t. get_or t n None) begun_is ∙ none_at (length lines) n
+
+-- all were
+pub arrived_all : (lines : List LogLine) (arrivals : List Arrival) (n : ℕ) (sent begun : List (Option ℕ)) → n ≡ length arrivals → AreArrived lines arrivals n sent begun
+    → AreArrived lines arrivals (length arrivals) sent begun
+arrived_all lines arrivals n sent begun all are = subst (λ k. AreArrived lines arrivals k sent begun) all are
 
 -- which came first
 module _ (rec : RecordingView) where
-  first_is : (m : MessageNo) (k : ℕ) (entry : Option ℕ) → IsFirst (IsArrivedAt rec.lines rec.arrivals m) (length rec.arrivals) entry → IsFirstArrival rec m k → entry ≡ Some k
-  first_is m k None none its = absurd (none k (slice_get_within rec.arrivals k its.arrival its.is) (record { arrival = its.arrival; is = its.is; its = its.its }))
-  first_is m k (Some i) are its =
+  first_is : (m : MessageNo) (k : ℕ) (entry : Option ℕ) → IsFirst (IsArrivalOf rec.lines rec.arrivals m) (length rec.arrivals) entry → IsFirstArrival rec m k → entry ≡ Some k
+  first_is m k None none first = absurd (let its = first.its in none k (slice_get_within rec.arrivals k its.arrival its.is) its)
+  first_is m k (Some i) are first =
       ap (λ n. Some n)
       (elim (cases_lt i k) [
-        | inl less ↦ let at_i = are.1 in absurd (its.first i at_i.arrival less at_i.is at_i.its)
+        | inl less ↦ absurd (first.first i less are.1)
         | inr past ↦
             elim (cases_lt k i) [
-              | inl less ↦ absurd (are.2 k less (record { arrival = its.arrival; is = its.is; its = its.its }))
+              | inl less ↦ absurd (are.2 k less first.its)
               | inr past_too ↦ omega arith
             ]
       ])
 
-  is_first : (m : MessageNo) (i : ℕ) → IsFirst (IsArrivedAt rec.lines rec.arrivals m) (length rec.arrivals) (Some i) → IsFirstArrival rec m i
-  is_first m i are = record {
-    arrival = are.1.arrival;
-    is = are.1.is;
-    its = are.1.its;
-    first = λ j b less is its. are.2 j less (record { arrival = b; is = is; its = its });
-  }
+  is_first : (m : MessageNo) (i : ℕ) → IsFirst (IsArrivalOf rec.lines rec.arrivals m) (length rec.arrivals) (Some i) → IsFirstArrival rec m i
+  is_first m i are = record { its = are.1; first = λ j less its. are.2 j less its }
 
-  pub entry_first : (sent begun : List (Option ℕ)) → AreArrived rec.lines rec.arrivals 0 sent begun → (m : MessageNo) → naming_line m < length rec.lines
-      → IsFirst (IsArrivedAt rec.lines rec.arrivals m) (length rec.arrivals) (arrival_in sent begun m)
-  entry_first sent begun are m within = next_first (IsArrivedAt rec.lines rec.arrivals m) (length rec.arrivals) (arrival_in sent begun m) (are.each m within)
-
-  module _ (m o : MessageNo) (entry other : Option ℕ) (are : IsFirst (IsArrivedAt rec.lines rec.arrivals m) (length rec.arrivals) entry)
-      (others : IsFirst (IsArrivedAt rec.lines rec.arrivals o) (length rec.arrivals) other) where
+  module _ (m o : MessageNo) (entry other : Option ℕ) (are : IsFirst (IsArrivalOf rec.lines rec.arrivals m) (length rec.arrivals) entry)
+      (others : IsFirst (IsArrivalOf rec.lines rec.arrivals o) (length rec.arrivals) other) where
     pub came_both : (i j : ℕ) → entry ≡ Some i → other ≡ Some j → IsTrue (nat_lt i j) ↔ CameFirst rec m o
     came_both i j is is_too = (
       λ less. record {
         place = i;
         other_place = j;
-        arrived = is_first m i (subst (IsFirst (IsArrivedAt rec.lines rec.arrivals m) (length rec.arrivals)) is are);
-        other_arrived = is_first o j (subst (IsFirst (IsArrivedAt rec.lines rec.arrivals o) (length rec.arrivals)) is_too others);
+        arrived = is_first m i (subst (IsFirst (IsArrivalOf rec.lines rec.arrivals m) (length rec.arrivals)) is are);
+        other_arrived = is_first o j (subst (IsFirst (IsArrivalOf rec.lines rec.arrivals o) (length rec.arrivals)) is_too others);
         sooner = ltb-true i j less;
       },
       λ came.

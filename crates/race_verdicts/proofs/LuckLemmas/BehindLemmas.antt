@@ -10,7 +10,7 @@ use Rattle.log_chart.specs.declared.matching.LogLine.{LogLine}
 use Rattle.race_verdicts.specs.Luck.Arrivals.{CameFirst}
 use Rattle.race_verdicts.specs.Luck.Taking.{WouldTake}
 use Rattle.race_verdicts.specs.Luck.Behind.{IsThere, WouldHaveTaken, IsBehind}
-use Rattle.race_verdicts.specs.Luck.LaneTables.{IsOnLane, AreAbove, AreLaneTables}
+use Rattle.race_verdicts.specs.Luck.LaneTables.{IsOnLane, IsTakenOnLane, AreAbove, AreLaneTables}
 use Rattle.race_verdicts.specs.Luck.LineTables.{Takes}
 use Rattle.race_verdicts.specs.Luck.Recorded.{IsSendLine}
 use Rattle.race_verdicts.specs.Luck.Tables.{IsFirst, IsLast}
@@ -26,35 +26,41 @@ module _ (rec : RecordingView) (takers above over : List (Option ℕ)) (are : Ar
   pub there_some : (t : ℕ) → get_or takers s None ≡ Some t → IsTrue (leb k t) ↔ IsThere rec k s
   there_some t found =
       let first : IsFirst (Takes rec.lines s) (length rec.lines) (Some t) = subst (IsFirst (Takes rec.lines s) (length rec.lines)) found (are.taken.each s within) in (
-        λ low x has is.
-            let early = leb-true k t low in
-            elim (cases_lt x.number t) [
-              | inl less ↦ absurd (first.2 x.number less (takes_at x has is))
-              | inr past ↦ omega arith
-            ],
+        λ low. record {
+          taker = first.1.line;
+          among = contained_get rec.lines t first.1.line first.1.is;
+          takes = first.1.send;
+          late = λ x has is.
+              let early = leb-true k t low in
+              elim (cases_lt x.number t) [
+                | inl less ↦ absurd (first.2 x.number less (takes_at x has is))
+                | inr past ↦ omega arith
+              ];
+        },
         λ there.
-            let its = there first.1.line (contained_get rec.lines t first.1.line first.1.is) first.1.send in
+            let its = there.late first.1.line (contained_get rec.lines t first.1.line first.1.is) first.1.send in
             le-leb k t (let number = are.log.numbered t first.1.line first.1.is in omega arith),
       )
 
-  pub there_none : get_or takers s None ≡ None → IsTrue true ↔ IsThere rec k s
+  pub there_none : get_or takers s None ≡ None → IsTrue false ↔ IsThere rec k s
   there_none none =
       let first : IsFirst (Takes rec.lines s) (length rec.lines) None = subst (IsFirst (Takes rec.lines s) (length rec.lines)) none (are.taken.each s within) in
-      (λ yes x has is. absurd (first x.number (number_within rec.lines are.log x has) (takes_at x has is)), λ there. refl)
+      (λ yes. absurd (false≢true yes), λ there. absurd (first there.taker.number (number_within rec.lines are.log there.taker there.among) (takes_at there.taker there.among there.takes)))
 
   pub is_over : (t : ℕ) → get_or over s None ≡ Some t → t < k → (q p o : ℕ) → IsOnLane rec.lines q p s → o ≤ s → IsOnLane rec.lines q p o → IsThere rec k o → ⊥
   is_over t found less q p o its low other there =
-      let taken = are.past.each s within t q p found its o low other in
-      let late = there taken.takes.line (contained_get rec.lines taken.taker taken.takes.line taken.takes.is) taken.takes.send in
+      let of_taker : Takes rec.lines o there.taker.number = record { line = there.taker; is = line_at rec.lines are.log there.taker there.among; send = there.takes } in
+      let taken = are.past.each s within t q p found its o low (record { on = other; taker = there.taker.number; takes = of_taker }) in
+      let late = there.late taken.takes.line (contained_get rec.lines taken.taker taken.takes.line taken.takes.is) taken.takes.send in
       let number = are.log.numbered taken.taker taken.takes.line taken.takes.is in
       let early = taken.early in
       absurd (omega arith)
 
--- the sends of the lane from a bound on were gone over, and the next is the last before it
+-- the sends of the lane from a bound on were gone over, and the next is the last before it that a line takes
 pub record IsWalking (rec : RecordingView) (k : ℕ) (own : MessageNo) (s q p : ℕ) (next : Option ℕ) : Type 0 where
   pub bound : ℕ
   pub low : bound ≤ s
-  pub last : IsLast (IsOnLane rec.lines q p) bound next
+  pub last : IsLast (IsTakenOnLane rec.lines q p) bound next
   pub none : (o : ℕ) → bound ≤ o → o < s → IsOnLane rec.lines q p o → WouldHaveTaken rec k own o → ⊥
 
 -- how far the walk may still go
@@ -71,22 +77,28 @@ module _ (rec : RecordingView) (takers above over : List (Option ℕ)) (are : Ar
     none = λ o low less. absurd (omega arith);
   }
 
+  -- what would have been taken is taken
+  taken_there : (q p o : ℕ) → IsOnLane rec.lines q p o → WouldHaveTaken rec k own o → IsTakenOnLane rec.lines q p o
+  taken_there q p o on would =
+      let there = would.there in
+      record { on = on; taker = there.taker.number; takes = record { line = there.taker; is = line_at rec.lines are.log there.taker there.among; send = there.takes } }
+
   -- the next is another on the lane
   pub walk_within : (q p o : ℕ) → IsWalking rec k own s q p (Some o) → o < length rec.lines
-  walk_within q p o walking = let its = walking.last.1 in slice_get_within rec.lines o its.line its.is
+  walk_within q p o walking = let its = walking.last.1.on in slice_get_within rec.lines o its.line its.is
 
   pub walk_goes : (q p o : ℕ) → IsWalking rec k own s q p (Some o) → (WouldHaveTaken rec k own o → ⊥) → IsWalking rec k own s q p (get_or above o None)
   walk_goes q p o walking not = record {
     bound = o;
     low = let below = walking.last.0 in let low = walking.low in omega arith;
-    last = are.sends.each o q p walking.last.1;
+    last = let its = walking.last.1 in are.sends.each o q p its.on;
     none = λ other low less its would.
         elim (cases_lt other walking.bound) [
           | inr past ↦ walking.none other past less its would
           | inl below ↦
               elim (cases_eq other o) [
                 | inl same ↦ not (subst (WouldHaveTaken rec k own) same would)
-                | inr differs ↦ walking.last.2 other (omega (arith, low, differs)) below its
+                | inr differs ↦ walking.last.2 other (omega (arith, low, differs)) below (taken_there q p other its would)
               ]
         ];
   }
@@ -113,7 +125,7 @@ module _ (rec : RecordingView) (takers above over : List (Option ℕ)) (are : Ar
       λ yes. record {
         other = o;
         sent =
-            let its = walking.last.1 in
+            let its = walking.last.1.on in
             record {
               line = its.line;
               is = its.is;
@@ -139,8 +151,8 @@ module _ (rec : RecordingView) (takers above over : List (Option ℕ)) (are : Ar
             | inr past ↦ let sent = behind.sent in walking.none behind.other past sent.before (on_lane behind) behind.would
             | inl below ↦
                 elim (cases_lt o behind.other) [
-                  | inl later ↦ walking.last.2 behind.other later below (on_lane behind)
-                  | inr low ↦ let would = behind.would in over_it send.line.entry.host send.line.entry.peer behind.other walking.last.1 low (on_lane behind) would.there
+                  | inl later ↦ walking.last.2 behind.other later below (taken_there send.line.entry.host send.line.entry.peer behind.other (on_lane behind) behind.would)
+                  | inr low ↦ let would = behind.would in let at_o = walking.last.1 in over_it send.line.entry.host send.line.entry.peer behind.other at_o.on low (on_lane behind) would.there
                 ]
           ]),
     )
@@ -152,7 +164,7 @@ module _ (rec : RecordingView) (takers above over : List (Option ℕ)) (are : Ar
           absurd
           (elim (cases_lt behind.other walking.bound) [
             | inr past ↦ let sent = behind.sent in walking.none behind.other past sent.before (on_lane behind) behind.would
-            | inl below ↦ walking.last behind.other below (on_lane behind)
+            | inl below ↦ walking.last behind.other below (taken_there send.line.entry.host send.line.entry.peer behind.other (on_lane behind) behind.would)
           ]),
     )
 
@@ -160,7 +172,7 @@ module _ (rec : RecordingView) (takers above over : List (Option ℕ)) (are : Ar
 pub above_less : (lines : List LogLine) (above : List (Option ℕ)) → AreAbove lines above → (q p o : ℕ) → IsOnLane lines q p o → left_before (get_or above o None) < o + 1
 above_less lines above are q p o its = go (get_or above o None) (are.each o q p its)
   where
-    go : (entry : Option ℕ) → IsLast (IsOnLane lines q p) o entry → left_before entry < o + 1
+    go : (entry : Option ℕ) → IsLast (IsTakenOnLane lines q p) o entry → left_before entry < o + 1
     go None last = omega arith
     go (Some m) last = omega (arith, last.0)
 

@@ -2,7 +2,7 @@
 use Rattle.std.proofs.Common.{◌≡◌, ℕ, ◌+◌, ◌<◌, ◌≤◌, inl, inr, List, Option, None, Some, length, get_or, replicate, refl, sym, ap, ◌∙◌, subst, arith}
 use Rattle.std.proofs.lemmas.Bool.{cases_eq, cases_lt}
 use Rattle.std.proofs.lemmas.List.{get_or-replicate, get_or_past, length-replicate}
-use Rattle.race_verdicts.specs.Luck.Tables.{IsFirst, IsNext, IsLast, IsNoted}
+use Rattle.race_verdicts.specs.Luck.Tables.{IsFirst, IsLast, IsNoted}
 
 pub some_same : {A : Type 0} {a b : A} → Some a ≡ Some b → a ≡ b
 some_same e = cc e
@@ -61,35 +61,6 @@ none_whole count table is = ap length is ∙ length-replicate {A = Option ℕ} c
 pub first_all : (P : ℕ → Type 0) (n i : ℕ) → n ≤ i → ((j : ℕ) → P j → j < n) → (entry : Option ℕ) → IsFirst P i entry → IsFirst P n entry
 first_all P n i low all None are = λ j less p. are j (omega arith) p
 first_all P n i low all (Some m) are = (all m are.1, are.1, are.2)
-
--- the next one, with one number less
-module _ (P : ℕ → Type 0) (n limit : ℕ) where
-  pub next_pass : (entry : Option ℕ) → (P n → ⊥) → IsNext P (n + 1) limit entry → IsNext P n limit entry
-  next_pass None none are =
-      λ k low less p. elim (cases_eq k n) [
-        | inl same ↦ none (subst P same p)
-        | inr other ↦ are k (omega arith) less p
-      ]
-  next_pass (Some m) none are = (
-    omega (arith, are.0),
-    are.1,
-    are.2,
-    λ k low less p. elim (cases_eq k n) [
-      | inl same ↦ none (subst P same p)
-      | inr other ↦ are.3 k (omega arith) less p
-    ],
-  )
-
-  pub next_found : n < limit → P n → IsNext P n limit (Some n)
-  next_found within p = (omega arith, within, p, λ k low less other. absurd (omega arith))
-
--- where none is left, and from the first number on
-pub next_none : (P : ℕ → Type 0) (limit : ℕ) (entry : Option ℕ) → entry ≡ None → IsNext P limit limit entry
-next_none P limit entry is = subst (IsNext P limit limit) (sym is) (λ k low less p. absurd (omega arith))
-
-pub next_first : (P : ℕ → Type 0) (limit : ℕ) (entry : Option ℕ) → IsNext P 0 limit entry → IsFirst P limit entry
-next_first P limit None are = λ k less p. are k (omega arith) less p
-next_first P limit (Some m) are = (are.1, are.2, λ k less p. are.3 k (omega arith) less p)
 
 -- the last one, with one number more
 pub last_pass : (P : ℕ → Type 0) (n : ℕ) (entry : Option ℕ) → (P n → ⊥) → IsLast P n entry → IsLast P (n + 1) entry

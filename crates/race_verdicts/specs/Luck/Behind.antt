@@ -20,9 +20,13 @@ pub record IsSentBefore (rec : RecordingView) (o s : ℕ) : Type 0 where
   pub receiver : line.entry.peer ≡ later.entry.peer
   pub before : o < s
 
--- no line before line k takes what line o sends
-abbrev pub IsThere : RecordingView → ℕ → ℕ → Type 0
-IsThere rec k o = (x : LogLine) → Contains rec.lines x → x.send ≡ Some o → k ≤ x.number
+-- what line o sends waits where line k stands: some line takes it, and none before line k does. What no line takes waits
+-- nowhere: where a later one of its lane is taken, it is lost
+pub record IsThere (rec : RecordingView) (k o : ℕ) : Type 0 where
+  pub taker : LogLine
+  pub among : Contains rec.lines taker
+  pub takes : taker.send ≡ Some o
+  pub late : (x : LogLine) → Contains rec.lines x → x.send ≡ Some o → k ≤ x.number
 
 -- the receive of line k, whose message is `own`, would have taken the message of line o, and didn't pass it over
 pub record WouldHaveTaken (rec : RecordingView) (k : ℕ) (own : MessageNo) (o : ℕ) : Type 0 where

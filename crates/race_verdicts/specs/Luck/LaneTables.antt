@@ -1,4 +1,4 @@
--- The sends of each lane, one before the other, and until when they were all taken: for the crate's own functions.
+-- The sends of each lane that lines take, one before the other, and until when they were all taken: for the crate's own functions.
 use Rattle.std.specs.Prelude.{◌≡◌, ℕ, ◌<◌, ◌≤◌, max, true, List, length, Option, None, Some, slice_get, slice_index_or}
 use Rattle.log_chart.specs.Entries.{is_send}
 use Rattle.log_chart.specs.LaneTables.{LaneSends, AreLanes}
@@ -15,21 +15,27 @@ pub record IsOnLane (lines : List LogLine) (q p o : ℕ) : Type 0 where
   pub sender : line.entry.host ≡ q
   pub receiver : line.entry.peer ≡ p
 
--- the table has for each send the one before it on its lane
+-- and a line takes its message
+pub record IsTakenOnLane (lines : List LogLine) (q p o : ℕ) : Type 0 where
+  pub on : IsOnLane lines q p o
+  pub taker : ℕ
+  pub takes : Takes lines o taker
+
+-- the table has for each send the last one before it on its lane that a line takes
 pub record AreAbove (lines : List LogLine) (above : List (Option ℕ)) : Type 0 where
   pub whole : length above ≡ length lines
-  pub each : (n q p : ℕ) → IsOnLane lines q p n → IsLast (IsOnLane lines q p) n (slice_index_or above n None)
+  pub each : (n q p : ℕ) → IsOnLane lines q p n → IsLast (IsTakenOnLane lines q p) n (slice_index_or above n None)
 
--- the last send of each lane among the first i lines
+-- the last such send of each lane among the first i lines
 pub record AreLastSends (lines : List LogLine) (i : ℕ) (table : List (Option ℕ)) : Type 0 where
   pub sends : LaneSends
   pub are : AreLanes table sends
-  pub each : (q p : ℕ) → IsLast (IsOnLane lines q p) i (sends q p)
+  pub each : (q p : ℕ) → IsLast (IsTakenOnLane lines q p) i (sends q p)
 
 -- so far
 pub record AreAboveSoFar (lines : List LogLine) (i : ℕ) (above last : List (Option ℕ)) : Type 0 where
   pub whole : length above ≡ length lines
-  pub each : (n q p : ℕ) → n < i → IsOnLane lines q p n → IsLast (IsOnLane lines q p) n (slice_index_or above n None)
+  pub each : (n q p : ℕ) → n < i → IsOnLane lines q p n → IsLast (IsTakenOnLane lines q p) n (slice_index_or above n None)
   pub lasts : AreLastSends lines i last
 
 -- a line up to t takes what line o sends
@@ -38,10 +44,10 @@ pub record IsTakenUpTo (lines : List LogLine) (o t : ℕ) : Type 0 where
   pub takes : Takes lines o taker
   pub early : taker ≤ t
 
--- what the table has for a send: by then it was taken, and so were all before it on its lane
+-- what the table has for a send: by then it was taken, and so were all before it on its lane that a line takes
 abbrev pub IsOver : List LogLine → List (Option ℕ) → ℕ → Type 0
 IsOver lines over n = (t q p : ℕ) → slice_index_or over n None ≡ Some t → IsOnLane lines q p n
-    → (o : ℕ) → o ≤ n → IsOnLane lines q p o → IsTakenUpTo lines o t
+    → (o : ℕ) → o ≤ n → IsTakenOnLane lines q p o → IsTakenUpTo lines o t
 
 pub record AreOver (lines : List LogLine) (over : List (Option ℕ)) : Type 0 where
   pub whole : length over ≡ length lines
@@ -53,7 +59,7 @@ later_of None other = None
 later_of (Some t) None = None
 later_of (Some t) (Some u) = Some (max t u)
 
--- by when a send and those before it on its lane were taken, from the send before it and who takes it
+-- by when a send and those before it on its lane were taken, from the one before it and who takes it
 abbrev pub until_of : Option ℕ → Option ℕ → List (Option ℕ) → Option ℕ
 until_of None taker over = taker
 until_of (Some s) taker over = later_of taker (slice_index_or over s None)

@@ -1,15 +1,10 @@
 -- Tables with an entry for each of so many numbers, and what entries say (this project's own).
-use Rattle.std.specs.Prelude.{◌≡◌, ◌≢◌, ℕ, ◌<◌, ◌≤◌, List, length, Option, None, Some, slice_index_or}
+use Rattle.std.specs.Prelude.{◌≡◌, ◌≢◌, ℕ, ◌<◌, List, length, Option, None, Some, slice_index_or}
 
 -- of the numbers below n, the entry is the first of which the fact holds, if there is one
 abbrev pub IsFirst : (ℕ → Type 0) → ℕ → Option ℕ → Type 0
 IsFirst P n None = (k : ℕ) → k < n → P k → ⊥
 IsFirst P n (Some m) = (m < n) × P m × ((k : ℕ) → k < m → P k → ⊥)
-
--- of those from one on below n, it is the first
-abbrev pub IsNext : (ℕ → Type 0) → ℕ → ℕ → Option ℕ → Type 0
-IsNext P from n None = (k : ℕ) → from ≤ k → k < n → P k → ⊥
-IsNext P from n (Some m) = (from ≤ m) × (m < n) × P m × ((k : ℕ) → from ≤ k → k < m → P k → ⊥)
 
 -- of those below n, it is the last
 abbrev pub IsLast : (ℕ → Type 0) → ℕ → Option ℕ → Type 0

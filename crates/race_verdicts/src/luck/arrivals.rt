@@ -1,78 +1,63 @@
 //! Which message arrived when.
-ghost use Rattle.std.specs.Prelude.{◌≡◌, ◌<◌, ◌≤◌, ◌↔◌, min, length, None, replicate, IfOk, OnOk, MatchOption, IsTrue};
+ghost use Rattle.std.specs.Prelude.{◌≡◌, ◌<◌, ◌+◌, ◌↔◌, length, None, Some, replicate, slice_get, IfOk, MatchOption, IsTrue};
 ghost use Rattle.log_chart.specs.declared.item.MessageNo.{MessageNo};
-ghost use Rattle.log_chart.specs.Items.{naming_line};
+ghost use Rattle.log_chart.specs.Items.{message_of, naming_line};
+ghost use Rattle.log_chart.specs.declared.matching.LogLine.{LogLine};
 ghost use Rattle.race_verdicts.specs.Luck.Arrivals.{IsArrivalOf, CameFirst};
 ghost use Rattle.race_verdicts.specs.Luck.ArrivalTables.{arrival_in, AreArrived, IsPut};
-ghost use Rattle.race_verdicts.specs.Luck.LineTables.{AreTakers, AreNext, AreLeft};
+ghost use Rattle.race_verdicts.specs.Luck.LineTables.{AreTakers};
+ghost use Rattle.race_verdicts.specs.Luck.QueueTables.{AreWaiting};
 ghost use Rattle.race_verdicts.specs.Luck.Recorded.{IsLog};
 ghost use Rattle.race_verdicts.specs.Recordings.{recording_view};
 
-use crate::luck::lines::{follow_back, lefts_of};
+use crate::luck::queues::{Queues, left_of, received_of};
 use crate::luck::tables::Table;
 use crate::{Arrival, Recording};
 use log_chart::{LogLine, MessageNo, message_of};
 use std::alloc::{AllocError, Global};
-use std::cmp::min;
 use std::marker::Model;
 
-/// The receives of each stream that come next, from a line on.
+/// The message of the line with this number.
+fn message_at(lines: &[LogLine], number: usize) -> MessageNo
+    requires { number < length lines.now }
+    ensures { (x : LogLine) → slice_get lines.now number ≡ Some x → result ≡ message_of x }
+{
+    message_of(&lines[number])
+}
+
+/// The messages of each stream that wait for their arrival.
 #[derive(Drop)]
-struct Following {
-    from: usize,
-    next: Table,
+struct Waiting {
+    /// Those that a line receives, by these lines.
+    received: Queues,
+    /// Those that none receives, by the lines that send them.
+    left: Queues,
 }
 
-/// None yet: from the end of so many lines on.
-fn none_following(alloc: Global, count: usize) -> Result<Following, AllocError>
-    ensures from { IfOk result (λ following. following.from ≡ count) }
-    ensures next { IfOk result (λ following. following.next ≡ replicate count None) }
-{
-    Ok(Following {
-        from: count,
-        next: Table::none(alloc, count)?,
-    })
-}
-
-impl Following {
-    /// Goes to a line, mostly an earlier one. For a later one it begins anew.
-    fn go_to(&mut self, alloc: Global, lines: &[LogLine], to: usize) -> Result<(), AllocError>
-        requires within { to ≤ length lines.now }
+impl Waiting {
+    /// The message of an arrival, the next one: of those of its stream the first that waits. It waits no longer.
+    fn message_arrived(
+        &mut self,
+        lines: &[LogLine],
+        arrivals: &[Arrival],
+        place: usize,
+    ) -> Option<MessageNo>
         requires log { IsLog lines.now }
-        requires from { self.old.from ≤ length lines.now }
-        requires next { AreNext lines.now self.old.from self.old.next }
-        ensures from { OnOk result (self.new.from ≡ to) }
-        ensures next { OnOk result (AreNext lines.now to self.new.next) }
+        requires place { place < length arrivals.now }
+        requires waiting { AreWaiting lines.now arrivals.now place self.old.received.first self.old.received.next self.old.left.first self.old.left.next }
+        ensures waiting { AreWaiting lines.now arrivals.now (place + 1) self.new.received.first self.new.received.next self.new.left.first self.new.left.next }
+        ensures message { MatchOption result ((m : MessageNo) → IsArrivalOf lines.now arrivals.now m place → ⊥)
+            (λ m. IsArrivalOf lines.now arrivals.now m place × (naming_line m < length lines.now)) }
     {
-        if self.from < to {
-            *self = none_following(alloc, lines.len())?;
+        let arrival = &arrivals[place];
+        self.received.leave_above(arrival.stream, arrival.at);
+        if let Some(number) = self.received.take_first(arrival.stream) {
+            return Some(message_at(lines, number));
         }
-        follow_back(&mut self.next, lines, self.from, to);
-        self.from = to;
-        Ok(())
-    }
-}
-
-/// The message of an arrival, where the tables are of the lines from it on.
-fn message_arrived(
-    lines: &[LogLine],
-    following: &Following,
-    lefts: &Table,
-    arrival: &Arrival,
-) -> Option<MessageNo>
-    requires log { IsLog lines.now }
-    requires left { AreLeft lines.now lefts.now }
-    requires next { AreNext lines.now following.now.from following.now.next }
-    requires from { following.now.from ≡ min arrival.now.«at» (length lines.now) }
-    ensures { MatchOption result ((m : MessageNo) → IsArrivalOf lines.now arrival.now m → ⊥)
-        (λ m. IsArrivalOf lines.now arrival.now m × (naming_line m < length lines.now)) }
-{
-    match following.next.at(arrival.stream) {
-        Some(number) => Some(message_of(&lines[number])),
-        None => match lefts.at(arrival.stream) {
-            Some(send) => Some(MessageNo::Sent(send)),
+        match self.left.take_first(arrival.stream) {
+            Some(number) => Some(message_at(lines, number)),
             None => None,
-        },
+        }
     }
 }
 
@@ -105,15 +90,15 @@ impl Arrived {
         }
     }
 
-    /// Puts another place in its stead.
-    fn put(&mut self, message: MessageNo, place: usize)
+    /// Notes the place of an arrival of a message, unless it has one.
+    fn note(&mut self, message: MessageNo, place: usize)
         requires sent { naming_line message < length self.old.sent }
         requires begun { naming_line message < length self.old.begun }
         ensures { IsPut self.old.sent self.old.begun self.new.sent self.new.begun message place }
     {
         match message {
-            MessageNo::Sent(number) => self.sent.set(number, Some(place)),
-            MessageNo::Begun(number) => self.begun.set(number, Some(place)),
+            MessageNo::Sent(number) => self.sent.note(number, place),
+            MessageNo::Begun(number) => self.begun.note(number, place),
         }
     }
 }
@@ -123,21 +108,16 @@ fn arrivals_of(
     alloc: Global,
     lines: &[LogLine],
     arrivals: &[Arrival],
-    lefts: &Table,
+    mut waiting: Waiting,
 ) -> Result<Arrived, AllocError>
     requires log { IsLog lines.now }
-    requires left { AreLeft lines.now lefts.now }
-    ensures { IfOk result (λ arrived. AreArrived lines.now arrivals.now 0 arrived.sent arrived.begun) }
+    requires waiting { AreWaiting lines.now arrivals.now 0 waiting.received.first waiting.received.next waiting.left.first waiting.left.next }
+    ensures { IfOk result (λ arrived. AreArrived lines.now arrivals.now (length arrivals.now) arrived.sent arrived.begun) }
 {
     let mut found = Arrived::none(alloc, lines.len())?;
-    let mut following = none_following(alloc, lines.len())?;
-    let mut left = arrivals.len();
-    'arrivals: while left > 0 {
-        left -= 1;
-        let arrival = &arrivals[left];
-        following.go_to(alloc, lines, min(arrival.at, lines.len()))?;
-        if let Some(message) = message_arrived(lines, &following, lefts, arrival) {
-            found.put(message, left);
+    for place in 0..arrivals.len() {
+        if let Some(message) = waiting.message_arrived(lines, arrivals, place) {
+            found.note(message, place);
         }
     }
     Ok(found)
@@ -151,6 +131,7 @@ pub(crate) struct Arrivals<'a> {
 }
 
 impl<'a> Model for Arrivals<'a> {
+    ghost use Rattle.std.specs.Prelude.{length};
     ghost use Rattle.race_verdicts.specs.Recordings.{RecordingView, recording_view};
     ghost use Rattle.race_verdicts.specs.Luck.ArrivalTables.{AreArrived};
 
@@ -158,7 +139,7 @@ impl<'a> Model for Arrivals<'a> {
 
     ghost view = { λ a. recording_view a.recording };
 
-    ghost invariant = { λ a. AreArrived a.recording.lines.now a.recording.arrivals.now 0 a.arrived.sent a.arrived.begun };
+    ghost invariant = { λ a. AreArrived a.recording.lines.now a.recording.arrivals.now (length a.recording.arrivals.now) a.arrived.sent a.arrived.begun };
 }
 
 impl<'a> Arrivals<'a> {
@@ -172,8 +153,10 @@ impl<'a> Arrivals<'a> {
         requires takers { AreTakers (recording_view recording).lines takers.now }
         ensures { IfOk result (λ arrivals. arrivals ≡ recording_view recording.entry) }
     {
-        let lefts = lefts_of(alloc, recording.lines, takers)?;
-        let arrived = arrivals_of(alloc, recording.lines, recording.arrivals, &lefts)?;
+        let received = received_of(alloc, recording.lines)?;
+        let left = left_of(alloc, recording.lines, takers)?;
+        let waiting = Waiting { received, left };
+        let arrived = arrivals_of(alloc, recording.lines, recording.arrivals, waiting)?;
         Ok(Arrivals { recording, arrived })
     }
 

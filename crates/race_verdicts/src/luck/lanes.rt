@@ -1,5 +1,6 @@
 //! Messages of a lane behind others.
-ghost use Rattle.std.specs.Prelude.{ℕ, ◌≡◌, ◌<◌, ◌≤◌, ◌↔◌, length, IfOk, IsTrue};
+ghost use Rattle.std.specs.Prelude.{ℕ, ◌≡◌, ◌<◌, ◌≤◌, ◌↔◌, ◌&&◌, is_some, length, IfOk, IsTrue};
+ghost use Rattle.log_chart.specs.Entries.{is_send};
 ghost use Rattle.log_chart.specs.Items.{naming_line};
 ghost use Rattle.race_verdicts.specs.Luck.Behind.{IsThere, WouldHaveTaken, IsBehind};
 ghost use Rattle.race_verdicts.specs.Luck.LaneTables.{IsOnLane, AreAbove, AreOver, later_of, until_of};
@@ -16,8 +17,16 @@ use std::alloc::{AllocError, Global};
 use std::cmp::max;
 use std::marker::Model;
 
-/// For each send the one before it on its lane.
-fn above_of(alloc: Global, lines: &[LogLine]) -> Result<Table, AllocError>
+/// Whether a line sends a message that a line takes.
+fn is_taken(line: &LogLine, taker: Option<usize>) -> bool
+    ensures { result ≡ (is_send line.now.entry.kind && is_some taker) }
+{
+    is_send(line.entry.kind) && taker.is_some()
+}
+
+/// For each send the last one before it on its lane that a line takes.
+fn above_of(alloc: Global, lines: &[LogLine], takers: &Table) -> Result<Table, AllocError>
+    requires { AreTakers lines.now takers.now }
     ensures { IfOk result (AreAbove lines.now) }
 {
     let mut above = Table::none(alloc, lines.len())?;
@@ -25,6 +34,8 @@ fn above_of(alloc: Global, lines: &[LogLine]) -> Result<Table, AllocError>
     for (number, line) in lines.iter().enumerate() {
         if is_send(line.entry.kind) {
             above.set(number, last.at(line.entry.host, line.entry.peer));
+        }
+        if is_taken(line, takers.at(number)) {
             last.set(line.entry.host, line.entry.peer, Some(number));
         }
     }
@@ -51,7 +62,7 @@ fn until_of(above: Option<usize>, taker: Option<usize>, over: &Table) -> Option<
     }
 }
 
-/// For each send a line up to which it was taken, and so were all before it on its lane, if they were all taken.
+/// For each send that a line takes a line up to which it was taken, and so were all such ones before it on its lane.
 fn over_of(
     alloc: Global,
     lines: &[LogLine],
@@ -76,9 +87,9 @@ pub(crate) struct Lanes<'a> {
     recording: Recording<'a>,
     /// For each line the first that takes its message.
     takers: Table,
-    /// For each send the one before it on its lane.
+    /// For each send the last one before it on its lane that a line takes.
     above: Table,
-    /// For each send a line up to which it was taken, and so were all before it on its lane, if they were all taken.
+    /// For each send that a line takes a line up to which it and all such ones before it on its lane were taken.
     over: Table,
 }
 
@@ -104,7 +115,7 @@ impl<'a> Lanes<'a> {
         requires takers { AreTakers (recording_view recording).lines takers }
         ensures { IfOk result (λ lanes. lanes ≡ recording_view recording.entry) }
     {
-        let above = above_of(alloc, recording.lines)?;
+        let above = above_of(alloc, recording.lines, &takers)?;
         let over = over_of(alloc, recording.lines, &above, &takers)?;
         Ok(Lanes {
             recording,
@@ -114,18 +125,18 @@ impl<'a> Lanes<'a> {
         })
     }
 
-    /// Whether no line before this one takes what a line sends.
+    /// Whether a line takes what a line sends, and none before this one does.
     fn is_there(&self, line: usize, send: usize) -> bool
         requires { send < length self.now.lines }
         ensures { IsTrue result ↔ IsThere self.now line send }
     {
         match self.takers.at(send) {
             Some(taker) => line <= taker,
-            None => true,
+            None => false,
         }
     }
 
-    /// Whether what a line sends is known to be taken before this line, and all before it on its lane.
+    /// Whether what a line sends was taken before this line, and so was all before it on its lane that is taken.
     fn is_over(&self, line: usize, send: usize) -> bool
         requires { send < length self.now.lines }
         ensures { IsTrue result → (q p o : ℕ) → IsOnLane self.now.lines q p send → o ≤ send → IsOnLane self.now.lines q p o

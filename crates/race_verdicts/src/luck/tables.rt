@@ -47,6 +47,15 @@ impl Table {
         self.entries[number] = entry;
     }
 
+    /// Puts an entry in place of the one that is there. Past the last one nothing is put.
+    pub(crate) fn put(&mut self, number: usize, entry: Option<usize>)
+        ensures { self.new ≡ slice_set self.old number entry }
+    {
+        if number < self.entries.len() {
+            self.entries[number] = entry;
+        }
+    }
+
     /// Notes an entry for a number that has none. Past the last one nothing is noted.
     pub(crate) fn note(&mut self, number: usize, entry: usize)
         ensures { IsNoted self.old self.new number entry }

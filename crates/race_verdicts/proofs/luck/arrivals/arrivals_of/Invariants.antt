@@ -1,15 +1,9 @@
-use Rattle.std.proofs.Common.{◌≤◌, length}
 use Rattle.race_verdicts.specs.Luck.ArrivalTables.{AreArrived}
-use Rattle.race_verdicts.specs.Luck.LineTables.{AreNext}
+use Rattle.race_verdicts.specs.Luck.QueueTables.{AreWaiting}
 use Rattle.race_verdicts.proofs.luck.arrivals.arrivals_of.Given as goal
 
-abbrev pub invariant-arrivals : goal.invariant-arrivals
-invariant-arrivals l = record {
-  left : l.left ≤ length l.arrivals;
-  from : l.following.from ≤ length l.lines;
-  next : AreNext l.lines l.following.from l.following.next;
-  found : AreArrived l.lines l.arrivals l.left l.found.sent l.found.begun;
+abbrev pub invariant-loop-place : goal.invariant-loop-place
+invariant-loop-place l = record {
+  waiting : AreWaiting l.lines l.arrivals l.place l.waiting.received.first l.waiting.received.next l.waiting.left.first l.waiting.left.next;
+  found : AreArrived l.lines l.arrivals l.place l.found.sent l.found.begun;
 }
-
-abbrev pub decreases-arrivals : goal.decreases-arrivals
-decreases-arrivals l = l.left

@@ -80,7 +80,7 @@ sends-smaller c =
     subst (IsWalking rec c.args.line c.args.own c.args.send send.line.entry.host send.line.entry.peer) c.in-Some.is (c.sends.invariant send.line.entry.host send.line.entry.peer lane) in
     subst (λ n. left_before n < left_before c.sends.next) (sym c.at-next-in-Some.ensures)
     (subst (λ n. left_before (get_or above c.in-Some.other None) < left_before n) (sym c.in-Some.is)
-    (above_less rec.lines above are.sends send.line.entry.host send.line.entry.peer c.in-Some.other walking.last.1))
+    (above_less rec.lines above are.sends send.line.entry.host send.line.entry.peer c.in-Some.other (let its = walking.last.1 in its.on)))
 
 pub sends-preserved : goal.sends-preserved
 sends-preserved c =
