@@ -2,4 +2,5 @@ pub mod Expressions
 pub mod Feeds
 pub mod Found
 pub mod Groups
+pub mod Missing
 pub mod PatternReading

@@ -8,9 +8,11 @@ mod expression;
 mod feeds;
 mod found;
 mod groups;
+mod missing;
 mod pattern_reading;
 mod search;
 
-pub use expression::{BadExpression, Expression};
+pub use expression::{BadExpression, Expression, Fault};
 pub use groups::{CaptureGroups, ClockGroups, EventGroups, Groups};
+pub use missing::Group;
 pub use pattern_reading::read_by;

@@ -38,8 +38,22 @@ abbrev pub knows_of : HeardView → HeardView → Option MomentView → Bool
 knows_of by h None = false
 knows_of by h (Some m) = not (bytes_eq by.stamp.host h.stamp.host) && nat_le h.stamp.count (count_of m.stamps h.stamp.host)
 
+-- an event of another host that the log lacks may know of what was heard, whose event the log has: that doesn't know of it.
+-- By which message that was heard isn't known then
+abbrev pub may_know_of : HeardView → HeardView → Option MomentView → Bool
+may_know_of by h None = false
+may_know_of by h (Some m) =
+    not (bytes_eq by.stamp.host h.stamp.host) && nat_lt (count_of m.stamps by.stamp.host) by.stamp.count
+
+abbrev pub may_imply_at : List MomentView → HeardView → HeardView → Option ℕ → Bool
+may_imply_at moments by h None = false
+may_imply_at moments by h (Some place) = may_know_of by h (slice_get moments place)
+
+abbrev pub may_imply : List MomentView → HeardView → HeardView → Bool
+may_imply moments by h = may_imply_at moments by h h.source
+
 abbrev pub implies_at : List MomentView → HeardView → HeardView → Option ℕ → Bool
-implies_at moments by h None = false
+implies_at moments by h None = may_imply moments by h
 implies_at moments by h (Some place) = knows_of by h (slice_get moments place)
 
 -- an entry tells of another one that grew

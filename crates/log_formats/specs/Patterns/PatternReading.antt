@@ -1,9 +1,10 @@
 -- What the lines of a log say by an expression: given which lines match and what their groups are (the regex crate's
 -- word).
-use Rattle.std.specs.Prelude.{ℕ, ◌+◌, ◌==◌, List, length, take, Option, None, Some, if◌then◌else◌}
+use Rattle.std.specs.Prelude.{ℕ, ◌+◌, ◌-◌, ◌==◌, List, length, take, Option, None, Some, if◌then◌else◌}
 use Rattle.std.specs.List.{join_with_byte}
+use Rattle.texts.specs.Lines.{lines_of}
 use Rattle.texts.specs.Words.{behind_blanks}
-use Rattle.regex.specs.Patterns.{Re, Match, find}
+use Rattle.regex.specs.Patterns.{Re, Match, find, span}
 use Rattle.regex.specs.Writes.{group_of}
 use Rattle.log_lines.specs.Events.{LineView, Nothing, Other}
 use Rattle.log_formats.specs.Patterns.Found.{located, found_by}
@@ -12,28 +13,40 @@ use Rattle.log_lines.specs.Windows.{StepView, without_return, with_window_texts}
 use Rattle.log_formats.specs.declared.patterns.groups.Groups.{Groups}
 use Rattle.log_lines.specs.declared.range.LineRange.{LineRange}
 
--- lines that aren't matched; blank ones say nothing
+-- the first of these lines and so many more, with the line feeds between them
+abbrev pub window_of : ℕ → List (List ℕ) → List ℕ
+window_of more lines = without_return (join_with_byte 10 (take (more + 1) lines))
+
+-- a line that isn't read; a blank one says nothing
 abbrev pub unmatched : List ℕ → LineView
-unmatched window = if length (behind_blanks window) == 0 then Nothing else Other
+unmatched line = if length (behind_blanks line) == 0 then Nothing else Other
 
--- lines in which this was found
-abbrev pub matched : Groups → List ℕ → Option Match → LineView
-matched groups window None = unmatched window
-matched groups window (Some m) = found_by (located window (group_of m)) groups
+-- the first line where no match begins in it, or none that is read
+abbrev pub alone : List ℕ → StepView
+alone line = record { says = unmatched line; takes = 0 }
 
--- lines, by the first match of the expression in them
-abbrev pub pattern_line : Groups → Re → List ℕ → LineView
-pattern_line groups pattern window = matched groups window (find pattern window 0)
+-- in which of these lines the byte at this place stands, counted from 0: as many as end before it
+unfoldable pub line_at : List ℕ → ℕ → ℕ
+line_at window place = length (lines_of (take place window))
 
--- how many lines are a part of what a line says, where it is matched with so many more
-abbrev pub taken_by : LineView → ℕ → ℕ
-taken_by Other more = 0
-taken_by says more = more
+-- what the first line says and takes, where its match says this and touches so many lines behind it
+abbrev pub read_as : List ℕ → LineView → ℕ → StepView
+read_as first Other touched = alone first
+read_as first says touched = record { says = says; takes = touched }
 
--- what lines say by the expression, which is matched with a line and so many more
+-- what a match says and takes, where the groups span this and it ends here: all lines up to the one of its last byte
+abbrev pub match_step : Groups → List ℕ → List ℕ → (ℕ → Option (ℕ × ℕ)) → ℕ → StepView
+match_step groups window first spans end = read_as first (found_by (located window spans) groups) (line_at window (end - 1))
+
+-- what the first line says, where this was found in it and those behind it: only a match that begins in it is its own
+abbrev pub matched : Groups → List ℕ → List ℕ → Option Match → StepView
+matched groups window first None = alone first
+matched groups window first (Some m) =
+    if line_at window (span m).0 == 0 then match_step groups window first (group_of m) (span m).1 else alone first
+
+-- what the first line says by the expression, whose first match is looked for in it and so many more
 unfoldable pub pattern_step : Groups → ℕ → Re → List (List ℕ) → StepView
-pattern_step groups more pattern lines =
-    let says = pattern_line groups pattern (without_return (join_with_byte 10 (take (more + 1) lines))) in record { says = says; takes = taken_by says more }
+pattern_step groups more pattern lines = matched groups (window_of more lines) (window_of 0 lines) (find pattern (window_of more lines) 0)
 
 -- what is read of the texts
 unfoldable pub pattern_read : Groups → ℕ → Re → LineRange → List (List ℕ) → ReadView

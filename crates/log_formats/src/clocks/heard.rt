@@ -1,6 +1,6 @@
 //! What events have heard of, by their clocks.
 ghost use Rattle.std.specs.Prelude.{◌≡◌, ◌≤◌, [], length, map, option_map, IfOk, OnOk};
-ghost use Rattle.log_formats.specs.Clocks.Hearing.{heard_view, grew, heard_of, with_grown, grown, knows_of, implies, is_implied, with_direct, with_heard, all_heard};
+ghost use Rattle.log_formats.specs.Clocks.Hearing.{heard_view, grew, heard_of, with_grown, grown, knows_of, may_know_of, may_imply, implies, is_implied, with_direct, with_heard, all_heard};
 ghost use Rattle.log_formats.specs.Clocks.Moments.{moment_view};
 ghost use Rattle.log_formats.specs.Clocks.Stamps.{stamp_view};
 
@@ -90,12 +90,37 @@ fn knows_of(by: &Heard<'_>, heard: &Heard<'_>, moment: Option<&Moment<'_>>) -> b
     }
 }
 
-/// Whether an entry tells of another one that grew: the event behind it knows of this.
+/// Whether an event of another host that the log lacks may know of what was heard, whose event, if the log has it, is
+/// this one. It can't where this knows of it.
+fn may_know_of(by: &Heard<'_>, heard: &Heard<'_>, moment: Option<&Moment<'_>>) -> bool
+    ensures { result ≡ may_know_of (heard_view by.now) (heard_view heard.now) (option_map (λ m. moment_view m.now) moment.entry) }
+{
+    match moment {
+        None => false,
+        Some(moment) => {
+            by.stamp.host != heard.stamp.host
+                && count_of(&moment.stamps, by.stamp.host) < by.stamp.count
+        }
+    }
+}
+
+/// Whether an entry whose event the log lacks may tell of another one that grew.
+fn may_imply(moments: &[Moment<'_>], by: &Heard<'_>, heard: &Heard<'_>) -> bool
+    ensures { result ≡ may_imply (map moment_view moments.now) (heard_view by.now) (heard_view heard.now) }
+{
+    match heard.source {
+        None => false,
+        Some(place) => may_know_of(by, heard, moments.get(place)),
+    }
+}
+
+/// Whether an entry tells of another one that grew: the event behind it knows of this, or may know of it where the log
+/// lacks that event. So a message that clocks tell is never one that came by a host whose lines are missing.
 fn implies(moments: &[Moment<'_>], by: &Heard<'_>, heard: &Heard<'_>) -> bool
     ensures { result ≡ implies (map moment_view moments.now) (heard_view by.now) (heard_view heard.now) }
 {
     match by.source {
-        None => false,
+        None => may_imply(moments, by, heard),
         Some(place) => knows_of(by, heard, moments.get(place)),
     }
 }

@@ -1,11 +1,13 @@
 //! Expressions that tell what the lines of a log say.
 ghost use Rattle.std.specs.Prelude.{IfOk, IfErr};
-ghost use Rattle.log_formats.specs.Patterns.Expressions.{IsExpression, IsBad};
+ghost use Rattle.log_formats.specs.Patterns.Expressions.{IsCompiled, IsExpression, IsBad};
 
 use crate::patterns::feeds::feeds_in;
 use crate::patterns::groups::{Groups, groups_in};
+use crate::patterns::missing::{Group, lacks};
 use regex::Error;
 use regex::bytes::Regex;
+use regex_syntax::ErrorKind;
 use std::alloc::Global;
 
 /// An expression that tells what the lines of a log say.
@@ -17,48 +19,60 @@ pub struct Expression {
     pub(crate) more: usize,
 }
 
+/// Why a text is no such expression.
+#[derive(Clone, Copy, Debug, PartialEq, Eq)]
+pub enum Fault {
+    /// The grammar refuses it for this.
+    Unreadable(ErrorKind),
+    /// What it comes to is too large.
+    TooLarge,
+    /// It has none of the sets of groups whole, and lacks this one.
+    Lacks(Group),
+}
+
 /// Why there is no such expression.
 #[derive(Clone, Copy, Debug, PartialEq, Eq)]
 pub enum BadExpression {
     /// F6: a growth was refused.
     Memory,
-    /// F39: what stands at this place, counted in bytes from 1, can't be read. It is the place behind the end where the
-    /// groups say nothing, or where there is too much of it.
-    At(usize),
+    /// F39: the text has a fault that begins at this place, counted in bytes from 1. It may be the one behind its end.
+    At(usize, Fault),
 }
 
-/// Why the text is no expression.
-fn bad(text: &str, error: Error) -> BadExpression
-    ensures { IsBad text.now result }
+/// The text, compiled with the crate's own options.
+fn compiled(alloc: Global, text: &str) -> Result<Regex, BadExpression>
+    ensures ok { IfOk result (IsCompiled text.now) }
+    ensures err { IfErr result (IsBad text.now) }
 {
-    match error {
-        Error::OutOfMemory => BadExpression::Memory,
-        Error::Syntax(error) if error.span.start < text.len() => {
-            BadExpression::At(error.span.start + 1)
+    match Regex::new(alloc, text) {
+        Ok(regex) => Ok(regex),
+        Err(Error::OutOfMemory) => Err(BadExpression::Memory),
+        Err(Error::Syntax(error)) => Err(BadExpression::At(
+            error.span.start + 1,
+            Fault::Unreadable(error.kind),
+        )),
+        Err(Error::CompiledTooBig | Error::Internal) => {
+            Err(BadExpression::At(text.len() + 1, Fault::TooLarge))
         }
-        _ => BadExpression::At(text.len() + 1),
     }
 }
 
 impl Expression {
-    /// Reads an expression, in the syntax of Rust's regex crate. Its groups are `host`, `dir`, `peer`, `name` and
-    /// perhaps `id`, or `src`, `dst`, `name` and perhaps `id`, or `host`, `clock` and `event`: the first of these sets
-    /// that it has whole.
+    /// Reads an expression, in the syntax of Rust's regex crate and with its own options. Its groups are `host`, `dir`,
+    /// `peer`, `name` and perhaps `id`, or `src`, `dst`, `name` and perhaps `id`, or `host`, `clock` and `event`: the
+    /// first of these sets that it has whole.
     pub fn new(alloc: Global, text: &str) -> Result<Expression, BadExpression>
         ensures ok { IfOk result (IsExpression text.now) }
         ensures err { IfErr result (IsBad text.now) }
     {
-        let regex = match Regex::new(alloc, text) {
-            Ok(regex) => regex,
-            Err(error) => return Err(bad(text, error)),
-        };
+        let regex = compiled(alloc, text)?;
         match groups_in(&regex) {
             Some(groups) => Ok(Expression {
                 regex,
                 groups,
                 more: feeds_in(text.as_bytes()),
             }),
-            None => Err(BadExpression::At(text.len() + 1)),
+            None => Err(BadExpression::At(text.len() + 1, Fault::Lacks(lacks(&regex)))),
         }
     }
 }

@@ -62,7 +62,7 @@ fn named_at(groups: &[Option<String>], name: &[u8]) -> Option<usize>
 }
 
 /// The number of the group that is called so.
-fn group_in(expression: &Regex, name: &[u8]) -> Option<usize>
+pub(crate) fn group_in(expression: &Regex, name: &[u8]) -> Option<usize>
     ensures value { result ≡ group_in (regex_names expression.now) name.now }
     ensures among { IfSome result (IsAmong (length (regex_names expression.now))) }
 {

@@ -78,9 +78,10 @@ fn add_text<'a>(
     Ok(())
 }
 
-/// What the texts of a log say by an expression: its first match in each line, or in as many lines as it has line feeds
-/// and one more. A match says an event of a host, a captured message or an event with its vector time, as the groups
-/// tell. A blank line that isn't matched says nothing, and what else there is isn't read, and counted.
+/// What the texts of a log say by an expression: its first match in each line, or in as many lines as it has line
+/// feeds and one more. The match is the first line's if it begins there, and takes the lines that it touches. It says
+/// an event of a host, a captured message or an event with its vector time, as the groups tell. All other lines that
+/// aren't blank are counted, since they aren't read.
 #[tactic(auto, unfolding(crate::specs::Patterns::PatternReading::pattern_read))]
 pub fn read_by<'a>(
     alloc: Global,

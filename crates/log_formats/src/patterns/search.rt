@@ -1,10 +1,11 @@
 //! An expression, matched with lines.
-ghost use Rattle.std.specs.Prelude.{◌≡◌, length, IfOk};
+ghost use Rattle.std.specs.Prelude.{◌≡◌, ◌≤◌, length, IfOk};
 ghost use Rattle.regex.specs.Bytes.{matcher_pattern, regex_pattern, regex_names};
-ghost use Rattle.regex.specs.Locations.{location_count};
+ghost use Rattle.regex.specs.Locations.{location, location_count};
+ghost use Rattle.regex.specs.Patterns.{find};
 ghost use Rattle.log_lines.specs.Events.{line_view};
 ghost use Rattle.log_formats.specs.Patterns.Groups.{AreAmong};
-ghost use Rattle.log_formats.specs.Patterns.PatternReading.{unmatched, pattern_line, pattern_step, taken_by};
+ghost use Rattle.log_formats.specs.Patterns.PatternReading.{window_of, unmatched, alone, line_at, read_as, match_step, matched, pattern_step};
 ghost use Rattle.log_lines.specs.Reading.{all_lines};
 ghost use Rattle.log_lines.specs.Windows.{step_view};
 
@@ -15,7 +16,7 @@ use log_lines::{LineSays, Step, window};
 use regex::CaptureLocations;
 use regex::bytes::Matcher;
 use std::alloc::{AllocError, Global};
-use texts::behind_blanks;
+use texts::{behind_blanks, next_line};
 
 /// What an expression is matched with.
 #[derive(Drop)]
@@ -26,42 +27,93 @@ pub(crate) struct Search<'r> {
     more: usize,
 }
 
-/// What a line says that isn't matched.
-fn unmatched<'a>(window: &[u8]) -> LineSays<'a>
-    ensures { line_view result ≡ unmatched window.now }
+/// What a line says that isn't read.
+fn unmatched<'a>(line: &[u8]) -> LineSays<'a>
+    ensures { line_view result ≡ unmatched line.now }
 {
-    if behind_blanks(window).is_empty() {
+    if behind_blanks(line).is_empty() {
         LineSays::Nothing
     } else {
         LineSays::Other
     }
 }
 
-/// What these lines say by the expression.
-fn pattern_line<'a>(
+/// What the first line of a text says where no match begins in it, or none that is read.
+fn alone<'a>(text: &[u8]) -> Step<'a>
+    ensures { step_view result ≡ alone (window_of 0 (all_lines text.now)) }
+{
+    Step {
+        says: unmatched(window(text, 0)),
+        takes: 0,
+    }
+}
+
+/// In which of these lines the byte at this place stands, counted from 0. A line feed belongs to the line that it ends.
+#[tactic(auto, unfolding(crate::specs::Patterns::PatternReading::line_at))]
+fn line_at(window: &[u8], place: usize) -> usize
+    requires { place ≤ length window.now }
+    ensures { result ≡ line_at window.now place }
+{
+    let mut rest = &window[..place];
+    let mut line = 0;
+    'lines: while let Some((_, below)) = next_line(rest) {
+        rest = below;
+        line += 1;
+    }
+    line
+}
+
+/// What the first line of a text says and takes, where its match says this and touches so many lines behind it.
+fn read_as<'a>(says: LineSays<'a>, touched: usize, text: &[u8]) -> Step<'a>
+    ensures { step_view result ≡ read_as (window_of 0 (all_lines text.now)) (line_view says.entry) touched }
+{
+    match says {
+        LineSays::Other => alone(text),
+        _ => Step {
+            says,
+            takes: touched,
+        },
+    }
+}
+
+/// What the first line of a text says by a match that begins in it, and ends here in these of its lines.
+fn match_step<'a>(
+    locations: &CaptureLocations,
+    groups: Groups,
+    window: &'a [u8],
+    end: usize,
+    text: &[u8],
+) -> Step<'a>
+    requires { end ≤ length window.now }
+    ensures { step_view result ≡ match_step groups window.now (window_of 0 (all_lines text.now)) (location locations.now) end }
+{
+    let says = found_by(locations, window, groups);
+    let touched = line_at(window, end.saturating_sub(1));
+    read_as(says, touched, text)
+}
+
+/// What the first line of a text says by the expression, which is looked for in these of its lines.
+fn line_step<'a>(
     matcher: &mut Matcher<'_>,
     locations: &mut CaptureLocations,
     groups: Groups,
     window: &'a [u8],
-) -> LineSays<'a>
+    text: &[u8],
+) -> Step<'a>
     requires { AreAmong (location_count locations.old) groups }
-    ensures value { line_view result ≡ pattern_line groups (matcher_pattern matcher.old) window.now }
+    ensures value { step_view result ≡ matched groups window.now (window_of 0 (all_lines text.now)) (find (matcher_pattern matcher.old) window.now 0) }
     ensures same { matcher_pattern matcher.new ≡ matcher_pattern matcher.old }
     ensures count { location_count locations.new ≡ location_count locations.old }
 {
     match matcher.captures_read(locations, window) {
-        None => unmatched(window),
-        Some(_) => found_by(locations, window, groups),
-    }
-}
-
-/// How many lines are a part of what a line says, where it is matched with so many more.
-fn taken_by(says: &LineSays<'_>, more: usize) -> usize
-    ensures { result ≡ taken_by (line_view says.now) more }
-{
-    match says {
-        LineSays::Other => 0,
-        _ => more,
+        None => alone(text),
+        Some(found) => {
+            if line_at(window, found.start()) == 0 {
+                match_step(locations, groups, window, found.end(), text)
+            } else {
+                alone(text)
+            }
+        }
     }
 }
 
@@ -84,7 +136,7 @@ impl<'r> Search<'r> {
         })
     }
 
-    /// What the lines of a text say.
+    /// What the first line of a text says, with those behind it that its match touches.
     #[tactic(auto, unfolding(crate::specs::Patterns::PatternReading::pattern_step))]
     pub(crate) fn step<'a>(&mut self, text: &'a [u8]) -> Step<'a>
         requires { AreAmong (location_count self.old.locations) self.old.groups }
@@ -95,8 +147,12 @@ impl<'r> Search<'r> {
         ensures among { AreAmong (location_count self.new.locations) self.new.groups }
     {
         let lines = window(text, self.more);
-        let says = pattern_line(&mut self.matcher, &mut self.locations, self.groups, lines);
-        let takes = taken_by(&says, self.more);
-        Step { says, takes }
+        line_step(
+            &mut self.matcher,
+            &mut self.locations,
+            self.groups,
+            lines,
+            text,
+        )
     }
 }
