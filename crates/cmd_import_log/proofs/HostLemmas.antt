@@ -13,7 +13,7 @@ use Rattle.log_chart.specs.Entries.{is_send}
 use Rattle.log_chart.specs.Fates.{fate_of, stays}
 use Rattle.log_chart.specs.FateTables.{IsWithin}
 use Rattle.log_chart.specs.HostLines.{lines_from, kept, host_lines}
-use Rattle.log_chart.specs.Items.{received_message, item_of, invented, invented_behind, items_by, heads_from, items_of, naming_line}
+use Rattle.log_chart.specs.Items.{received_message, item_of, invented, invented_behind, items_by, heads_in, items_of, naming_line}
 use Rattle.log_chart.specs.Matching.{matched}
 use Rattle.log_chart.specs.declared.begun.Begun.{Begun}
 use Rattle.log_chart.specs.declared.entry.Entry.{Entry}
@@ -21,6 +21,7 @@ use Rattle.log_chart.specs.declared.item.Item.{Item}
 use Rattle.log_chart.specs.declared.item.MessageNo.{MessageNo}
 use Rattle.log_chart.specs.declared.item.MessageNo.TheVariants as messages
 use Rattle.log_chart.specs.declared.matching.LogLine.{LogLine}
+use Rattle.log_chart.specs.NameOrder.{by_name}
 use Rattle.log_chart.proofs.OrderLemmas.{matched_length}
 use Rattle.log_chart.specs.Charts.ChartLines.{event_of, chart_from}
 use Rattle.log_chart.proofs.ChartsLemmas.ItemLemmas.{hosts_named, hosts_count}
@@ -71,10 +72,10 @@ module _ (Q : Item → Type 0) (of_invented : (p r : ℕ) → Q (invented p r)) 
   invented_all p [] = All-nil Q
   invented_all p (r ∷ numbers) = All-cons Q (invented p r) (map (invented p) numbers) (of_invented p r) (invented_all p numbers)
 
-  heads_all : (given : List Begun) (p m : ℕ) → All Q (heads_from given p m)
-  unfolding heads_from
-  heads_all given p zero = All-nil Q
-  heads_all given p (suc m) = All-append Q (map (invented p) (heads_to given p)) (heads_from given (suc p) m) (invented_all p (heads_to given p)) (heads_all given (suc p) m)
+  heads_all : (given : List Begun) (hosts : List _) → All Q (heads_in given hosts)
+  unfolding heads_in
+  heads_all given [] = All-nil Q
+  heads_all given (x ∷ hosts) = All-append Q (map (invented x.host) (heads_to given x.host)) (heads_in given hosts) (invented_all x.host (heads_to given x.host)) (heads_all given hosts)
 
   line_all : (given : List Begun) (q : ℕ) (x : LogLine) → Q (item_of x) → All Q (items_by given q x)
   line_all given q x its = go (x.entry.host == q)
@@ -93,16 +94,16 @@ module _ (Q : Item → Type 0) (of_invented : (p r : ℕ) → Q (invented p r)) 
       All-append Q (items_by given q x) (flat_map (items_by given q) lines) (line_all given q x (All-head (λ (y : LogLine). Q (item_of y)) x lines all))
       (lines_all given q lines (All-tail (λ (y : LogLine). Q (item_of y)) x lines all))
 
-  items_all : (n : ℕ) (lines : List LogLine) (given : List Begun) (q : ℕ) → All (λ x. Q (item_of x)) lines → All Q (items_of n lines given q)
+  items_all : (hosts : List _) (lines : List LogLine) (given : List Begun) (q : ℕ) → All (λ x. Q (item_of x)) lines → All Q (items_of hosts lines given q)
   unfolding items_of
-  items_all n lines given q all =
-      All-append Q (heads_from (heads given q) 1 n) (flat_map (items_by given q) lines) (heads_all (heads given q) 1 n) (lines_all given q lines all)
+  items_all hosts lines given q all =
+      All-append Q (heads_in (heads given q) hosts) (flat_map (items_by given q) lines) (heads_all (heads given q) hosts) (lines_all given q lines all)
 
-  hosts_all : (n : ℕ) (lines : List LogLine) (given : List Begun) (p m : ℕ) → All (λ x. Q (item_of x)) lines → All (All Q) (lines_from n lines given p m)
+  hosts_all : (hosts : List _) (lines : List LogLine) (given : List Begun) (p m : ℕ) → All (λ x. Q (item_of x)) lines → All (All Q) (lines_from hosts lines given p m)
   unfolding lines_from
-  hosts_all n lines given p zero all = All-nil (All Q)
-  hosts_all n lines given p (suc m) all =
-      All-cons (All Q) (items_of n lines given p) (lines_from n lines given (suc p) m) (items_all n lines given p all) (hosts_all n lines given (suc p) m all)
+  hosts_all hosts lines given p zero all = All-nil (All Q)
+  hosts_all hosts lines given p (suc m) all =
+      All-cons (All Q) (items_of hosts lines given p) (lines_from hosts lines given (suc p) m) (items_all hosts lines given p all) (hosts_all hosts lines given (suc p) m all)
 
 -- a message that a line sends is known by that line
 abbrev pub IsKnown : List LogLine → MessageNo → Type 0
@@ -149,7 +150,7 @@ known lines n (messages.Begun r) whole sent less = omega (arith, whole, less)
 
 pub hosts_logged : (n : ℕ) (log : List Entry) → All (All (IsOfLines (matched log))) (host_lines n log)
 hosts_logged n log = λ k d less j e within.
-    let its = hosts_all (IsLogged (matched log)) (λ p r. record { line = tt; message = tt; unlogged = λ none. refl }) n (kept log) (begun (kept log)) 1 n all k d less j e within in
+    let its = hosts_all (IsLogged (matched log)) (λ p r. record { line = tt; message = tt; unlogged = λ none. refl }) (by_name n log) (kept log) (begun (kept log)) 1 n all k d less j e within in
     record { line = its.line; message = known (matched log) (length log) (get_or (get_or (host_lines n log) k d) j e).message (matched_length log) its.message (hosts_named n log k d less j e within); unlogged = its.unlogged }
   where
     all : All (λ x. IsLogged (matched log) (item_of x)) (kept log)

@@ -1,5 +1,5 @@
 -- The recording of what texts say, by that of its lines by names, and what it keeps.
-use Rattle.std.proofs.Common.{◌≡◌, ℕ, ◌≤◌, List, [], length, map, refl, sym, ap, ◌∙◌, subst, subst₂, arith, Ok, Err}
+use Rattle.std.proofs.Common.{◌≡◌, ℕ, ◌≤◌, List, length, map, refl, sym, ap, ◌∙◌, subst, subst₂, arith, Ok, Err}
 use Rattle.std.specs.Prelude.{Result, AllPairs, IfOk, vec_len}
 use Rattle.std.proofs.lemmas.List.{length-map}
 use Rattle.log_chart.specs.Cycles.Freeing.{Settles, done, turn, freed}
@@ -14,15 +14,15 @@ use Rattle.log_lines.specs.Takes.Observations.{ObservationsView}
 use Rattle.log_chart.proofs.OrderLemmas.{matched_length}
 use Rattle.log_chart.specs.declared.entry.Entry.{Entry}
 use Rattle.race_verdicts.specs.Recordings.{TakenView, words_view}
-use Rattle.cmd_import_log.specs.Drawing.{beside, named_in, IsNamedDrawing, IsRefused}
+use Rattle.cmd_import_log.specs.Drawing.{beside, named_in, IsNamedDrawing, IsLog, IsRefused}
 use Rattle.cmd_import_log.specs.Entries.{host_event_of, entries_in}
 use Rattle.cmd_import_log.specs.Options.{FormView, Plain, Pattern, ShiViz, OptionsView}
-use Rattle.cmd_import_log.specs.Reading.{LogView, Says}
+use Rattle.cmd_import_log.specs.Reading.{LogView}
 use Rattle.cmd_import_log.specs.Recording.{is_known, observed_of, lent_of, IsRecorded, IsNamedRecording, RecordsNamed, IsRecordingOf, Records}
 use Rattle.cmd_import_log.specs.declared.drawing.Beside.{Beside}
 use Rattle.cmd_import_log.specs.declared.drawing.LogDrawing.{LogDrawing}
 use Rattle.cmd_import_log.specs.declared.error.LogImportError.{LogImportError}
-use Rattle.cmd_import_log.specs.declared.error.LogImportError.TheVariants.{Memory, BadPattern, NotALog, Instances, ToItself, LineFull}
+use Rattle.cmd_import_log.specs.declared.error.LogImportError.TheVariants.{Memory, BadPattern, NotALog, NoReceive, Instances, ToItself, LineFull}
 use Rattle.cmd_import_log.specs.declared.recording.LogRecording.{LogRecording}
 
 -- a chart, and the entries that it was drawn of
@@ -36,23 +36,23 @@ named_as b n o logged observed r settled d same its recorded known =
     let built = subst (IsOfEntries settled b n) (sym same) its in
     record { drawing = built.0; recorded = subst (λ (e : List Entry). IsRecorded o logged e observed r) (sym built.1) recorded; known = known }
 
-module _ (o : OptionsView) (texts : List (List ℕ)) (log : LogView) (says : Says o.form o.range texts log) (some : log.read.logged ≡ [] → ⊥) where
+module _ (o : OptionsView) (texts : List (List ℕ)) (log : LogView) (is_log : IsLog o texts log) where
   pub records_as : (result : Result LogRecording LogImportError) (b : Beside) (n : NamedView) (logged : List LoggedEventView) → b ≡ beside log → n ≡ named_in o log → logged ≡ log.read.logged
       → RecordsNamed result b n o logged (observed_of o.form o texts) → Records result o texts
   records_as (Ok r) b n logged be ne se recording = record {
     log = log;
-    says = says;
-    some = some;
+    is_log = is_log;
     recording =
         subst (λ (l : List LoggedEventView). IsNamedRecording (beside log) (named_in o log) o l (observed_of o.form o texts) r) se
         (subst₂ (λ (x : Beside) (y : NamedView). IsNamedRecording x y o logged (observed_of o.form o texts) r) be ne recording);
   }
   records_as (Err Memory) b n logged be ne se refused = tt
-  records_as (Err (BadPattern place)) b n logged be ne se refused = absurd refused
-  records_as (Err NotALog) b n logged be ne se refused = absurd refused
-  records_as (Err Instances) b n logged be ne se refused = record { log = log; says = says; some = some; refused = subst (λ (y : NamedView). IsRefused y Instances) ne refused }
-  records_as (Err (ToItself place)) b n logged be ne se refused = record { log = log; says = says; some = some; refused = subst (λ (y : NamedView). IsRefused y (ToItself place)) ne refused }
-  records_as (Err (LineFull name)) b n logged be ne se refused = record { log = log; says = says; some = some; refused = subst (λ (y : NamedView). IsRefused y (LineFull name)) ne refused }
+  records_as (Err (BadPattern place fault)) b n logged be ne se refused = absurd refused
+  records_as (Err (NotALog lines others)) b n logged be ne se refused = absurd refused
+  records_as (Err (NoReceive sends lines others)) b n logged be ne se refused = absurd refused
+  records_as (Err Instances) b n logged be ne se refused = record { log = log; is_log = is_log; refused = subst (λ (y : NamedView). IsRefused y Instances) ne refused }
+  records_as (Err (ToItself place)) b n logged be ne se refused = record { log = log; is_log = is_log; refused = subst (λ (y : NamedView). IsRefused y (ToItself place)) ne refused }
+  records_as (Err (LineFull name)) b n logged be ne se refused = record { log = log; is_log = is_log; refused = subst (λ (y : NamedView). IsRefused y (LineFull name)) ne refused }
 
 -- there are words for each line
 settled_length : (log out : List Entry) → Settles log out → length out ≡ length log

@@ -1,3 +1,4 @@
 pub mod Spots
 pub mod DiagnosticLines
+pub mod EventsRead
 pub mod Diagnostics

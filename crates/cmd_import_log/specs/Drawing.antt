@@ -1,5 +1,6 @@
 -- The chart of a log, and what is told of it.
-use Rattle.std.specs.Prelude.{◌≡◌, ℕ, ◌<◌, ◌≤◌, ◌⊎◌, List, [], length, map, None, Some, Result, Ok, Err}
+use Rattle.std.specs.Prelude.{◌≡◌, ℕ, Bool, true, false, ◌<◌, ◌≤◌, ◌⊎◌, List, [], ◌∷◌, ◌++◌, length, map, Option, None, Some, bytes_eq, Result, Ok, Err, if◌then◌else◌}
+use Rattle.std.specs.List.{list_any}
 use Rattle.chart.specs.Charts.{chart_lines, IsPossible}
 use Rattle.diagram_labels.specs.Renaming.{renamed_view, renamed_from}
 use Rattle.diagram_labels.specs.Labels.{Labelling}
@@ -14,14 +15,16 @@ use Rattle.log_chart.specs.declared.charts.listing.Overtaking.{Overtaking as Cha
 use Rattle.log_chart.specs.Cycles.Freeing.{Settles}
 use Rattle.log_chart.specs.declared.named.entering.LogError.TheVariants as faults
 use Rattle.log_lines.specs.declared.event.Place.{Place}
+use Rattle.log_lines.specs.declared.read.Others.{Others}
 use Rattle.log_lines.specs.Names.Naming.{NamedView, named}
+use Rattle.log_lines.specs.declared.names.line.NamedLine.{NamedLine}
 use Rattle.log_chart.specs.HostLines.{host_lines}
 use Rattle.log_chart.specs.declared.entry.Entry.{Entry}
 use Rattle.log_chart.specs.declared.entry.Place.{Place as EntryPlace}
 use Rattle.texts.specs.Instances.{name_at}
 use Rattle.cmd_import_log.specs.Entries.{entries_in, names_in, fault_in}
 use Rattle.cmd_import_log.specs.Options.{OptionsView}
-use Rattle.cmd_import_log.specs.Reading.{LogView, Says, IsBadForm}
+use Rattle.cmd_import_log.specs.Reading.{LogView, has_receive, Says, IsBadForm}
 use Rattle.cmd_import_log.specs.declared.drawing.Beside.{Beside}
 use Rattle.cmd_import_log.specs.declared.drawing.LogDrawing.{LogDrawing}
 use Rattle.cmd_import_log.specs.declared.drawing.Settled.{Settled}
@@ -43,16 +46,29 @@ renames_of l = renamed_from [] l.labels l.names
 abbrev pub beside : LogView → Beside
 beside log = record { lines = log.lines; others = log.read.others; is_captured = log.is_captured; is_timed = log.is_timed }
 
+-- a host has a line of its own
+abbrev pub has_line : List NamedLine → List ℕ → Bool
+has_line lines name = list_any (λ line. bytes_eq line.host name) lines
+
+-- with those of these hosts that have none
+abbrev pub with_lineless : List NamedLine → List (List ℕ) → List (List ℕ) → List (List ℕ)
+with_lineless lines found [] = found
+with_lineless lines found (name ∷ names) =
+    with_lineless lines (if has_line lines name then found else found ++ name ∷ []) names
+
 -- this is told of what was read beside a log's events, of its lines by names, of the names of its instances, and of its
 -- chart
 pub record AreDiagnosticsOf (b : Beside) (n : NamedView) (called : List (List ℕ)) (built : LogChart) (diagnostics : Diagnostics) : Type 0 where
   pub lines : diagnostics.lines ≡ b.lines
+  pub events : diagnostics.events ≡ length n.lines
+  pub lineless : diagnostics.lineless.items ≡ with_lineless n.lines [] n.hosts.names
   pub others : diagnostics.others ≡ b.others
   pub own : diagnostics.own ≡ n.own
   pub captured : diagnostics.is_captured ≡ b.is_captured
   pub timed : diagnostics.is_timed ≡ b.is_timed
   pub lost : diagnostics.lost.items ≡ map log_place built.lost.items
   pub overtaking : diagnostics.overtaking.items ≡ map log_overtaking built.overtaking.items
+  pub one_ended : diagnostics.is_one_ended ≡ built.is_one_ended
   pub freed : diagnostics.freed.items ≡ map log_place built.freed.items
   pub names : diagnostics.names ≡ called
   pub invented : diagnostics.invented ≡ built.invented
@@ -103,8 +119,9 @@ pub record IsFull (names : List (List ℕ)) (entries : List Entry) (name : List 
 -- the lines by names have no chart
 abbrev pub IsRefused : NamedView → LogImportError → Type 0
 IsRefused n errors.Memory = Unit {0}
-IsRefused n (errors.BadPattern place) = ⊥
-IsRefused n errors.NotALog = ⊥
+IsRefused n (errors.BadPattern place fault) = ⊥
+IsRefused n (errors.NotALog lines others) = ⊥
+IsRefused n (errors.NoReceive sends lines others) = ⊥
 IsRefused n errors.Instances = AreUnfit n
 IsRefused n (errors.ToItself place) = (p : EntryPlace) × (fault_in n ≡ Some (faults.ToItself p)) × (place ≡ log_place p)
 IsRefused n (errors.LineFull name) = IsFull (names_in n) (entries_in n) name
@@ -117,31 +134,47 @@ DrawsNamed (Err e) b n = IsRefused n e
 abbrev pub named_in : OptionsView → LogView → NamedView
 named_in o log = named o.hosts o.peers log.read.logged
 
+-- the texts say this, and some line is a receive
+pub record IsLog (o : OptionsView) (texts : List (List ℕ)) (log : LogView) : Type 0 where
+  pub says : Says o.form o.range texts log
+  pub received : has_receive log.read.logged ≡ true
+
 -- the chart is that of what the texts say, and so is what is told
 pub record IsDrawingOf (o : OptionsView) (texts : List (List ℕ)) (d : LogDrawing) : Type 0 where
   pub log : LogView
-  pub says : Says o.form o.range texts log
-  pub some : log.read.logged ≡ [] → ⊥
+  pub is_log : IsLog o texts log
   pub drawing : IsNamedDrawing (beside log) (named_in o log) d
 
 -- the texts say a log that has no chart
 pub record IsRefusedLog (o : OptionsView) (texts : List (List ℕ)) (error : LogImportError) : Type 0 where
   pub log : LogView
-  pub says : Says o.form o.range texts log
-  pub some : log.read.logged ≡ [] → ⊥
+  pub is_log : IsLog o texts log
   pub refused : IsRefused (named_in o log) error
 
--- the texts say no message
-pub record IsNoLog (o : OptionsView) (texts : List (List ℕ)) : Type 0 where
+-- the texts say no message in so many lines, of which these aren't read
+pub record IsNoLog (o : OptionsView) (texts : List (List ℕ)) (lines : ℕ) (others : Option Others) : Type 0 where
   pub log : LogView
   pub says : Says o.form o.range texts log
   pub none : log.read.logged ≡ []
+  pub counted : lines ≡ log.lines
+  pub unread : others ≡ log.read.others
+
+-- the texts say so many events in so many lines, of which these aren't read, and none is a receive
+pub record IsWithoutReceive (o : OptionsView) (texts : List (List ℕ)) (sends lines : ℕ) (others : Option Others) : Type 0 where
+  pub log : LogView
+  pub says : Says o.form o.range texts log
+  pub some : log.read.logged ≡ [] → ⊥
+  pub none : has_receive log.read.logged ≡ false
+  pub sent : sends ≡ length log.read.logged
+  pub counted : lines ≡ log.lines
+  pub unread : others ≡ log.read.others
 
 -- the texts have no chart, or memory ran out
 abbrev pub IsRefusalOf : OptionsView → List (List ℕ) → LogImportError → Type 0
 IsRefusalOf o texts errors.Memory = Unit {0}
-IsRefusalOf o texts (errors.BadPattern place) = IsBadForm o.form (errors.BadPattern place)
-IsRefusalOf o texts errors.NotALog = IsNoLog o texts
+IsRefusalOf o texts (errors.BadPattern place fault) = IsBadForm o.form (errors.BadPattern place fault)
+IsRefusalOf o texts (errors.NotALog lines others) = IsNoLog o texts lines others
+IsRefusalOf o texts (errors.NoReceive sends lines others) = IsWithoutReceive o texts sends lines others
 IsRefusalOf o texts errors.Instances = IsRefusedLog o texts errors.Instances
 IsRefusalOf o texts (errors.ToItself place) = IsRefusedLog o texts (errors.ToItself place)
 IsRefusalOf o texts (errors.LineFull name) = IsRefusedLog o texts (errors.LineFull name)

@@ -28,11 +28,11 @@ module _ {S : Type 0} (sink : S → Sink) where
 abbrev pub diagnostics_exit : List (List ℕ) → Diagnostics → Exit
 diagnostics_exit files diagnostics = record { status = 0; diagnostics = Some (diagnostics_text files diagnostics) }
 
--- the line of a refusal
-abbrev pub log_write_error_text : LogWriteError → List ℕ
-log_write_error_text Write = labelled_text (codes "F24 Write") None
-log_write_error_text (Log error) = log_refusal_text error
+-- the text of a refusal
+abbrev pub log_write_error_text : List (List ℕ) → LogWriteError → List ℕ
+log_write_error_text files Write = labelled_text (codes "F24 Write") None
+log_write_error_text files (Log error) = log_refusal_text files error
 
 -- what is said of an import
 abbrev pub imported_exit : List (List ℕ) → Result Diagnostics LogWriteError → Exit
-imported_exit files = exit_of (diagnostics_exit files) (λ error. refusal (log_write_error_text error))
+imported_exit files = exit_of (diagnostics_exit files) (λ error. refusal (log_write_error_text files error))

@@ -2,6 +2,7 @@ pub mod Answers
 pub mod Counting
 pub mod Drawing
 pub mod Entries
+pub mod Faults
 pub mod Importing
 pub mod Options
 pub mod Reading

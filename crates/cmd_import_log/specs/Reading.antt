@@ -1,14 +1,17 @@
 -- What the texts of a log say, given which lines an expression matches and what its groups are (the regex crate's word).
-use Rattle.std.specs.Prelude.{◌≡◌, ℕ, ◌+◌, ◌==◌, ◌&&◌, ◌≤◌, Bool, true, false, List, [], ◌∷◌, Option, None, Some, length, if◌then◌else◌}
+use Rattle.std.specs.Prelude.{◌≡◌, ℕ, ◌+◌, ◌==◌, ◌&&◌, Bool, true, false, List, [], ◌∷◌, Option, None, Some, length, if◌then◌else◌}
 use Rattle.regex.specs.Bytes.{regex_pattern}
 use Rattle.log_formats.specs.Clocks.Saying.{by_clocks, is_timed}
+use Rattle.std.specs.List.{list_any}
 use Rattle.log_lines.specs.Events.{LoggedEventView}
 use Rattle.log_lines.specs.PlainReading.{plain_read}
 use Rattle.log_lines.specs.Reading.{ReadView, read_view}
 use Rattle.log_lines.specs.ShiViz.{shiviz_read}
+use Rattle.log_lines.specs.declared.event.Act.{Act}
+use Rattle.log_lines.specs.declared.event.Act.TheVariants.{Send, Receive}
 use Rattle.log_lines.specs.declared.event.Place.{Place}
 use Rattle.log_lines.specs.declared.range.LineRange.{LineRange}
-use Rattle.log_formats.specs.Patterns.Expressions.{IsExpression}
+use Rattle.log_formats.specs.Patterns.Expressions.{IsExpression, IsFault}
 use Rattle.log_formats.specs.Patterns.PatternReading.{pattern_read}
 use Rattle.log_formats.specs.declared.patterns.expression.Expression.{Expression}
 use Rattle.cmd_import_log.specs.Counting.{lines_read}
@@ -16,6 +19,14 @@ use Rattle.cmd_import_log.specs.Options.{FormView, Plain, Pattern, ShiViz}
 use Rattle.cmd_import_log.specs.declared.error.LogImportError.{LogImportError}
 use Rattle.cmd_import_log.specs.declared.error.LogImportError.TheVariants as errors
 use Rattle.cmd_import_log.specs.declared.reading.ReadLog.{ReadLog}
+
+-- some line says a receive
+abbrev pub is_receive : Act → Bool
+is_receive Send = false
+is_receive Receive = true
+
+abbrev pub has_receive : List LoggedEventView → Bool
+has_receive logged = list_any (λ s. is_receive s.event.act) logged
 
 -- what is read, of how many lines, whether messages were captured, and whether clocks tell of some
 pub record LogView : Type 0 where
@@ -70,11 +81,12 @@ Says Plain range texts log = log ≡ plain_log range texts
 Says (Pattern text) range texts log = IsReadBy text range texts log
 Says ShiViz range texts log = log ≡ clocked_log range texts
 
--- a text is no expression: this is a place of it, or behind its end; or memory ran out
+-- a text is no expression, since it has this fault at this place; or memory ran out
 abbrev pub IsBadExpression : List ℕ → LogImportError → Type 0
 IsBadExpression text errors.Memory = Unit {0}
-IsBadExpression text (errors.BadPattern place) = (1 ≤ place) × (place ≤ length text + 1)
-IsBadExpression text errors.NotALog = ⊥
+IsBadExpression text (errors.BadPattern place fault) = IsFault text place fault
+IsBadExpression text (errors.NotALog lines others) = ⊥
+IsBadExpression text (errors.NoReceive sends lines others) = ⊥
 IsBadExpression text errors.Instances = ⊥
 IsBadExpression text (errors.ToItself place) = ⊥
 IsBadExpression text (errors.LineFull name) = ⊥
@@ -82,8 +94,9 @@ IsBadExpression text (errors.LineFull name) = ⊥
 -- no expression is needed, so only memory may have run out
 abbrev pub IsMemory : LogImportError → Type 0
 IsMemory errors.Memory = Unit {0}
-IsMemory (errors.BadPattern place) = ⊥
-IsMemory errors.NotALog = ⊥
+IsMemory (errors.BadPattern place fault) = ⊥
+IsMemory (errors.NotALog lines others) = ⊥
+IsMemory (errors.NoReceive sends lines others) = ⊥
 IsMemory errors.Instances = ⊥
 IsMemory (errors.ToItself place) = ⊥
 IsMemory (errors.LineFull name) = ⊥

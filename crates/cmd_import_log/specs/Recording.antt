@@ -1,5 +1,5 @@
 -- The recording of a log: its lines as its chart has them, and what it tells beside them (this project's profile of logs).
-use Rattle.std.specs.Prelude.{◌≡◌, ℕ, ◌&&◌, Bool, false, not, List, [], length, map, Result, Ok, Err}
+use Rattle.std.specs.Prelude.{◌≡◌, ℕ, ◌&&◌, Bool, false, not, List, length, map, Result, Ok, Err}
 use Rattle.log_lines.specs.Events.{LoggedEventView}
 use Rattle.log_lines.specs.Names.Naming.{NamedView}
 use Rattle.log_lines.specs.Takes.Arrivals.{arrivals_in}
@@ -10,9 +10,9 @@ use Rattle.log_chart.specs.Matching.{matched}
 use Rattle.log_chart.specs.declared.entry.Entry.{Entry}
 use Rattle.race_verdicts.specs.Recordings.{RecordingView, words_view, taken_view}
 use Rattle.race_verdicts.specs.declared.recording.Arrival.{Arrival}
-use Rattle.cmd_import_log.specs.Drawing.{beside, named_in, IsNamedDrawing, IsRefused, IsRefusalOf}
+use Rattle.cmd_import_log.specs.Drawing.{beside, named_in, IsNamedDrawing, IsLog, IsRefused, IsRefusalOf}
 use Rattle.cmd_import_log.specs.Options.{FormView, Plain, Pattern, ShiViz, OptionsView}
-use Rattle.cmd_import_log.specs.Reading.{LogView, Says}
+use Rattle.cmd_import_log.specs.Reading.{LogView}
 use Rattle.cmd_import_log.specs.declared.drawing.Beside.{Beside}
 use Rattle.cmd_import_log.specs.declared.error.LogImportError.{LogImportError}
 use Rattle.cmd_import_log.specs.declared.recording.LogRecording.{LogRecording}
@@ -63,8 +63,7 @@ RecordsNamed (Err e) b n o logged observed = IsRefused n e
 -- the recording is that of what the texts say
 pub record IsRecordingOf (o : OptionsView) (texts : List (List ℕ)) (r : LogRecording) : Type 0 where
   pub log : LogView
-  pub says : Says o.form o.range texts log
-  pub some : log.read.logged ≡ [] → ⊥
+  pub is_log : IsLog o texts log
   pub recording : IsNamedRecording (beside log) (named_in o log) o log.read.logged (observed_of o.form o texts) r
 
 -- texts without a recording are those without a chart

@@ -1,6 +1,11 @@
 -- The lines of a log's refusals.
-use Rattle.std.specs.Prelude.{ℕ, ◌++◌, List, codes, None, Some}
+use Rattle.std.specs.Prelude.{ℕ, ◌==◌, ◌++◌, List, Option, codes, decimal, None, Some, if◌then◌else◌}
 use Rattle.cmd_base.specs.Refusals.{labelled_text}
+use Rattle.log_formats.specs.declared.patterns.expression.Fault.{Fault}
+use Rattle.log_lines.specs.declared.read.Others.{Others}
+use Rattle.cmd_import_log.specs.Answers.DiagnosticLines.{others_of_text}
+use Rattle.cmd_import_log.specs.Answers.Diagnostics.{one_ended_note}
+use Rattle.cmd_import_log.specs.Faults.{fault_text}
 use Rattle.cmd_import_log.specs.declared.error.LogImportError.{LogImportError}
 use Rattle.cmd_import_log.specs.declared.error.LogImportError.TheVariants as errors
 
@@ -8,10 +13,54 @@ use Rattle.cmd_import_log.specs.declared.error.LogImportError.TheVariants as err
 unfoldable pub full_text : List ℕ → List ℕ
 full_text name = codes "refused: F7 LineFull " ++ (name ++ codes "\n")
 
-abbrev pub log_refusal_text : LogImportError → List ℕ
-log_refusal_text errors.Memory = labelled_text (codes "F6 Memory") None
-log_refusal_text (errors.BadPattern place) = labelled_text (codes "F39 BadPattern") (Some place)
-log_refusal_text errors.NotALog = labelled_text (codes "F38 NotALog") None
-log_refusal_text errors.Instances = labelled_text (codes "F8 Instances") None
-log_refusal_text (errors.ToItself place) = labelled_text (codes "F13 ToItself") (Some place.line)
-log_refusal_text (errors.LineFull name) = full_text name
+-- the line of F39, with the place
+unfoldable pub place_text : ℕ → List ℕ
+place_text place = codes "refused: F39 BadPattern " ++ (decimal place ++ codes "\n")
+
+-- and behind it what is wrong with the expression
+unfoldable pub bad_pattern_text : ℕ → Fault → List ℕ
+bad_pattern_text place fault = place_text place ++ fault_text fault
+
+unfoldable pub no_log_line : List ℕ
+no_log_line = codes "refused: F38 NotALog\n"
+
+-- the line of F38, and behind it which lines aren't read, where these are the names of several files, or none of one
+unfoldable pub no_log_text : List (List ℕ) → ℕ → Option Others → List ℕ
+no_log_text files lines others =
+    no_log_line ++ others_of_text files lines (codes "lines doesn't match") (codes "lines don't match") others
+
+-- how many lines say a message, though none is a receive
+unfoldable pub one_send_text : List ℕ
+one_send_text = codes "1 line matches, and it isn't a receive\n"
+
+unfoldable pub several_sends_text : ℕ → List ℕ
+several_sends_text sends = decimal sends ++ codes " lines match, and none is a receive\n"
+
+abbrev pub sends_text : ℕ → List ℕ
+sends_text sends = if sends == 1 then one_send_text else several_sends_text sends
+
+unfoldable pub no_receive_line : List ℕ
+no_receive_line = codes "refused: F51 NoReceive\n"
+
+-- the line of F51, behind it what is read, and which lines aren't, where these are the names of several files, or none of one
+unfoldable pub no_receive_text : List (List ℕ) → ℕ → ℕ → Option Others → List ℕ
+no_receive_text files sends lines others =
+    no_receive_line
+    ++ (sends_text sends ++ others_of_text files lines (codes "lines doesn't match") (codes "lines don't match") others)
+
+unfoldable pub one_end_line : List ℕ
+one_end_line = codes "refused: F52 OneEnd\n"
+
+-- the line of F52, and why
+unfoldable pub one_end_text : List ℕ
+one_end_text = one_end_line ++ one_ended_note
+
+-- what is told of a log's refusal
+abbrev pub log_refusal_text : List (List ℕ) → LogImportError → List ℕ
+log_refusal_text files errors.Memory = labelled_text (codes "F6 Memory") None
+log_refusal_text files (errors.BadPattern place fault) = bad_pattern_text place fault
+log_refusal_text files (errors.NotALog lines others) = no_log_text files lines others
+log_refusal_text files (errors.NoReceive sends lines others) = no_receive_text files sends lines others
+log_refusal_text files errors.Instances = labelled_text (codes "F8 Instances") None
+log_refusal_text files (errors.ToItself place) = labelled_text (codes "F13 ToItself") (Some place.line)
+log_refusal_text files (errors.LineFull name) = full_text name

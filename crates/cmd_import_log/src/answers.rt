@@ -7,9 +7,12 @@
 
 mod diagnostic_lines;
 mod diagnostics;
+mod events_read;
 mod overtaking;
 mod spot;
 
+pub(crate) use diagnostic_lines::add_others_of;
+pub(crate) use diagnostics::add_one_ended_note;
 pub use diagnostics::{Diagnostics, write_diagnostics};
 pub use overtaking::Overtaking;
 pub use spot::Spot;

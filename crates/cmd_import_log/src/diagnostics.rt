@@ -1,11 +1,13 @@
 //! What is told of a log's chart.
-ghost use Rattle.std.specs.Prelude.{◌≡◌, map, IfOk};
+ghost use Rattle.std.specs.Prelude.{◌≡◌, [], map, IfOk};
 ghost use Rattle.diagram_labels.specs.Renaming.{renamed_view};
-ghost use Rattle.cmd_import_log.specs.Drawing.{log_place, log_overtaking, renames_of};
+ghost use Rattle.cmd_import_log.specs.Drawing.{log_place, log_overtaking, has_line, with_lineless, renames_of};
 
 use crate::answers::Overtaking;
+use chart::Name;
 use diagram_labels::{LabelNames, Renamed, add_renamed_labels};
 use log_lines::Place;
+use log_lines::names::NamedLine;
 use std::alloc::{AllocError, Global};
 
 /// A line of the log as it is told.
@@ -48,6 +50,30 @@ pub(crate) fn overtakings_of(
         .iter()
         .map(|overtaking| overtaking_of(overtaking))
         .collect(alloc)
+}
+
+/// Whether a host has a line of its own.
+fn has_line(lines: &[NamedLine], name: &Name) -> bool
+    ensures { result ≡ has_line lines.now name.now }
+{
+    lines.iter().any(|line| line.host == *name)
+}
+
+/// The hosts that have no line of their own, by the names of all.
+pub(crate) fn lineless_hosts(
+    alloc: Global,
+    lines: &[NamedLine],
+    hosts: &[Name],
+) -> Result<Vec<Name>, AllocError>
+    ensures { IfOk result (λ lineless. lineless.items ≡ with_lineless lines.now [] hosts.now) }
+{
+    let mut lineless = Vec::new(alloc);
+    for name in hosts {
+        if !has_line(lines, name) {
+            lineless.push(*name)?;
+        }
+    }
+    Ok(lineless)
 }
 
 /// Those of the labels whose names aren't their words.

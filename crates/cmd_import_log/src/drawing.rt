@@ -11,11 +11,12 @@ ghost use Rattle.cmd_import_log.specs.Entries.{entries_in, names_in};
 ghost use Rattle.cmd_import_log.specs.Options.{options_view};
 
 use crate::answers::Diagnostics;
-use crate::diagnostics::{overtakings_of, places_of, renamed_in};
+use crate::diagnostics::{lineless_hosts, overtakings_of, places_of, renamed_in};
 use crate::entries::entries_in;
 use crate::error::LogImportError;
+use crate::messages::messages_in;
 use crate::options::Options;
-use crate::reading::{ReadLog, read_log};
+use crate::reading::ReadLog;
 use chart::{Chart, Names};
 use log_chart::Entry;
 use log_chart::charts::{DrawError, LogChart, draw};
@@ -71,15 +72,19 @@ fn with_diagnostics(
         overtaking,
         invented,
         freed,
+        is_one_ended,
     } = built;
     Ok(LogDrawing {
         chart,
         diagnostics: Diagnostics {
             lines: beside.lines,
+            events: named.lines.len() as u64,
+            lineless: lineless_hosts(alloc, &named.lines, named.hosts.names())?,
             others: beside.others,
             own: named.own,
             is_captured: beside.is_captured,
             is_timed: beside.is_timed,
+            is_one_ended,
             lost: places_of(alloc, &lost)?,
             overtaking: overtakings_of(alloc, &overtaking)?,
             freed: places_of(alloc, &freed)?,
@@ -133,7 +138,8 @@ fn drawing_of(alloc: Global, beside: Beside, named: &NamedLog) -> Result<LogDraw
 
 /// The chart that the texts of a log say. It is possible.
 ///
-/// F39 refuses an expression that is none, F38 texts in which no line says a message, then F8, F13 and F7 a log
+/// F39 refuses an expression that is none, F38 texts in which no line says a message, F51 those in
+/// which none says a receive, then F8, F13 and F7 a log
 /// without a chart. F6 may come at any point.
 pub fn drawing_in(
     alloc: Global,
@@ -149,10 +155,7 @@ pub fn drawing_in(
         lines,
         is_captured,
         is_timed,
-    } = read_log(alloc, options.form, options.range, texts)?;
-    if read.logged.as_slice().is_empty() {
-        return Err(LogImportError::NotALog);
-    }
+    } = messages_in(alloc, &options, texts)?;
     let named = named(alloc, options.hosts, options.peers, &read.logged)?;
     let beside = Beside {
         lines,

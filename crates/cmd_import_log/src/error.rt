@@ -3,7 +3,8 @@ ghost use Rattle.std.specs.Prelude.{◌≡◌};
 ghost use Rattle.cmd_import_log.specs.declared.error.LogImportError.TheVariants.{Memory};
 
 use chart::Name;
-use log_lines::Place;
+use log_formats::patterns::Fault;
+use log_lines::{Others, Place};
 use std::alloc::{AllocError, AllocFailed};
 
 /// Why a log has no chart: its first refusal, or that memory ran out.
@@ -11,11 +12,14 @@ use std::alloc::{AllocError, AllocFailed};
 pub enum LogImportError {
     /// F6: a growth was refused.
     Memory,
-    /// F39: what stands at this place of the expression, counted in bytes from 1, can't be read, or behind its end the
-    /// groups are missing.
-    BadPattern(usize),
-    /// F38: no line of the files says a message.
-    NotALog,
+    /// F39: the expression has this fault, which begins at this place, counted in bytes from 1, or is told of the one
+    /// behind its end.
+    BadPattern(usize, Fault),
+    /// F38: none of so many lines of the files says a message. Of these lines aren't read, if any.
+    NotALog(u64, Option<Others>),
+    /// F51: so many lines say a message, and none is a receive. Of so many lines of the files these aren't read, if
+    /// any.
+    NoReceive(u64, u64, Option<Others>),
     /// F8: there are fewer than two hosts, or more than 32.
     Instances,
     /// F13: in this line a host is its own peer.

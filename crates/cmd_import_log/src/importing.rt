@@ -45,12 +45,12 @@ fn translate<W: Out>(
 }
 
 /// Prints the line of a refusal, and answers the exit status.
-fn refused<V: Out>(error: &LogWriteError, err: &mut V) -> u8
+fn refused<V: Out>(files: &[&[u8]], error: &LogWriteError, err: &mut V) -> u8
     ensures status { result ≡ 2 }
-    ensures line { Tried V.sink err.old err.new (log_write_error_text error.now) }
+    ensures line { Tried V.sink err.old err.new (log_write_error_text (map (λ file. file.now) files.now) error.now) }
 {
     match error {
-        LogWriteError::Log(error) => refused_log(error, err),
+        LogWriteError::Log(error) => refused_log(files, error, err),
         LogWriteError::Write => refused_by(b"F24 Write", None, err),
     }
 }
@@ -82,6 +82,6 @@ pub fn import<W: Out, V: Out>(
 {
     match translate(alloc, options, texts, out) {
         Ok(diagnostics) => print_diagnostics(files, &diagnostics, err),
-        Err(error) => refused(&error, err),
+        Err(error) => refused(files, &error, err),
     }
 }

@@ -1,7 +1,7 @@
 //! What the bytes of a log say.
 ghost use Rattle.std.specs.Prelude.{◌≡◌, None, map, IfOk, IfErr};
 ghost use Rattle.log_lines.specs.Events.{logged_event_view};
-ghost use Rattle.log_formats.specs.Patterns.Expressions.{IsExpression, IsBad};
+ghost use Rattle.log_formats.specs.Patterns.Expressions.{IsExpression};
 ghost use Rattle.cmd_import_log.specs.Options.{form_view};
 ghost use Rattle.cmd_import_log.specs.Reading.{log_view, is_of_line, is_captured, plain_log, clocked_log, IsReadBy, Says, IsBadExpression, IsBadForm};
 
@@ -93,7 +93,7 @@ fn expression_in(alloc: Global, text: &str) -> Result<Expression, LogImportError
     match Expression::new(alloc, text) {
         Ok(expression) => Ok(expression),
         Err(BadExpression::Memory) => Err(LogImportError::Memory),
-        Err(BadExpression::At(place)) => Err(LogImportError::BadPattern(place)),
+        Err(BadExpression::At(place, fault)) => Err(LogImportError::BadPattern(place, fault)),
     }
 }
 

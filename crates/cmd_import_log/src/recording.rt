@@ -10,8 +10,9 @@ ghost use Rattle.cmd_import_log.specs.Recording.{lent_of, is_known, observed_of,
 
 use crate::drawing::{Beside, LogDrawing, Settled, settled_of};
 use crate::error::LogImportError;
+use crate::messages::messages_in;
 use crate::options::{Form, Options};
-use crate::reading::{ReadLog, read_log};
+use crate::reading::ReadLog;
 use log_chart::{Entry, HostLine, HostLines, LogLine, host_lines};
 use log_lines::LoggedEvent;
 use log_lines::names::{NamedLog, named};
@@ -149,7 +150,8 @@ fn recording_of<'a>(
 /// The recording that the texts of a log say: its chart is the one of [`drawing_in`](crate::drawing_in), and there is
 /// none exactly where that has none.
 ///
-/// F39 refuses an expression that is none, F38 texts in which no line says a message, then F8, F13 and F7 a log
+/// F39 refuses an expression that is none, F38 texts in which no line says a message, F51 those in
+/// which none says a receive, then F8, F13 and F7 a log
 /// without a chart. F6 may come at any point.
 pub fn recording_in<'a>(
     alloc: Global,
@@ -167,10 +169,7 @@ pub fn recording_in<'a>(
         lines,
         is_captured,
         is_timed,
-    } = read_log(alloc, options.form, options.range, texts)?;
-    if read.logged.as_slice().is_empty() {
-        return Err(LogImportError::NotALog);
-    }
+    } = messages_in(alloc, &options, texts)?;
     let named = named(alloc, options.hosts, options.peers, &read.logged)?;
     let beside = Beside {
         lines,

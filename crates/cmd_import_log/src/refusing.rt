@@ -1,12 +1,17 @@
 //! The lines of a log's refusals.
-ghost use Rattle.std.specs.Prelude.{◌≡◌};
+ghost use Rattle.std.specs.Prelude.{◌≡◌, map};
 ghost use Rattle.texts.specs.Writing.{Wrote, Adds};
 ghost use Rattle.cmd_base.specs.Refusals.{Tried};
-ghost use Rattle.cmd_import_log.specs.Refusals.{full_text, log_refusal_text};
+ghost use Rattle.cmd_import_log.specs.Refusals.{full_text, place_text, bad_pattern_text, no_log_line, no_log_text, no_receive_line, one_end_line};
+ghost use Rattle.cmd_import_log.specs.Refusals.{one_send_text, several_sends_text, sends_text, no_receive_text, one_end_text, log_refusal_text};
 
+use crate::answers::{add_one_ended_note, add_others_of};
 use crate::error::LogImportError;
+use crate::faults::add_fault;
 use chart::Name;
 use cmd_base::refused_by;
+use log_formats::patterns::Fault;
+use log_lines::Others;
 use texts::pieces::{Piece, add_pieces};
 use texts::{Out, TextBuffer, WriteError};
 
@@ -43,18 +48,243 @@ fn refused_full<V: Out>(name: &Name, err: &mut V) -> u8
     2
 }
 
-/// Prints the line of a log's refusal, and answers the exit status, which is 2 whether or not the line could be
-/// written.
-pub fn refused_log<V: Out>(error: &LogImportError, err: &mut V) -> u8
+/// Adds the line of F39.
+#[tactic(auto, unfolding(crate::specs::Refusals::place_text))]
+fn add_place<V: Out>(text: &mut TextBuffer<'_, V>, place: usize) -> Result<(), WriteError>
+    ensures { Adds V.sink text.old text.new result (place_text place) }
+{
+    add_pieces(
+        text,
+        &[
+            Piece::Bytes(b"refused: F39 BadPattern "),
+            Piece::Number(place as u64),
+            Piece::Bytes(b"\n"),
+        ],
+    )
+}
+
+/// Adds the line of F39 and what is wrong with the expression.
+#[tactic(auto, using(texts::proofs::Writes::joining), unfolding(crate::specs::Refusals::bad_pattern_text))]
+fn add_pattern<V: Out>(
+    text: &mut TextBuffer<'_, V>,
+    place: usize,
+    fault: Fault,
+) -> Result<(), WriteError>
+    ensures { Adds V.sink text.old text.new result (bad_pattern_text place fault) }
+{
+    add_place(text, place)?;
+    add_fault(text, fault)
+}
+
+#[tactic(auto, using(texts::proofs::Writes::joining))]
+fn write_pattern<V: Out>(place: usize, fault: Fault, err: &mut V) -> Result<(), WriteError>
+    ensures { Wrote V.sink err.old err.new result (bad_pattern_text place fault) }
+{
+    let mut text = TextBuffer::new(err);
+    add_pattern(&mut text, place, fault)?;
+    text.finish()
+}
+
+/// Prints the line of F39 and what is wrong with the expression, and answers the exit status.
+fn refused_pattern<V: Out>(place: usize, fault: Fault, err: &mut V) -> u8
     ensures status { result ≡ 2 }
-    ensures line { Tried V.sink err.old err.new (log_refusal_text error.now) }
+    ensures line { Tried V.sink err.old err.new (bad_pattern_text place fault) }
+{
+    let _ = write_pattern(place, fault, err);
+    2
+}
+
+#[tactic(auto, unfolding(crate::specs::Refusals::no_log_line))]
+fn add_no_log_line<V: Out>(text: &mut TextBuffer<'_, V>) -> Result<(), WriteError>
+    ensures { Adds V.sink text.old text.new result no_log_line }
+{
+    text.add(b"refused: F38 NotALog\n")
+}
+
+/// Adds the line of F38 and which lines aren't read.
+#[tactic(auto, using(texts::proofs::Writes::joining), unfolding(crate::specs::Refusals::no_log_text))]
+fn add_no_log<V: Out>(
+    text: &mut TextBuffer<'_, V>,
+    files: &[&[u8]],
+    lines: u64,
+    others: Option<Others>,
+) -> Result<(), WriteError>
+    ensures { Adds V.sink text.old text.new result (no_log_text (map (λ file. file.now) files.now) lines others) }
+{
+    add_no_log_line(text)?;
+    add_others_of(
+        text,
+        files,
+        lines,
+        b"lines doesn't match",
+        b"lines don't match",
+        others,
+    )
+}
+
+#[tactic(auto, using(texts::proofs::Writes::joining))]
+fn write_no_log<V: Out>(
+    files: &[&[u8]],
+    lines: u64,
+    others: Option<Others>,
+    err: &mut V,
+) -> Result<(), WriteError>
+    ensures { Wrote V.sink err.old err.new result (no_log_text (map (λ file. file.now) files.now) lines others) }
+{
+    let mut text = TextBuffer::new(err);
+    add_no_log(&mut text, files, lines, others)?;
+    text.finish()
+}
+
+/// Prints the line of F38 and which lines aren't read, and answers the exit status.
+fn refused_no_log<V: Out>(files: &[&[u8]], lines: u64, others: Option<Others>, err: &mut V) -> u8
+    ensures status { result ≡ 2 }
+    ensures line { Tried V.sink err.old err.new (no_log_text (map (λ file. file.now) files.now) lines others) }
+{
+    let _ = write_no_log(files, lines, others, err);
+    2
+}
+
+#[tactic(auto, unfolding(crate::specs::Refusals::one_send_text))]
+fn add_one_send<V: Out>(text: &mut TextBuffer<'_, V>) -> Result<(), WriteError>
+    ensures { Adds V.sink text.old text.new result one_send_text }
+{
+    text.add(b"1 line matches, and it isn't a receive\n")
+}
+
+#[tactic(auto, unfolding(crate::specs::Refusals::several_sends_text))]
+fn add_several_sends<V: Out>(text: &mut TextBuffer<'_, V>, sends: u64) -> Result<(), WriteError>
+    ensures { Adds V.sink text.old text.new result (several_sends_text sends) }
+{
+    add_pieces(
+        text,
+        &[
+            Piece::Number(sends),
+            Piece::Bytes(b" lines match, and none is a receive\n"),
+        ],
+    )
+}
+
+/// Adds how many lines say a message, though none is a receive.
+fn add_sends<V: Out>(text: &mut TextBuffer<'_, V>, sends: u64) -> Result<(), WriteError>
+    ensures { Adds V.sink text.old text.new result (sends_text sends) }
+{
+    if sends == 1 {
+        add_one_send(text)
+    } else {
+        add_several_sends(text, sends)
+    }
+}
+
+#[tactic(auto, unfolding(crate::specs::Refusals::no_receive_line))]
+fn add_no_receive_line<V: Out>(text: &mut TextBuffer<'_, V>) -> Result<(), WriteError>
+    ensures { Adds V.sink text.old text.new result no_receive_line }
+{
+    text.add(b"refused: F51 NoReceive\n")
+}
+
+/// Adds the line of F51, how many lines match and which don't.
+#[tactic(auto, using(texts::proofs::Writes::joining), unfolding(crate::specs::Refusals::no_receive_text))]
+fn add_no_receive<V: Out>(
+    text: &mut TextBuffer<'_, V>,
+    files: &[&[u8]],
+    sends: u64,
+    lines: u64,
+    others: Option<Others>,
+) -> Result<(), WriteError>
+    ensures { Adds V.sink text.old text.new result (no_receive_text (map (λ file. file.now) files.now) sends lines others) }
+{
+    add_no_receive_line(text)?;
+    add_sends(text, sends)?;
+    add_others_of(
+        text,
+        files,
+        lines,
+        b"lines doesn't match",
+        b"lines don't match",
+        others,
+    )
+}
+
+#[tactic(auto, using(texts::proofs::Writes::joining))]
+fn write_no_receive<V: Out>(
+    files: &[&[u8]],
+    sends: u64,
+    lines: u64,
+    others: Option<Others>,
+    err: &mut V,
+) -> Result<(), WriteError>
+    ensures { Wrote V.sink err.old err.new result (no_receive_text (map (λ file. file.now) files.now) sends lines others) }
+{
+    let mut text = TextBuffer::new(err);
+    add_no_receive(&mut text, files, sends, lines, others)?;
+    text.finish()
+}
+
+/// Prints the line of F51, how many lines match and which don't, and answers the exit status.
+fn refused_no_receive<V: Out>(
+    files: &[&[u8]],
+    sends: u64,
+    lines: u64,
+    others: Option<Others>,
+    err: &mut V,
+) -> u8
+    ensures status { result ≡ 2 }
+    ensures line { Tried V.sink err.old err.new (no_receive_text (map (λ file. file.now) files.now) sends lines others) }
+{
+    let _ = write_no_receive(files, sends, lines, others, err);
+    2
+}
+
+#[tactic(auto, unfolding(crate::specs::Refusals::one_end_line))]
+fn add_one_end_line<V: Out>(text: &mut TextBuffer<'_, V>) -> Result<(), WriteError>
+    ensures { Adds V.sink text.old text.new result one_end_line }
+{
+    text.add(b"refused: F52 OneEnd\n")
+}
+
+/// Adds the line of F52, and why.
+#[tactic(auto, using(texts::proofs::Writes::joining), unfolding(crate::specs::Refusals::one_end_text))]
+fn add_one_end<V: Out>(text: &mut TextBuffer<'_, V>) -> Result<(), WriteError>
+    ensures { Adds V.sink text.old text.new result (one_end_text) }
+{
+    add_one_end_line(text)?;
+    add_one_ended_note(text)
+}
+
+#[tactic(auto, using(texts::proofs::Writes::joining))]
+fn write_one_end<V: Out>(err: &mut V) -> Result<(), WriteError>
+    ensures { Wrote V.sink err.old err.new result one_end_text }
+{
+    let mut text = TextBuffer::new(err);
+    add_one_end(&mut text)?;
+    text.finish()
+}
+
+/// Prints the line of F52 and why: where a log has one end of each message, no race is claimed. Answers the exit
+/// status, which is 2 whether or not this could be written.
+pub fn refused_one_end<V: Out>(err: &mut V) -> u8
+    ensures status { result ≡ 2 }
+    ensures line { Tried V.sink err.old err.new one_end_text }
+{
+    let _ = write_one_end(err);
+    2
+}
+
+/// Prints the line of a log's refusal, behind F38 and F51 which lines aren't read, and behind F39 what is wrong. The
+/// files are the names of several, or none of one. Answers the exit status, which is 2 whether or not this could be
+/// written.
+pub fn refused_log<V: Out>(files: &[&[u8]], error: &LogImportError, err: &mut V) -> u8
+    ensures status { result ≡ 2 }
+    ensures line { Tried V.sink err.old err.new (log_refusal_text (map (λ file. file.now) files.now) error.now) }
 {
     match error {
         LogImportError::Memory => refused_by(b"F6 Memory", None, err),
-        LogImportError::BadPattern(place) => {
-            refused_by(b"F39 BadPattern", Some(*place as u64), err)
+        LogImportError::BadPattern(place, fault) => refused_pattern(*place, *fault, err),
+        LogImportError::NotALog(lines, others) => refused_no_log(files, *lines, *others, err),
+        LogImportError::NoReceive(sends, lines, others) => {
+            refused_no_receive(files, *sends, *lines, *others, err)
         }
-        LogImportError::NotALog => refused_by(b"F38 NotALog", None, err),
         LogImportError::Instances => refused_by(b"F8 Instances", None, err),
         LogImportError::ToItself(place) => refused_by(b"F13 ToItself", Some(place.line), err),
         LogImportError::LineFull(name) => refused_full(name, err),

@@ -6,6 +6,7 @@ use Rattle.diagram_labels.specs.declared.renaming.Renamed.{Renamed}
 use Rattle.diagram_labels.specs.Renamed.Telling.{renamed_line}
 use Rattle.log_lines.specs.declared.event.Place.{Place}
 use Rattle.cmd_import_log.specs.Answers.DiagnosticLines.{others_text, others_of_text, lost_text, overtaking_text, freed_text, invented_text}
+use Rattle.cmd_import_log.specs.Answers.EventsRead.{read_text}
 use Rattle.cmd_import_log.specs.declared.answers.overtaking.Overtaking.{Overtaking}
 use Rattle.cmd_import_log.specs.declared.answers.diagnostics.Diagnostics.{Diagnostics}
 
@@ -32,12 +33,21 @@ timed_note = codes "a receive at which no entry of the clock grew isn't seen\n"
 abbrev pub timed_text : Diagnostics → List ℕ
 timed_text t = if t.is_timed then timed_note else []
 
+unfoldable pub one_ended_note : List ℕ
+one_ended_note = codes "no race is claimed: the log has one end of each message\n"
+
+-- once, where the log has one end of each message
+abbrev pub one_ended_text : Diagnostics → List ℕ
+one_ended_text t = if t.is_one_ended then one_ended_note else []
+
 -- what isn't known of how messages were seen
 unfoldable pub taps_text : Diagnostics → List ℕ
-taps_text t = captured_text t ++ timed_text t
+taps_text t = captured_text t ++ (timed_text t ++ one_ended_text t)
 
 unfoldable pub counts_text : List (List ℕ) → Diagnostics → List ℕ
-counts_text files t = unmatched_text files t ++ (own_text files t ++ taps_text t)
+counts_text files t =
+    read_text t.events (length t.names) t.lineless.items
+    ++ (unmatched_text files t ++ (own_text files t ++ taps_text t))
 
 unfoldable pub enforced_note : List ℕ
 enforced_note = codes "races may be shown that a message which is left out enforced\n"
@@ -46,10 +56,14 @@ enforced_note = codes "races may be shown that a message which is left out enfor
 abbrev pub overtaking_note : List Overtaking → List ℕ
 overtaking_note overtaking = if length overtaking == 0 then [] else enforced_note
 
+-- once, where messages are lost or overtake
+abbrev pub left_out_note : List Place → List Overtaking → List ℕ
+left_out_note lost overtaking = if length lost == 0 then overtaking_note overtaking else enforced_note
+
 -- which messages are left out
 unfoldable pub left_out_text : List (List ℕ) → List Place → List Overtaking → List ℕ
 left_out_text files lost overtaking =
-    flat_map (lost_text files) lost ++ (flat_map (overtaking_text files) overtaking ++ overtaking_note overtaking)
+    flat_map (lost_text files) lost ++ (flat_map (overtaking_text files) overtaking ++ left_out_note lost overtaking)
 
 unfoldable pub unclaimed_note : List ℕ
 unclaimed_note = codes "a race whose earlier event is invented, or whose receive comes behind an invented event, isn't claimed\n"

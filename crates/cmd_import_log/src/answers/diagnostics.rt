@@ -1,14 +1,15 @@
 //! What is told of a chart that was drawn from a log.
 ghost use Rattle.std.specs.Prelude.{◌≤◌, length, map, All};
 ghost use Rattle.texts.specs.Writing.{Wrote, Adds};
-ghost use Rattle.cmd_import_log.specs.Answers.Diagnostics.{unmatched_text, own_text, captured_note, captured_text, timed_note, timed_text, taps_text, enforced_note, overtaking_note, unclaimed_note, invented_note};
+ghost use Rattle.cmd_import_log.specs.Answers.Diagnostics.{unmatched_text, own_text, captured_note, captured_text, timed_note, timed_text, one_ended_note, one_ended_text, taps_text, enforced_note, overtaking_note, left_out_note, unclaimed_note, invented_note};
 ghost use Rattle.cmd_import_log.specs.Answers.Diagnostics.{counts_text, left_out_text, made_text, names_text, diagnostics_text};
 
 use crate::answers::diagnostic_lines::{
     add_all_freed, add_all_invented, add_all_lost, add_all_overtaking, add_others, add_others_of,
 };
+use crate::answers::events_read::add_read;
 use crate::answers::overtaking::Overtaking;
-use chart::{EventNo, Names};
+use chart::{EventNo, Name, Names};
 use diagram_labels::Renamed;
 use diagram_labels::renamed::add_all_renamed;
 use log_lines::{Others, Place};
@@ -19,6 +20,10 @@ use texts::{Out, TextBuffer, WriteError};
 pub struct Diagnostics {
     /// How many lines were read.
     pub lines: u64,
+    /// How many events of hosts they say.
+    pub events: u64,
+    /// Hosts that have no line of their own.
+    pub lineless: Vec<Name>,
     /// Those that don't match.
     pub others: Option<Others>,
     /// Events of messages of a host to itself, which are left out.
@@ -27,6 +32,8 @@ pub struct Diagnostics {
     pub is_captured: bool,
     /// Whether there are messages of which clocks tell.
     pub is_timed: bool,
+    /// Whether the log has one end of each message, so that no race is claimed.
+    pub is_one_ended: bool,
     /// Lines whose messages are lost.
     pub lost: Vec<Place>,
     pub overtaking: Vec<Overtaking>,
@@ -122,6 +129,28 @@ fn add_timed<V: Out>(
     }
 }
 
+/// Adds that the log has one end of each message.
+#[tactic(auto, unfolding(crate::specs::Answers::Diagnostics::one_ended_note))]
+pub(crate) fn add_one_ended_note<V: Out>(text: &mut TextBuffer<'_, V>) -> Result<(), WriteError>
+    ensures { Adds V.sink text.old text.new result one_ended_note }
+{
+    text.add(b"no race is claimed: the log has one end of each message\n")
+}
+
+/// Adds that the log has one end of each message, if it has.
+fn add_one_ended<V: Out>(
+    text: &mut TextBuffer<'_, V>,
+    diagnostics: &Diagnostics,
+) -> Result<(), WriteError>
+    ensures { Adds V.sink text.old text.new result (one_ended_text diagnostics.now) }
+{
+    if diagnostics.is_one_ended {
+        add_one_ended_note(text)
+    } else {
+        Ok(())
+    }
+}
+
 /// Adds what isn't known of how the messages were seen.
 #[tactic(auto, using(texts::proofs::Writes::joining), unfolding(crate::specs::Answers::Diagnostics::taps_text))]
 fn add_taps<V: Out>(
@@ -131,7 +160,8 @@ fn add_taps<V: Out>(
     ensures { Adds V.sink text.old text.new result (taps_text diagnostics.now) }
 {
     add_captured(text, diagnostics)?;
-    add_timed(text, diagnostics)
+    add_timed(text, diagnostics)?;
+    add_one_ended(text, diagnostics)
 }
 
 /// Adds what may be shown where a message is left out.
@@ -151,6 +181,21 @@ fn add_overtaking_note<V: Out>(
 {
     if overtaking.is_empty() {
         Ok(())
+    } else {
+        add_enforced_note(text)
+    }
+}
+
+/// Adds what may be shown where messages that are lost or overtake are left out.
+fn add_left_out_note<V: Out>(
+    text: &mut TextBuffer<'_, V>,
+    lost: &[Place],
+    overtaking: &[Overtaking],
+) -> Result<(), WriteError>
+    ensures { Adds V.sink text.old text.new result (left_out_note lost.now overtaking.now) }
+{
+    if lost.is_empty() {
+        add_overtaking_note(text, overtaking)
     } else {
         add_enforced_note(text)
     }
@@ -180,7 +225,7 @@ fn add_invented_note<V: Out>(
     }
 }
 
-/// Adds how many lines don't match, and what else is counted.
+/// Adds how many events are read, how many lines don't match, and what else is counted.
 #[tactic(auto, using(texts::proofs::Writes::joining), unfolding(crate::specs::Answers::Diagnostics::counts_text))]
 fn add_counts<V: Out>(
     text: &mut TextBuffer<'_, V>,
@@ -189,6 +234,12 @@ fn add_counts<V: Out>(
 ) -> Result<(), WriteError>
     ensures { Adds V.sink text.old text.new result (counts_text (map (λ file. file.now) files.now) diagnostics.now) }
 {
+    add_read(
+        text,
+        diagnostics.events,
+        &diagnostics.names,
+        &diagnostics.lineless,
+    )?;
     add_unmatched(text, files, diagnostics)?;
     add_own(text, files, diagnostics)?;
     add_taps(text, diagnostics)
@@ -206,7 +257,7 @@ fn add_left_out<V: Out>(
 {
     add_all_lost(text, files, lost)?;
     add_all_overtaking(text, files, overtaking)?;
-    add_overtaking_note(text, overtaking)
+    add_left_out_note(text, lost, overtaking)
 }
 
 /// Adds which receives are freed, and which sends are invented.

@@ -1,0 +1,57 @@
+//! What the texts of a log say of messages, where they say of both of its ends something.
+ghost use Rattle.std.specs.Prelude.{◌≡◌, map, IfOk, IfErr};
+ghost use Rattle.log_lines.specs.Events.{logged_event_view};
+ghost use Rattle.cmd_import_log.specs.Drawing.{IsLog, IsRefusalOf};
+ghost use Rattle.cmd_import_log.specs.Options.{options_view};
+ghost use Rattle.cmd_import_log.specs.Reading.{log_view, is_receive, has_receive};
+
+use crate::error::LogImportError;
+use crate::options::Options;
+use crate::reading::{ReadLog, read_log};
+use log_lines::{Act, LoggedEvent};
+use std::alloc::Global;
+
+fn is_receive(act: Act) -> bool
+    ensures { result ≡ is_receive act }
+{
+    match act {
+        Act::Send => false,
+        Act::Receive => true,
+    }
+}
+
+/// Whether some line says a receive.
+fn has_receive(logged: &[LoggedEvent<'_>]) -> bool
+    ensures { result ≡ has_receive (map logged_event_view logged.now) }
+{
+    for line in logged {
+        if is_receive(line.event.act) {
+            return true;
+        }
+    }
+    false
+}
+
+/// What the texts of a log say, some line of which is a receive.
+///
+/// F39 refuses an expression that is none, F38 texts in which no line says a message, and F51 those in which none says
+/// a receive. F6 may come at any point.
+pub(crate) fn messages_in<'a>(
+    alloc: Global,
+    options: &Options<'a>,
+    texts: &[&'a [u8]],
+) -> Result<ReadLog<'a>, LogImportError>
+    ensures ok { IfOk result (λ log. IsLog (options_view options.now) (map (λ text. text.now) texts.now) (log_view log)) }
+    ensures err { IfErr result (IsRefusalOf (options_view options.now) (map (λ text. text.now) texts.now)) }
+{
+    let log = read_log(alloc, options.form, options.range, texts)?;
+    let logged = log.read.logged.as_slice();
+    if logged.is_empty() {
+        return Err(LogImportError::NotALog(log.lines, log.read.others));
+    }
+    if !has_receive(logged) {
+        let sends = logged.len() as u64;
+        return Err(LogImportError::NoReceive(sends, log.lines, log.read.others));
+    }
+    Ok(log)
+}
