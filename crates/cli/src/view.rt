@@ -8,7 +8,7 @@ mod showing;
 pub use crate::CommandLineError;
 pub use reading::requested;
 pub use request::{
-    Compare, Draw, DrawWitness, Export, Import, ImportLog, LogForm, LogRaces, Mend, Pair, Question,
-    Races, Reading, Request, Rows,
+    Compare, Draw, DrawWitness, Export, Import, ImportLog, LogForm, LogRaces, Mend, Page, Pair,
+    Question, Races, Reading, Request, Rows,
 };
 pub use showing::Showing;

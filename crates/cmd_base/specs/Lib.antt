@@ -2,9 +2,11 @@ pub mod Answers
 pub mod Columns
 pub mod Files
 pub mod Named
+pub mod NotDone
 pub mod Numbers
 pub mod Pairs
 pub mod Refusals
 pub mod Statuses
+pub mod Strict
 pub mod Texts
 pub use Rattle.texts.specs.Writing

@@ -13,7 +13,7 @@ pub trait Answer {
     /// The exit status, and what is told on standard error.
     ghost exit: { Self → Exit };
 
-    /// The exit status: 0, or 1 where what was asked about is so; 2 after a refusal.
+    /// The exit status: 0, or 1 where what was asked about is so, or 3 where that isn't known; 2 after a refusal.
     fn status(&self) -> u8
         ensures { result ≡ (exit self.now).status };
 

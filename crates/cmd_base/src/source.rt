@@ -1,8 +1,10 @@
 //! Where a chart comes from that a file says: its own text, or the run of a schedule.
 ghost use Rattle.std.specs.Prelude.{◌≡◌, length, IfOk, IfErr};
+ghost use Rattle.cmd_base.specs.NotDone.{not_done_of};
 ghost use Rattle.cmd_base.specs.Texts.{IsSourceOf, named_of};
 
 use crate::error::ProgramError;
+use crate::not_done::NotDone;
 use crate::text::{NamedChart, Text};
 use chart::{Chart, Names};
 use schedule::Schedule;
@@ -41,6 +43,16 @@ impl<'a> Source<'a> {
         match self {
             Source::Run(_, outcome) => outcome.names(),
             Source::Written(written) => written.names(),
+        }
+    }
+
+    /// Of a schedule the commands that did nothing, which its chart lacks; of a chart's own text none.
+    pub fn not_done(&self) -> Option<NotDone>
+        ensures { result ≡ not_done_of self.now }
+    {
+        match self {
+            Source::Run(_, outcome) => NotDone::of(outcome.notes()),
+            Source::Written(_) => None,
         }
     }
 

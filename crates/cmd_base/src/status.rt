@@ -1,17 +1,19 @@
-//! The exit status by whether there are races.
+//! The exit status by whether there are races, where that is known.
 ghost use Rattle.std.specs.Prelude.{◌≡◌};
 ghost use Rattle.cmd_base.specs.Statuses.{status_in, code_of, status_exit};
 
 use crate::answer::Answer;
 use texts::Out;
 
-/// Whether there are races, or some race is shown.
+/// Whether there are races, or some race is shown, where that is known.
 #[derive(Clone, Copy, Debug, PartialEq, Eq)]
 pub enum Status {
     /// No receive has a race, or none is shown.
     NoRaces,
     /// Some receive has one, which is shown.
     Races,
+    /// None is shown, and whether there is one that would be isn't known.
+    NotKnown,
 }
 
 impl Status {
@@ -33,6 +35,7 @@ impl Status {
         match self {
             Status::NoRaces => 0,
             Status::Races => 1,
+            Status::NotKnown => 3,
         }
     }
 }

@@ -1,7 +1,9 @@
 -- What is printed on standard error.
-use Rattle.std.specs.Prelude.{ℕ, List, None, Result}
+use Rattle.std.specs.Prelude.{ℕ, List, Option, Result}
 use Rattle.cmd_base.specs.Answers.{Exit, refusal, exit_of}
+use Rattle.cmd_base.specs.NotDone.{not_done_exit}
 use Rattle.cmd_base.specs.Refusals as refusals
+use Rattle.cmd_base.specs.declared.not_done.NotDone.{NotDone}
 use Rattle.cmd_base.specs.Named.NamedRefusals.{missing_text}
 use Rattle.cmd_base.specs.Columns.Answers.{refusal_text}
 use Rattle.cmd_draw.specs.declared.error.DrawError.{DrawError}
@@ -15,6 +17,6 @@ picture_refusal_text (NoSuchEvent missing) = missing_text missing
 abbrev pub draw_error_exit : DrawError → Exit
 draw_error_exit error = refusal (picture_refusal_text error)
 
--- what is said of a picture that was drawn: nothing
-abbrev pub draw_exit : Result (Unit {0}) DrawError → Exit
-draw_exit = exit_of (λ done. record { status = 0; diagnostics = None }) draw_error_exit
+-- what is said of a picture that was drawn: of a schedule which of its commands did nothing
+abbrev pub draw_exit : Result (Option NotDone) DrawError → Exit
+draw_exit = exit_of not_done_exit draw_error_exit

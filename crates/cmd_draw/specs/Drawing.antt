@@ -11,7 +11,9 @@ use Rattle.pictures.specs.Pictures.{PictureView}
 use Rattle.pictures.specs.PictureText.{picture_text}
 use Rattle.pictures.specs.Preparing.{IsPictureOf}
 use Rattle.cmd_base.specs.declared.error.ProgramError.TheVariants as errors
+use Rattle.cmd_base.specs.NotDone.{IsNoted}
 use Rattle.cmd_base.specs.Texts.{OfFile, named_of}
+use Rattle.cmd_base.specs.declared.not_done.NotDone.{NotDone}
 use Rattle.cmd_base.specs.Files.{Named, IsRefused}
 use Rattle.cmd_draw.specs.declared.drawing.Wanted.{Wanted}
 use Rattle.cmd_draw.specs.declared.error.DrawError.{DrawError}
@@ -69,6 +71,6 @@ module _ {S : Type 0} (sink : S → Sink) where
       × HasNoWindow named wanted.rows missing × (new ≡ old)
 
   -- the same for the chart that the bytes say; or nothing was written, where the bytes have a fault
-  abbrev pub DrawsText : S → S → Wanted → List ℕ → Result (Unit {0}) DrawError → Type 0
-  DrawsText old new wanted bytes =
-      OfFile (λ error. Format (Program error)) (λ source done. Draws old new done wanted (turns_in source) [] (named_of source)) old new bytes
+  abbrev pub DrawsText : S → S → Wanted → List ℕ → Result (Option NotDone) DrawError → Type 0
+  DrawsText old new wanted bytes = OfFile (λ error. Format (Program error))
+      (IsNoted (λ them. tt) (λ them. them) (λ source done. Draws old new done wanted (turns_in source) [] (named_of source))) old new bytes

@@ -18,7 +18,7 @@ use chart::{Chart, InstanceNo, Names, Report};
 use chart_layout::margin::MarginNote;
 use closure::Closure;
 use cmd_base::columns::{FormatError, columns_in};
-use cmd_base::{ProgramError, Source, Text, answered, closure_of};
+use cmd_base::{NotDone, ProgramError, Source, Text, answered, closure_of};
 use pictures::{Part, Picture, write_picture};
 use std::alloc::Global;
 use texts::Out;
@@ -160,25 +160,26 @@ pub fn draw_chart<W: Out>(
     draw_columns(alloc, &subject, columns.as_slice(), wanted, out)
 }
 
-/// Draws what the file says.
+/// Draws what the file says, and answers which commands of its schedule did nothing.
 fn draw_text<W: Out>(
     alloc: Global,
     bytes: &[u8],
     wanted: &Wanted<'_>,
     out: &mut W,
-) -> Result<(), DrawError>
+) -> Result<Option<NotDone>, DrawError>
     ensures { DrawsText W.sink out.old out.new wanted.now bytes.now result }
 {
     let text = Text::read(alloc, bytes)?;
     let source = Source::of(alloc, &text)?;
-    draw_source(alloc, &source, wanted, out)
+    draw_source(alloc, &source, wanted, out)?;
+    Ok(source.not_done())
 }
 
 /// Writes a picture, as SVG text, of the chart that the bytes of a file say, or of what the schedule comes to that they
-/// say: its columns, its rows, the marks of its races. Writes the line of a refusal to `err`. Answers the exit status:
-/// 0 where it was drawn, 2 after a refusal. The text's faults are refused first, then F34, then F16, F17 or F18,
-/// Nothing is written to `out` before a refusal, but where writing to it failed (F24). A failed write to `err` changes
-/// nothing.
+/// say: its columns, its rows, the marks of its races. Writes the line of a refusal to `err`, and of a schedule how
+/// many of its commands did nothing. Answers the exit status: 0 where it was drawn, 2 after a refusal. The text's
+/// faults are refused first, then F34, then F16, F17 or F18, Nothing is written to `out` before a refusal, but where
+/// writing to it failed (F24). A failed write to `err` changes nothing.
 pub fn draw<W: Out, V: Out>(
     alloc: Global,
     bytes: &[u8],

@@ -1,12 +1,15 @@
 -- What is printed on standard error.
 use Rattle.std.specs.Prelude.{ℕ, Bool, true, false, List, ◌++◌, Option, None, Some, codes, Result}
 use Rattle.cmd_base.specs.Answers.{Exit, exit_of}
+use Rattle.cmd_base.specs.NotDone.{told_of, not_done_text}
 use Rattle.cmd_base.specs.Refusals as refusals
+use Rattle.cmd_base.specs.declared.not_done.NotDone.{NotDone}
 use Rattle.cmd_base.specs.declared.pairs.error.ViewError.{ViewError}
 use Rattle.cmd_base.specs.Pairs.Answers.{error_exit}
 use Rattle.cmd_base.specs.Pairs.SayingText.{hidden_text}
 use Rattle.cmd_explain_race.specs.declared.verdict.Verdict.{Verdict}
 use Rattle.cmd_explain_race.specs.declared.verdict.Verdict.TheVariants.{Enforced, Race, Hidden}
+use Rattle.cmd_explain_race.specs.declared.verdict.Explained.{Explained}
 use Rattle.cmd_explain_race.specs.declared.verdict.Witnessed.{Witnessed}
 use Rattle.cmd_explain_race.specs.Verdicts.{code_of}
 
@@ -46,6 +49,21 @@ verdict_exit verdict = record { status = code_of verdict; diagnostics = diagnost
 abbrev pub witnessed_exit : Witnessed → Exit
 witnessed_exit witnessed =
     record { status = code_of witnessed.verdict; diagnostics = witness_diagnostics witnessed.has_closes witnessed.verdict }
+
+-- what is told of a pair that a coregion hides, and of a schedule's commands that did nothing
+abbrev pub explained_diagnostics : Verdict → Option NotDone → Option (List ℕ)
+explained_diagnostics Enforced them = told_of them
+explained_diagnostics Race them = told_of them
+explained_diagnostics Hidden None = Some hidden_text
+explained_diagnostics Hidden (Some them) = Some (hidden_text ++ not_done_text them)
+
+-- of a pair of a file that was explained
+abbrev pub explained_exit : Explained → Exit
+explained_exit explained =
+    record { status = code_of explained.verdict; diagnostics = explained_diagnostics explained.verdict explained.not_done }
+
+abbrev pub why_file_exit : Result Explained ViewError → Exit
+why_file_exit = exit_of explained_exit error_exit
 
 abbrev pub why_exit : Result Verdict ViewError → Exit
 why_exit = exit_of verdict_exit error_exit

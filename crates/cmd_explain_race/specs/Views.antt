@@ -1,10 +1,12 @@
 -- What the program explains of the bytes of a file.
 use Rattle.std.specs.Prelude.{List, ℕ, Result}
 use Rattle.texts.specs.Outs.{Sink}
+use Rattle.cmd_base.specs.NotDone.{IsNoted}
 use Rattle.cmd_base.specs.Texts.{OfFile, named_of}
 use Rattle.cmd_base.specs.declared.pairs.error.ViewError.{ViewError}
 use Rattle.cmd_base.specs.declared.pairs.error.ViewError.TheVariants.{Program}
 use Rattle.cmd_base.specs.declared.pairs.pair.Asked.{Asked}
+use Rattle.cmd_explain_race.specs.declared.verdict.Explained.{Explained}
 use Rattle.cmd_explain_race.specs.declared.verdict.Verdict.{Verdict}
 use Rattle.cmd_explain_race.specs.Explaining.{Explains}
 
@@ -13,3 +15,8 @@ use Rattle.cmd_explain_race.specs.Explaining.{Explains}
 abbrev pub Whys : {S : Type 0} → (S → Sink) → S → S → List ℕ → Asked → Result Verdict ViewError → Type 0
 Whys sink old new bytes asked =
     OfFile Program (λ source done. Explains sink old new done (named_of source) asked) old new bytes
+
+-- the same, and of a schedule which of its commands did nothing
+abbrev pub WhysFile : {S : Type 0} → (S → Sink) → S → S → List ℕ → Asked → Result Explained ViewError → Type 0
+WhysFile sink old new bytes asked = OfFile Program
+    (IsNoted (λ explained. explained.verdict) (λ explained. explained.not_done) (λ source done. Explains sink old new done (named_of source) asked)) old new bytes

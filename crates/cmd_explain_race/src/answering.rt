@@ -1,12 +1,21 @@
 //! What is told on standard error: refusals, and what is told beside an answer.
 ghost use Rattle.std.specs.Prelude.{◌≡◌, ◌++◌};
 ghost use Rattle.texts.specs.Writing.{Wrote, Adds};
-ghost use Rattle.cmd_explain_race.specs.Answers.{enforced_text, closes_text, verdict_exit, witnessed_exit, hidden_diagnostics};
+ghost use Rattle.cmd_explain_race.specs.Answers.{
+  closes_text,
+  enforced_text,
+  explained_exit,
+  hidden_diagnostics,
+  verdict_exit,
+  witnessed_exit,
+};
 ghost use Rattle.cmd_base.specs.Answers.{Prints};
+ghost use Rattle.cmd_base.specs.NotDone.{not_done_text};
+ghost use Rattle.cmd_base.specs.Pairs.SayingText.{hidden_text};
 
-use crate::verdict::{Verdict, Witnessed};
+use crate::verdict::{Explained, Verdict, Witnessed};
 use cmd_base::pairs::hidden_text;
-use cmd_base::{Answer, print_diagnostics};
+use cmd_base::{Answer, NotDone, print_diagnostics, print_not_done};
 use texts::{Out, TextBuffer, WriteError};
 
 #[tactic(auto, unfolding(crate::specs::Answers::closes_text))]
@@ -68,6 +77,42 @@ fn print_hidden<V: Out>(has_closes: bool, err: &mut V)
         let _ = write_both(closes_text(), hidden_text(), err);
     } else {
         print_diagnostics(hidden_text(), err);
+    }
+}
+
+#[tactic(auto, using(texts::proofs::Writes::joining))]
+fn add_hidden<V: Out>(text: &mut TextBuffer<'_, V>, not_done: &NotDone) -> Result<(), WriteError>
+    ensures { Adds V.sink text.old text.new result (hidden_text ++ not_done_text not_done.now) }
+{
+    text.add(hidden_text())?;
+    not_done.add_to(text)
+}
+
+#[tactic(auto, using(texts::proofs::Writes::joining))]
+fn write_hidden<V: Out>(not_done: &NotDone, err: &mut V) -> Result<(), WriteError>
+    ensures { Wrote V.sink err.old err.new result (hidden_text ++ not_done_text not_done.now) }
+{
+    let mut text = TextBuffer::new(err);
+    add_hidden(&mut text, not_done)?;
+    text.finish()
+}
+
+/// What is told beside what explains a pair of a file.
+impl Answer for Explained {
+    ghost exit = { explained_exit };
+
+    fn status(&self) -> u8 {
+        self.verdict.code()
+    }
+
+    fn print_diagnostics<V: Out>(&self, err: &mut V) {
+        match (&self.verdict, &self.not_done) {
+            (Verdict::Hidden, Some(not_done)) => {
+                let _ = write_hidden(not_done, err);
+            }
+            (Verdict::Hidden, None) => print_diagnostics(hidden_text(), err),
+            (_, not_done) => print_not_done(not_done, err),
+        }
     }
 }
 

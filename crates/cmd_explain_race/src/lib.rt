@@ -31,6 +31,6 @@ mod witnessing;
 
 pub use explained::one_explanation_law;
 pub use finding::{Found, found_in, judged};
-pub use verdict::{Verdict, Witnessed};
+pub use verdict::{Explained, Verdict, Witnessed};
 pub use view::{why, why_of_source};
 pub use witnessing::{witness, witness_of_source};

@@ -2,6 +2,8 @@
 ghost use Rattle.std.specs.Prelude.{◌≡◌};
 ghost use Rattle.cmd_explain_race.specs.Verdicts.{code_of, verdict_in};
 
+use cmd_base::NotDone;
+
 /// What a receive and an earlier event of its line are.
 #[derive(Clone, Copy)]
 pub enum Verdict {
@@ -11,6 +13,14 @@ pub enum Verdict {
     Race,
     /// It doesn't, and both are in one coregion, so that no report has them.
     Hidden,
+}
+
+/// What was found for a pair of a file's chart.
+#[derive(Clone, Copy)]
+pub struct Explained {
+    pub verdict: Verdict,
+    /// The commands of the file's schedule that did nothing, if there are any.
+    pub not_done: Option<NotDone>,
 }
 
 /// What was found for a pair whose other order was looked for.

@@ -1,29 +1,33 @@
 //! What the program explains of the bytes of a file.
 ghost use Rattle.cmd_base.specs.Answers.{Answers};
 ghost use Rattle.cmd_base.specs.Texts.{named_of};
-ghost use Rattle.cmd_explain_race.specs.Answers.{why_exit};
+ghost use Rattle.cmd_explain_race.specs.Answers.{why_exit, why_file_exit};
 ghost use Rattle.cmd_explain_race.specs.Explaining.{Explains};
-ghost use Rattle.cmd_explain_race.specs.Views.{Whys};
+ghost use Rattle.cmd_explain_race.specs.Views.{WhysFile};
 
 use crate::explained::why_in;
-use crate::verdict::Verdict;
+use crate::verdict::Explained;
 use cmd_base::pairs::{Asked, ViewError};
 use cmd_base::{Source, Text, answered};
 use std::alloc::Global;
 use texts::Out;
 
-/// Explains two events of what the file says.
+/// Explains two events of what the file says, and answers which commands of its schedule did nothing.
 fn why_text<W: Out>(
     alloc: Global,
     bytes: &[u8],
     asked: &Asked<'_>,
     out: &mut W,
-) -> Result<Verdict, ViewError>
-    ensures { Whys W.sink out.old out.new bytes.now asked.now result }
+) -> Result<Explained, ViewError>
+    ensures { WhysFile W.sink out.old out.new bytes.now asked.now result }
 {
     let text = Text::read(alloc, bytes)?;
     let source = Source::of(alloc, &text)?;
-    why_in(alloc, source.names(), source.chart(), asked, out)
+    let verdict = why_in(alloc, source.names(), source.chart(), asked, out)?;
+    Ok(Explained {
+        verdict,
+        not_done: source.not_done(),
+    })
 }
 
 /// Explains two events of a chart that was read: the same as [`why`] does with the bytes of the file that it comes
@@ -46,9 +50,9 @@ pub fn why_of_source<W: Out, V: Out>(
 
 /// Explains two events of the chart that the bytes of a file say, or of what the schedule comes to that they say:
 /// writes to `out` the chain that enforces the pair, or what has to come before the receive and how its line may be.
-/// Writes the line of a refusal to `err`, or that a coregion hides the pair. Answers the exit status: 0 where the
-/// pair is enforced, 1 where it isn't, 2 after a refusal. Nothing is written to `out` before a refusal, but where
-/// writing to it failed (F24). A failed write to `err` changes nothing.
+/// Writes the line of a refusal to `err`, or that a coregion hides the pair, and of a schedule how many of its commands
+/// did nothing. Answers the exit status: 0 where the pair is enforced, 1 where it isn't, 2 after a refusal. Nothing is
+/// written to `out` before a refusal, but where writing to it failed (F24). A failed write to `err` changes nothing.
 pub fn why<W: Out, V: Out>(
     alloc: Global,
     bytes: &[u8],
@@ -56,7 +60,8 @@ pub fn why<W: Out, V: Out>(
     out: &mut W,
     err: &mut V,
 ) -> u8
-    ensures { Answers (Whys W.sink out.old out.new bytes.now asked.now) why_exit V.sink err.old err.new result }
+    ensures { Answers (WhysFile W.sink out.old out.new bytes.now asked.now) why_file_exit V.sink err.old err.new
+        result }
 {
     answered(&why_text(alloc, bytes, asked, out), err)
 }

@@ -16,7 +16,10 @@ const PAIR: &[Word] = &[
     Word::Needed("RECEIVE"),
 ];
 
-/// The options of reading another tool's text.
+/// The option that refuses a schedule of which a command did nothing.
+const STRICT: &[Word] = &[Word::Flag("strict")];
+
+/// The options of reading another tool's text. Without `--from` the flag is that of [`STRICT`].
 const TOOLS: &[Word] = &[
     Word::Option("from", 1),
     Word::Flag("strict"),
@@ -60,7 +63,7 @@ const TWO_FILES: &[Word] = &[Word::Flag("json"), Word::Needed("A"), Word::Needed
 /// The commands and their words. Help, the version, no command and an unknown one are all mistakes.
 pub(crate) const COMMANDS: [(&str, &[&[Word]]); 11] = [
     ("witness", &[PAIR]),
-    ("why", &[PAIR]),
+    ("why", &[STRICT, PAIR]),
     ("draw", &[DRAWING, TOOLS, FILE]),
     ("page", &[TOOLS, LOGS, FILES]),
     ("export", &[&[Word::NeededOption("to")], FILE]),

@@ -1,8 +1,8 @@
 //! What the words of a command line ask for.
 use crate::view::commands::COMMANDS;
 use crate::view::request::{
-    Compare, Draw, DrawWitness, Export, Import, ImportLog, LogForm, LogRaces, Mend, Pair, Question,
-    Races, Reading, Request, Rows,
+    Compare, Draw, DrawWitness, Export, Import, ImportLog, LogForm, LogRaces, Mend, Page, Pair,
+    Question, Races, Reading, Request, Rows,
 };
 use crate::view::showing::showing_of;
 use crate::{CommandLineError, program_of};
@@ -23,6 +23,7 @@ fn question_of(command: &str) -> Option<Question> {
 fn pair_of<'a>(question: Question, words: &ArgMatches<'a>) -> Option<Request<'a>> {
     Some(Request::Pair(Pair {
         question,
+        strict: words.get_flag("strict"),
         file: words.get_str("FILE")?,
         instance: words.get_str("INSTANCE")?,
         earlier: words.get_str("EARLIER")?,
@@ -81,6 +82,7 @@ fn picture_of<'a>(alloc: Global, words: &ArgMatches<'a>) -> Result<Request<'a>, 
         title: words.get_str("title"),
         numbers: words.get_flag("numbers"),
         reading: other_reading(alloc, words)?,
+        strict: words.get_flag("strict"),
         file: words.get_str("FILE"),
     }))
 }
@@ -193,7 +195,8 @@ fn import_of<'a>(alloc: Global, words: &ArgMatches<'a>) -> Result<Request<'a>, C
     }
 }
 
-/// How a command's file is read, if it is another tool's text. G1: without `--from` there is an option of `import`.
+/// How a command's file is read, if it is another tool's text. G1: without `--from` there is an option of `import`, but
+/// for `--strict`, which is the command's own then.
 fn other_reading<'a>(
     alloc: Global,
     words: &ArgMatches<'a>,
@@ -202,7 +205,7 @@ fn other_reading<'a>(
     if reading.from.is_some() {
         return Ok(Some(reading));
     }
-    if reading.strict || !reading.skipped.is_empty() || !reading.joined.is_empty() {
+    if !reading.skipped.is_empty() || !reading.joined.is_empty() {
         return Err(CommandLineError::Usage);
     }
     Ok(None)
@@ -226,6 +229,7 @@ fn file_races_of<'a>(
     Ok(Request::Races(Races {
         showing: showing_of(words),
         reading: other_reading(alloc, words)?,
+        strict: words.get_flag("strict"),
         file,
     }))
 }
@@ -249,7 +253,10 @@ fn file_page_of<'a>(
     let file = one_file(alloc, words)?;
     match other_reading(alloc, words)? {
         Some(reading) => Ok(Request::ToolPage(Import { reading, file })),
-        None => Ok(Request::Page(file)),
+        None => Ok(Request::Page(Page {
+            strict: words.get_flag("strict"),
+            file,
+        })),
     }
 }
 

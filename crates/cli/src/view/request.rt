@@ -6,7 +6,7 @@ use crate::view::showing::Showing;
 pub enum Question {
     /// `witness FILE INSTANCE EARLIER RECEIVE`.
     Witness,
-    /// `why FILE INSTANCE EARLIER RECEIVE`.
+    /// `why [--strict] FILE INSTANCE EARLIER RECEIVE`.
     Why,
 }
 
@@ -14,6 +14,8 @@ pub enum Question {
 #[derive(Clone, Copy, Debug, PartialEq, Eq)]
 pub struct Pair<'a> {
     pub question: Question,
+    /// Whether `--strict` is given, which goes with `why`.
+    pub strict: bool,
     pub file: &'a str,
     pub instance: &'a str,
     pub earlier: &'a str,
@@ -44,6 +46,17 @@ pub struct Draw<'a> {
     pub numbers: bool,
     /// With `--from`: how the file is read, which is another tool's text then.
     pub reading: Option<Reading<'a>>,
+    /// Whether `--strict` is given. With `--from` it is about the tool's text.
+    pub strict: bool,
+    /// Without it, and where it is `-`, standard input is read.
+    pub file: Option<&'a str>,
+}
+
+/// A page that is to be written.
+#[derive(Clone, Copy, Debug, PartialEq, Eq)]
+pub struct Page<'a> {
+    /// Whether `--strict` is given.
+    pub strict: bool,
     /// Without it, and where it is `-`, standard input is read.
     pub file: Option<&'a str>,
 }
@@ -137,6 +150,8 @@ pub struct Races<'a> {
     pub showing: Showing<'a>,
     /// With `--from`: how the file is read, which is another tool's text then.
     pub reading: Option<Reading<'a>>,
+    /// Whether `--strict` is given. With `--from` it is about the tool's text.
+    pub strict: bool,
     /// Without it, and where it is `-`, standard input is read.
     pub file: Option<&'a str>,
 }
@@ -170,12 +185,12 @@ pub enum Request<'a> {
     /// `why` and `witness`, which ask about two events.
     Pair(Pair<'a>),
     /// `draw [--only NAME,NAME..] [--events A..B] [--rows A..B | --around INSTANCE N] [--numbers] [--title TEXT]
-    /// [FILE]`, and with `--from TOOL` the options of `import`.
+    /// [--strict] [FILE]`, and with `--from TOOL` the options of `import`.
     Draw(Draw<'a>),
     /// `draw --witness INSTANCE EARLIER RECEIVE [--only NAME,NAME..] [--numbers] [--title TEXT] [FILE]`.
     DrawWitness(DrawWitness<'a>),
-    /// `page [FILE]`: without the file, and where it is `-`, standard input is read.
-    Page(Option<&'a str>),
+    /// `page [--strict] [FILE]`.
+    Page(Page<'a>),
     /// `page --from TOOL [--strict] [--skip A..B].. [--join NAME=NAME,NAME..].. [FILE]`.
     ToolPage(Import<'a>),
     /// `page --from log|shiviz` with the options of `import`, and `[FILE..]`.
@@ -189,8 +204,8 @@ pub enum Request<'a> {
     ImportLog(ImportLog<'a>),
     /// `compare [--json] A B`.
     Compare(Compare<'a>),
-    /// `races [--only NAME,NAME..] [--receives] [--run-to-completion] [--luck] [--json] [FILE]`, and with `--from TOOL`
-    /// the options of `import`.
+    /// `races [--only NAME,NAME..] [--receives] [--run-to-completion] [--luck] [--json] [--strict] [FILE]`, and with
+    /// `--from TOOL` the options of `import`.
     Races(Races<'a>),
     /// `races --from log|shiviz` with the options of `races` and of `import`, and `[FILE..]`.
     LogRaces(LogRaces<'a>),
