@@ -3,6 +3,7 @@ use Rattle.std.specs.Prelude.{◌≡◌, ℕ, List, length, Result, Ok, Err}
 use Rattle.chart.specs.Charts.{chart_lines, IsPossible}
 use Rattle.chart.specs.Reports.{ReportView}
 use Rattle.cmd_base.specs.declared.error.ProgramError.TheVariants as errors
+use Rattle.cmd_base.specs.NotDone.{IsNoted}
 use Rattle.cmd_base.specs.Texts.{OfFile, named_of}
 use Rattle.cmd_base.specs.Files.{Named, IsRefused}
 use Rattle.cmd_base.specs.Columns.Columns.{AreColumns, only_of}
@@ -12,7 +13,9 @@ use Rattle.cmd_base.specs.Statuses.{status_in}
 use Rattle.texts.specs.Outs.{Sink}
 use Rattle.texts.specs.Writing.{Puts, Breaks}
 use Rattle.cmd_races.specs.declared.showing.Wanted.{Wanted}
+use Rattle.cmd_base.specs.declared.source.Source.{Source}
 use Rattle.cmd_base.specs.declared.status.Status.{Status}
+use Rattle.cmd_races.specs.declared.shown_file.ShownFile.{ShownFile}
 use Rattle.races_text.specs.Named.Listing.{Manner, AreSelected, races_text, shows_races}
 
 -- how they are told: of these instances
@@ -29,6 +32,10 @@ pub record AreWanted (wanted : Wanted) (named : Named) (instances : List ℕ) (r
   pub named_so : AreColumns named.0 (only_of wanted.only) instances
   pub possible : IsPossible (length named.1) (chart_lines named.1)
   pub races : AreSelected wanted.run_to_completion named.1 reports
+
+-- races were shown as it is known of them, and of a schedule which of its commands did nothing
+abbrev pub IsShownOf : (Source → Result Status FormatError → Type 0) → Source → Result ShownFile FormatError → Type 0
+IsShownOf = IsNoted (λ shown. shown.status) (λ shown. shown.not_done)
 
 -- what is written of them
 abbrev pub text_of : Wanted → Named → List ℕ → List ReportView → List ℕ
@@ -50,6 +57,6 @@ module _ {S : Type 0} (sink : S → Sink) where
       × AreColumns named.0 (only_of wanted.only) instances × IsRefused error named × (new ≡ old)
 
   -- the same for the chart that the bytes say; or nothing was written, where the bytes have a fault
-  abbrev pub ShowsText : S → S → Wanted → List ℕ → Result Status FormatError → Type 0
+  abbrev pub ShowsText : S → S → Wanted → List ℕ → Result ShownFile FormatError → Type 0
   ShowsText old new wanted bytes =
-      OfFile Program (λ source done. Shows old new done wanted (named_of source)) old new bytes
+      OfFile Program (IsShownOf (λ source done. Shows old new done wanted (named_of source))) old new bytes

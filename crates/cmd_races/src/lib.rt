@@ -14,7 +14,7 @@
 //! luck alone; and of [`show_unknown`], where luck isn't known: luck alone is refused (G1), behind a name that
 //! isn't the chart's (F34).
 //!
-//! [`imports`] answers for diagrams of other tools, [`logs`] for logs, and [`schedules`] with the luck of a schedule.
+//! [`imports`] answers for diagrams of other tools, [`logs`] for logs, and [`schedules`] for `--luck` of a schedule.
 #![tactic(auto)]
 
 pub mod imports;
@@ -22,6 +22,7 @@ mod judging;
 pub mod logs;
 pub mod schedules;
 mod showing;
+mod shown_file;
 
 pub use judging::{LuckWanted, show_judged, show_unknown};
 pub use showing::{Wanted, races, show_chart};

@@ -7,6 +7,7 @@ ghost use Rattle.cmd_races.specs.Showing.{Shows, ShowsText};
 ghost use Rattle.cmd_races.specs.Statuses.{shown_exit};
 ghost use Rattle.races_text.specs.Named.Listing.{is_there};
 
+use crate::shown_file::ShownFile;
 use chart::{Chart, InstanceNo, Names};
 use closure::Closure;
 use cmd_base::columns::{FormatError, columns_in};
@@ -108,19 +109,24 @@ fn show_text<W: Out>(
     bytes: &[u8],
     wanted: &Wanted<'_>,
     out: &mut W,
-) -> Result<Status, FormatError>
+) -> Result<ShownFile, FormatError>
     ensures { ShowsText W.sink out.old out.new wanted.now bytes.now result }
 {
     let text = Text::read(alloc, bytes)?;
     let source = Source::of(alloc, &text)?;
-    show_chart(alloc, source.names(), source.chart(), wanted, out)
+    let status = show_chart(alloc, source.names(), source.chart(), wanted, out)?;
+    Ok(ShownFile {
+        status,
+        not_done: source.not_done(),
+    })
 }
 
 /// Writes the races of the chart that the bytes of a file say, or of what the schedule comes to that they say: by the
 /// names of their messages, a line for each range of earlier events, or a JSON object for each receive. Writes the line
-/// of a refusal to `err`. Answers the exit status: 1 where a race is shown, 0 where none is, 2 after a refusal. The
-/// text's faults are refused first, then F34, then F16, F17 or F18. Nothing is written to `out` before a refusal, but
-/// where writing to it failed (F24). A failed write to `err` changes nothing.
+/// of a refusal to `err`, and of a schedule how many of its commands did nothing. Answers the exit status: 1 where a
+/// race is shown, 0 where none is, 2 after a refusal. The text's faults are refused first, then F34, then F16, F17 or
+/// F18. Nothing is written to `out` before a refusal, but where writing to it failed (F24). A failed write to `err`
+/// changes nothing.
 pub fn races<W: Out, V: Out>(
     alloc: Global,
     bytes: &[u8],

@@ -1,8 +1,9 @@
 -- Which races of a schedule are shown where luck alone is asked for.
-use Rattle.std.specs.Prelude.{◌≡◌, ℕ, Bool, true, false, List, Result, Err}
+use Rattle.std.specs.Prelude.{◌≡◌, ℕ, Bool, true, false, List, Result, Ok, Err}
 use Rattle.chart.specs.declared.instance.EventNo.{EventNo}
 use Rattle.closure.specs.Faults.{place_of}
-use Rattle.cmd_base.specs.Files.{is_schedule}
+use Rattle.cmd_base.specs.Files.{Named, is_schedule}
+use Rattle.cmd_base.specs.Statuses.{status_in}
 use Rattle.cmd_base.specs.Texts.{OfFile}
 use Rattle.cmd_base.specs.declared.error.ProgramError.TheVariants as errors
 use Rattle.cmd_base.specs.declared.source.Source.{Source}
@@ -12,10 +13,13 @@ use Rattle.cmd_base.specs.declared.columns.error.FormatError.TheVariants.{Progra
 use Rattle.texts.specs.Outs.{Sink}
 use Rattle.schedule.specs.Outcomes.Outcomes.{OutcomeView}
 use Rattle.cmd_races.specs.Judging.{ShowsJudged}
+use Rattle.cmd_races.specs.Showing.{IsShownOf}
+use Rattle.cmd_races.specs.declared.shown_file.ShownFile.{ShownFile}
 use Rattle.cmd_races.specs.declared.judging.LuckWanted.{LuckWanted}
 use Rattle.cmd_races.specs.declared.showing.Wanted.{Wanted}
 use Rattle.cmd_base.specs.declared.status.Status.{Status}
 use Rattle.race_verdicts.specs.declared.verdict.Verdict.{Verdict}
+use Rattle.races_text.specs.declared.judged.told.Told.{Told}
 use Rattle.schedule.specs.Plans.{Plan}
 use Rattle.cmd_races.specs.Schedules.Makers.{RunView}
 use Rattle.cmd_races.specs.Schedules.Verdicts.{IsVerdict}
@@ -33,18 +37,26 @@ abbrev pub luck_alone : Wanted → LuckWanted
 luck_alone wanted = record { races = wanted; luck = true }
 
 module _ {S : Type 0} (sink : S → Sink) where
+  -- the races of a run that were luck were shown, and the status tells whether one is, since none is begun in the middle; or
+  -- they were refused
+  abbrev pub ShowsLucky : RunView → S → S → Result Status FormatError → Wanted → Named → Type 0
+  ShowsLucky run old new (Ok status) wanted named = (told : Told) × ShowsJudged sink (verdict_in run) old new (Ok told) (luck_alone wanted) named
+      × (status ≡ status_in told.shown)
+  ShowsLucky run old new (Err error) wanted named = ShowsJudged sink (verdict_in run) old new (Err error) (luck_alone wanted) named
+
   -- the races of the run that were luck were shown, or refused; of a chart nothing is known of luck
   abbrev pub ShowsRun : S → S → Result Status FormatError → Wanted → Source → Type 0
   ShowsRun old new done wanted (Run schedule outcome) =
-      ShowsJudged sink (verdict_in (run_of schedule.now outcome)) old new done (luck_alone wanted) (outcome.names, outcome.chart)
+      ShowsLucky (run_of schedule.now outcome) old new done wanted (outcome.names, outcome.chart)
   ShowsRun old new done wanted (Written named) = (done ≡ Err (Program errors.Usage)) × (new ≡ old)
 
   -- by whether the file is a schedule: of any other luck is refused, whatever it says
-  abbrev pub ShowsBy : Bool → S → S → Wanted → List ℕ → Result Status FormatError → Type 0
-  ShowsBy true old new wanted bytes done = OfFile Program (λ source done. ShowsRun old new done wanted source) old new bytes done
+  abbrev pub ShowsBy : Bool → S → S → Wanted → List ℕ → Result ShownFile FormatError → Type 0
+  ShowsBy true old new wanted bytes done =
+      OfFile Program (IsShownOf (λ source done. ShowsRun old new done wanted source)) old new bytes done
   ShowsBy false old new wanted bytes done = (done ≡ Err (Program errors.Usage)) × (new ≡ old)
 
   -- the races of the schedule that were luck were shown; or nothing was written, where the bytes are no schedule's or have a
   -- fault
-  abbrev pub ShowsLuck : S → S → Wanted → List ℕ → Result Status FormatError → Type 0
+  abbrev pub ShowsLuck : S → S → Wanted → List ℕ → Result ShownFile FormatError → Type 0
   ShowsLuck old new wanted bytes done = ShowsBy (is_schedule bytes) old new wanted bytes done

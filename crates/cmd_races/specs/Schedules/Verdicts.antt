@@ -1,5 +1,6 @@
--- Which races of a schedule were luck (this project's profile of schedules): the earlier receive would have taken the
--- later message, had that come first. A race that was none has the first reason that applies.
+-- What is said of the races of a schedule (this project's profile of schedules). Luck is said where the earlier receive
+-- takes from anyone and no other message of the later one's sender comes between. Whether some run of the schedule's
+-- commands has the other order isn't asked. A race of which luck isn't said has the first reason that applies.
 use Rattle.std.specs.Prelude.{ℕ, ◌<◌}
 use Rattle.chart.specs.Charts.{Chart, Place, at, chart_lines, IsSendTo, IsReceiveFrom}
 use Rattle.race_verdicts.specs.declared.verdict.Verdict.{Verdict}

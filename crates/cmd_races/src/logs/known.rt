@@ -4,19 +4,29 @@ ghost use Rattle.chart.specs.Charts.{IsNumbered};
 ghost use Rattle.cmd_import_log.specs.Recording.{lent_of};
 ghost use Rattle.race_verdicts.specs.Luck.Recorded.{IsRecording};
 ghost use Rattle.cmd_races.specs.Judging.{ShowsJudged};
-ghost use Rattle.cmd_races.specs.Logs.Showing.{verdict_in, ShowsRecording};
+ghost use Rattle.cmd_races.specs.Logs.Showing.{verdict_in, status_told, shown_told};
+ghost use Rattle.cmd_races.specs.Logs.Showing.{ShowsKnown, ShowsOther, ShowsRecording};
 
 use crate::{LuckWanted, show_judged, show_unknown};
 use chart::EventNo;
 use closure::Closure;
 use cmd_base::columns::{FormatError, columns_in};
 use cmd_base::{ProgramError, Status, closure_of};
-use cmd_import_log::LogRecording;
+use cmd_import_log::{LogDrawing, LogRecording};
 use race_verdicts::Verdict;
 use race_verdicts::luck::Judge;
-use races_text::judged::Verdicts;
+use races_text::judged::{Told, Verdicts};
 use std::alloc::Global;
 use texts::Out;
+
+/// What came of the races of a log that were shown.
+#[derive(Clone, Copy, Debug, PartialEq, Eq)]
+pub struct ShownRaces {
+    /// Whether one is shown, where that is known.
+    pub status: Status,
+    /// Whether there are some that are asked for, and none is claimed: each is begun in the middle.
+    pub is_unclaimed: bool,
+}
 
 /// What is said of the races of a recording.
 #[derive(Drop)]
@@ -59,13 +69,14 @@ fn judge_of<'a>(
     }
 }
 
-/// Writes the races that are wanted of a recording of which luck is known, with the words of their verdicts.
+/// Writes the races that are wanted of a recording of which luck is known, with the words of their verdicts. Answers
+/// what is told of them.
 fn show_known<W: Out>(
     alloc: Global,
     recording: &LogRecording<'_>,
     wanted: &LuckWanted<'_>,
     out: &mut W,
-) -> Result<Status, FormatError>
+) -> Result<Told, FormatError>
     requires names { length recording.now.drawing.diagnostics.names ≡ length recording.now.drawing.chart }
     requires keeps { IsRecording recording.now.drawing.chart (lent_of recording.now) }
     requires numbered { IsNumbered recording.now.drawing.chart }
@@ -87,28 +98,90 @@ fn show_known<W: Out>(
     )
 }
 
+/// The exit status of races of which this is told.
+fn status_of(told: &Told) -> Status
+    ensures { result ≡ status_told told.now }
+{
+    if told.shown {
+        return Status::Races;
+    }
+    if told.claims_none() {
+        Status::NotKnown
+    } else {
+        Status::NoRaces
+    }
+}
+
+/// What came of races of which this is told.
+fn shown_by(told: &Told) -> ShownRaces
+    ensures { result ≡ shown_told told.now }
+{
+    ShownRaces {
+        status: status_of(told),
+        is_unclaimed: told.claims_none(),
+    }
+}
+
+/// Writes the races of a recording of which luck is known.
+fn show_judged_races<W: Out>(
+    alloc: Global,
+    recording: &LogRecording<'_>,
+    wanted: &LuckWanted<'_>,
+    out: &mut W,
+) -> Result<ShownRaces, FormatError>
+    requires names { length recording.now.drawing.diagnostics.names ≡ length recording.now.drawing.chart }
+    requires keeps { IsRecording recording.now.drawing.chart (lent_of recording.now) }
+    requires numbered { IsNumbered recording.now.drawing.chart }
+    ensures { ShowsKnown W.sink out.old out.new result wanted.now
+        (recording.now.drawing.diagnostics.names, recording.now.drawing.chart) (lent_of recording.now) }
+{
+    match show_known(alloc, recording, wanted, out) {
+        Ok(told) => Ok(shown_by(&told)),
+        Err(error) => Err(error),
+    }
+}
+
+/// Writes the races of a recording of which luck isn't known, with no words.
+fn show_other_races<W: Out>(
+    alloc: Global,
+    drawing: &LogDrawing,
+    wanted: &LuckWanted<'_>,
+    out: &mut W,
+) -> Result<ShownRaces, FormatError>
+    requires { length drawing.now.diagnostics.names ≡ length drawing.now.chart }
+    ensures { ShowsOther W.sink out.old out.new result wanted.now
+        (drawing.now.diagnostics.names, drawing.now.chart) }
+{
+    match show_unknown(
+        alloc,
+        &drawing.diagnostics.names,
+        &drawing.chart,
+        wanted,
+        out,
+    ) {
+        Ok(status) => Ok(ShownRaces {
+            status,
+            is_unclaimed: false,
+        }),
+        Err(error) => Err(error),
+    }
+}
+
 /// Writes the races that are wanted of a recording: where luck is known of it, with the words of their verdicts.
 pub(crate) fn show_recording<W: Out>(
     alloc: Global,
     recording: &LogRecording<'_>,
     wanted: &LuckWanted<'_>,
     out: &mut W,
-) -> Result<Status, FormatError>
+) -> Result<ShownRaces, FormatError>
     requires names { length recording.now.drawing.diagnostics.names ≡ length recording.now.drawing.chart }
     requires keeps { IsRecording recording.now.drawing.chart (lent_of recording.now) }
     requires numbered { IsNumbered recording.now.drawing.chart }
     ensures { ShowsRecording W.sink out.old out.new result wanted.now recording.now }
 {
     if recording.is_known {
-        show_known(alloc, recording, wanted, out)
+        show_judged_races(alloc, recording, wanted, out)
     } else {
-        let drawing = &recording.drawing;
-        show_unknown(
-            alloc,
-            &drawing.diagnostics.names,
-            &drawing.chart,
-            wanted,
-            out,
-        )
+        show_other_races(alloc, &recording.drawing, wanted, out)
     }
 }

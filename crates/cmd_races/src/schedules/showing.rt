@@ -5,13 +5,16 @@ ghost use Rattle.cmd_base.specs.Texts.{ComesFrom, OfFile};
 ghost use Rattle.cmd_base.specs.declared.columns.error.FormatError.TheVariants.{Program};
 ghost use Rattle.schedule.specs.Outcomes.Outcomes.{IsOutcome};
 ghost use Rattle.cmd_races.specs.Judging.{ShowsJudged};
+ghost use Rattle.cmd_races.specs.Showing.{IsShownOf};
 ghost use Rattle.cmd_races.specs.Statuses.{shown_exit};
-ghost use Rattle.cmd_races.specs.Schedules.Showing.{run_of, verdict_in, luck_alone, ShowsRun, ShowsLuck};
+ghost use Rattle.cmd_races.specs.Schedules.Showing.{run_of, verdict_in, luck_alone, ShowsLucky, ShowsRun, ShowsLuck};
 
 use crate::schedules::verdicts::Makers;
+use crate::shown_file::ShownFile;
 use crate::{LuckWanted, Wanted, show_judged};
 use cmd_base::columns::{FormatError, columns_in};
 use cmd_base::{ProgramError, Source, Status, Text, answered, closure_of, is_schedule};
+use races_text::judged::Told;
 use schedule::Schedule;
 use schedule::outcomes::Outcome;
 use std::alloc::Global;
@@ -38,14 +41,14 @@ fn makers_of<'a>(
     }
 }
 
-/// Writes the races of a run that are wanted, of those that were luck.
-fn show_run<W: Out>(
+/// Writes the races of a run that are wanted, of those that were luck, and answers what is told of them.
+fn show_told<W: Out>(
     alloc: Global,
     schedule: &Schedule,
     outcome: &Outcome<'_>,
     wanted: &Wanted<'_>,
     out: &mut W,
-) -> Result<Status, FormatError>
+) -> Result<Told, FormatError>
     requires { IsOutcome schedule.now outcome.now }
     ensures { ShowsJudged W.sink (verdict_in (run_of schedule.now outcome.now)) out.old out.new result
         (luck_alone wanted.now) (outcome.now.names, outcome.now.chart) }
@@ -67,6 +70,24 @@ fn show_run<W: Out>(
         &makers,
         out,
     )
+}
+
+/// Writes them, and answers whether one is shown.
+fn show_run<W: Out>(
+    alloc: Global,
+    schedule: &Schedule,
+    outcome: &Outcome<'_>,
+    wanted: &Wanted<'_>,
+    out: &mut W,
+) -> Result<Status, FormatError>
+    requires { IsOutcome schedule.now outcome.now }
+    ensures { ShowsLucky W.sink (run_of schedule.now outcome.now) out.old out.new result wanted.now
+        (outcome.now.names, outcome.now.chart) }
+{
+    match show_told(alloc, schedule, outcome, wanted, out) {
+        Ok(told) => Ok(Status::of(told.shown)),
+        Err(error) => Err(error),
+    }
 }
 
 /// Writes them of a schedule. Of a chart nothing is known of luck.
@@ -91,13 +112,17 @@ fn show_text<W: Out>(
     bytes: &[u8],
     wanted: &Wanted<'_>,
     out: &mut W,
-) -> Result<Status, FormatError>
-    ensures { OfFile Program (λ source done. ShowsRun W.sink out.old out.new done wanted.now source) out.old out.new
-        bytes.now result }
+) -> Result<ShownFile, FormatError>
+    ensures { OfFile Program (IsShownOf (λ source done. ShowsRun W.sink out.old out.new done wanted.now source)) out.old
+        out.new bytes.now result }
 {
     let text = Text::read(alloc, bytes)?;
     let source = Source::of(alloc, &text)?;
-    show_source(alloc, &source, wanted, out)
+    let status = show_source(alloc, &source, wanted, out)?;
+    Ok(ShownFile {
+        status,
+        not_done: source.not_done(),
+    })
 }
 
 /// Writes them of a schedule, and refuses what is none.
@@ -106,7 +131,7 @@ fn show_luck<W: Out>(
     bytes: &[u8],
     wanted: &Wanted<'_>,
     out: &mut W,
-) -> Result<Status, FormatError>
+) -> Result<ShownFile, FormatError>
     ensures { ShowsLuck W.sink out.old out.new wanted.now bytes.now result }
 {
     if is_schedule(bytes) {
@@ -118,10 +143,10 @@ fn show_luck<W: Out>(
 
 /// Writes the races that are wanted of the schedule that the bytes of a file say, of those that were luck: by the names
 /// of their messages, a line for each range of earlier events, or a JSON object for each receive, each with its word.
-/// Writes the line of a refusal to `err`. Answers the exit status: 1 where a race is shown, 0 where none is, 2 after a
-/// refusal. A file that is no schedule is refused first, whatever it says (G1), then the text's faults, then F34.
-/// Nothing is written to `out` before a refusal, but where writing to it failed (F24). A failed write to `err` changes
-/// nothing.
+/// Writes the line of a refusal to `err`, or how many commands did nothing. Answers the exit status: 1 where a race is
+/// shown, 0 where none is, 2 after a refusal. A file that is no schedule is refused first, whatever it says (G1), then
+/// the text's faults, then F34. Nothing is written to `out` before a refusal, but where writing to it failed (F24). A
+/// failed write to `err` changes nothing.
 pub fn lucky_races<W: Out, V: Out>(
     alloc: Global,
     bytes: &[u8],

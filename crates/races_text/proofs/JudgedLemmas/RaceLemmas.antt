@@ -1,11 +1,11 @@
 -- A race of a chart is of a receive and an event.
-use Rattle.std.proofs.Common.{◌≡◌, ℕ, zero, suc, ◌+◌, ◌<◌, ◌≤◌, true, List, [], ◌∷◌, Some, length, map, get_or, refl, sym, ap, ap₂, ◌∙◌, subst, arith}
+use Rattle.std.proofs.Common.{◌≡◌, ℕ, zero, suc, ◌+◌, true, List, [], ◌∷◌, Some, map, refl, sym, ap, ◌∙◌, subst, arith}
 use Rattle.std.specs.Prelude.{All, Contains, slice_get}
 use Rattle.std.specs.List.{flat_map}
 use Rattle.std.proofs.lemmas.Bool.{eq-eqb}
 use Rattle.std.proofs.lemmas.List.Elements.{All-nil, All-cons, All-append, All-head, All-tail, All-contains, All-contains_itself, All-weaker}
 use Rattle.std.proofs.lemmas.Option.{get_or_from_slice_get}
-use Rattle.chart.specs.Charts.{Place, at, LineView, chart_lines, IsReceiveFrom, IsNumbered}
+use Rattle.chart.specs.Charts.{at, LineView, chart_lines, IsReceiveFrom, IsNumbered}
 use Rattle.chart.specs.Events.{ith, is_receive_from}
 use Rattle.chart.specs.Places.{IsEvent}
 use Rattle.chart.specs.Reports.{ReportView, IsReportIn, AreReports, receives_from, receives_of}

@@ -22,8 +22,8 @@ adds_failed (Ok x) failed stops = cc
 adds_failed (Err e) failed stops = stops
 
 -- what is told where there is a value, by another word for it
-pub selected_as : {E : Type 0} {a b : Bool} (r : Result Bool E) → a ≡ b → IfOk r (λ has. has ≡ a) → IfOk r (λ has. has ≡ b)
-selected_as r same query = subst (λ x. IfOk r (λ has. has ≡ x)) same query
+pub told_as : {T E : Type 0} {a b : T} (r : Result T E) → a ≡ b → IfOk r (λ told. told ≡ a) → IfOk r (λ told. told ≡ b)
+told_as r same told = subst (λ x. IfOk r (λ told. told ≡ x)) same told
 
 -- those that are shown, of some and one more
 abbrev shown_if : Bool → Part → List Part

@@ -19,8 +19,10 @@ use Rattle.races_text.specs.declared.named.words.Word.TheVariants.{EndObject}
 use Rattle.races_text.specs.Judged.JsonText.{front_text as json_front, next_text as json_next}
 use Rattle.races_text.specs.Judged.Parts.{AreParts, HaveBegun, is_shown, shown_parts, has_parts}
 use Rattle.races_text.specs.Judged.PlainText.{line_text}
+use Rattle.races_text.specs.Judged.Telling.{claims_parts}
 use Rattle.races_text.specs.declared.judged.part.Part.{Part}
 use Rattle.races_text.specs.declared.judged.listing.VerdictQuery.{VerdictQuery}
+use Rattle.races_text.specs.declared.judged.told.Told.{Told}
 
 -- The text of the ranges of a receive, in a form.
 
@@ -107,6 +109,18 @@ luck_text manner names lines parted = flat_map (report_text manner names lines) 
 abbrev pub shows_luck : LuckManner → List PartedReport → Bool
 shows_luck manner parted = list_any (shows_parts manner) parted
 
+-- there is a race, whether it is shown or not
+abbrev pub has_races : List PartedReport → Bool
+has_races parted = list_any (λ p. has_parts p.parts) parted
+
+-- one is claimed: it isn't begun in the middle
+abbrev pub claims_some : List PartedReport → Bool
+claims_some parted = list_any (λ p. claims_parts p.parts) parted
+
+-- what is told of all
+abbrev pub told_of : LuckManner → List PartedReport → Told
+told_of manner parted = record { shown = shows_luck manner parted; any = has_races parted; claimed = claims_some parted }
+
 module _ (is : EventNo → EventNo → Verdict → Type 0) (manner : Manner) (lines : List LineView) where
   -- these are the ranges of a report
   pub record IsParted (report : ReportView) (parted : PartedReport) : Type 0 where
@@ -144,18 +158,18 @@ module _ (is : EventNo → EventNo → Verdict → Type 0) (manner : Manner) (li
 
 module _ {S E : Type 0} (sink : S → Sink) where
   -- the races of the chart with these lines were added to a text, by what is a verdict, and it was told whether one is
-  -- shown
+  -- shown, whether there is one, and whether one is claimed
   abbrev pub HasAdded : TextBuffer S → TextBuffer S → (EventNo → EventNo → Verdict → Type 0) → LuckManner
-      → List (List ℕ) → List LineView → Result Bool E → Type 0
+      → List (List ℕ) → List LineView → Result Told E → Type 0
   HasAdded old new is manner names lines result = (reports : List ReportView) × (parted : List PartedReport)
       × AreSelected manner.races.completed lines reports × ArePartedTo is manner.races lines reports result parted
       × Adds sink old new result (luck_text manner names lines parted)
-      × IfOk result (λ has. has ≡ shows_luck manner parted)
+      × IfOk result (λ told. told ≡ told_of manner parted)
 
   -- they were written
   abbrev pub HasWritten : S → S → (EventNo → EventNo → Verdict → Type 0) → LuckManner → List (List ℕ)
-      → List LineView → Result Bool E → Type 0
+      → List LineView → Result Told E → Type 0
   HasWritten old new is manner names lines result = (reports : List ReportView) × (parted : List PartedReport)
       × AreSelected manner.races.completed lines reports × ArePartedTo is manner.races lines reports result parted
       × Wrote sink old new result (luck_text manner names lines parted)
-      × IfOk result (λ has. has ≡ shows_luck manner parted)
+      × IfOk result (λ told. told ≡ told_of manner parted)

@@ -1,5 +1,5 @@
 //! The races of a recording, receive by receive.
-ghost use Rattle.std.specs.Prelude.{◌≡◌, ◌||◌, List, [], length, All, IfOk, IfSome};
+ghost use Rattle.std.specs.Prelude.{◌≡◌, List, [], length, All, IfOk, IfSome};
 ghost use Rattle.chart.specs.Charts.{chart_lines, IsPossible};
 ghost use Rattle.chart.specs.Ranges.{IsRange, events_in};
 ghost use Rattle.chart.specs.Reports.{ReportView, IsReportIn};
@@ -8,15 +8,17 @@ ghost use Rattle.closure.specs.Reported.{HaveReported};
 ghost use Rattle.texts.specs.Writing.{Adds};
 ghost use Rattle.races_text.specs.Named.Kept.{later_than};
 ghost use Rattle.races_text.specs.Named.Listing.{manner_of, IsSelectedOf};
-ghost use Rattle.races_text.specs.Judged.Parts.{Judges, is_shown, shown_parts, has_parts};
+ghost use Rattle.races_text.specs.Judged.Parts.{Judges, is_shown, shown_parts};
+ghost use Rattle.races_text.specs.Judged.Telling.{told_parts, told_more};
 ghost use Rattle.races_text.specs.Judged.Listing.{PartedReport, first_text, later_text, ended_text, begun_text, parts_text, added_text};
 ghost use Rattle.races_text.specs.declared.judged.part.Part.{Part};
-ghost use Rattle.races_text.specs.Judged.Listing.{IsRaceIn, HasParted, luck_manner, selected_events, report_text, shows_parts, HasAdded, HasWritten};
+ghost use Rattle.races_text.specs.Judged.Listing.{IsRaceIn, HasParted, luck_manner, selected_events, report_text, HasAdded, HasWritten};
 
 use crate::judged::part::Part;
+use crate::judged::told::Told;
 use crate::judged::verdicts::{Verdicts, is_luck};
 use crate::judged::{json, plain};
-use crate::named::{Form, KeptEvents, RaceQuery, Word, add_word, either, is_among, passed_by};
+use crate::named::{Form, KeptEvents, RaceQuery, Word, add_word, is_among, passed_by};
 use chart::line_events::events_of;
 use chart::{Event, EventNo, EventRange};
 use closure::Reporter;
@@ -96,7 +98,7 @@ fn is_shown(luck: bool, part: &Part) -> bool
     if luck { is_luck(part.verdict) } else { true }
 }
 
-/// Adds a range behind those so far, of which there are some or none, where it is shown.
+/// Adds a range behind those so far, of which this is told, where it is shown, and answers what is told then.
 fn add_shown<W: Out>(
     text: &mut TextBuffer<'_, W>,
     query: &RaceQuery<'_>,
@@ -104,74 +106,89 @@ fn add_shown<W: Out>(
     receive: &EventNo,
     events: &[Event],
     part: &Part,
-    has: bool,
-) -> Result<bool, WriteError>
+    told: &Told,
+) -> Result<Told, WriteError>
     requires { IsRange part.now.range }
     ensures added { Adds W.sink text.old text.new result
-        (added_text query.now.form query.now.names.now events.now receive.now luck has part.now) }
-    ensures has { IfOk result (λ some. some ≡ (has || is_shown luck part.now)) }
+        (added_text query.now.form query.now.names.now events.now receive.now luck told.now.shown part.now) }
+    ensures told { IfOk result (λ more. more ≡ told_more told.now (is_shown luck part.now) part.now.verdict) }
 {
     if !is_shown(luck, part) {
-        return Ok(has);
+        return Ok(told.more(false, part.verdict));
     }
-    if has {
+    if told.shown {
         add_later(text, query, receive, events, part)?;
-        Ok(true)
     } else {
         add_first(text, query, receive, events, part)?;
-        Ok(true)
     }
+    Ok(told.more(true, part.verdict))
 }
 
-/// Adds the ranges of these events that are shown, without the end, and answers whether there are some.
+/// Adds the ranges of these events that are shown, without the end, and answers what is told of all.
 fn add_begun<W: Out, V: Verdicts>(
     text: &mut TextBuffer<'_, W>,
     query: &VerdictQuery<'_, V>,
     receive: &EventNo,
     events: &[Event],
     kept: KeptEvents<'_>,
-) -> Result<bool, WriteError>
+) -> Result<Told, WriteError>
     requires { All (V.is_race query.now.verdicts.now receive.now) kept }
     ensures { (parts : List Part) × Judges (V.is_verdict query.now.verdicts.now receive.now) kept.entry result parts
         × Adds W.sink text.old text.new result (begun_text query.now.query.form query.now.query.names.now
         events.now receive.now (shown_parts query.now.luck parts))
-        × IfOk result (λ has. has ≡ has_parts (shown_parts query.now.luck parts)) }
+        × IfOk result (λ told. told ≡ told_parts query.now.luck parts) }
 {
     let mut kept = kept;
     let Some(first) = kept.next_event() else {
-        return Ok(false);
+        return Ok(Told::none());
     };
     let mut part = Part::of(&first, query.verdicts.verdict(receive, &first));
-    let mut has = false;
+    let mut told = Told::none();
     while let Some(event) = kept.next_event() {
         let verdict = query.verdicts.verdict(receive, &event);
         if part.goes_on(&event, verdict) {
             part.range.count += 1;
         } else {
-            has = add_shown(text, &query.query, query.luck, receive, events, &part, has)?;
+            told = add_shown(
+                text,
+                &query.query,
+                query.luck,
+                receive,
+                events,
+                &part,
+                &told,
+            )?;
             part = Part::of(&event, verdict);
         }
     }
-    add_shown(text, &query.query, query.luck, receive, events, &part, has)
+    add_shown(
+        text,
+        &query.query,
+        query.luck,
+        receive,
+        events,
+        &part,
+        &told,
+    )
 }
 
-/// Adds the ranges of these events that are shown, and answers whether there are some.
+/// Adds the ranges of these events that are shown, and answers what is told of all.
 fn add_parts<W: Out, V: Verdicts>(
     text: &mut TextBuffer<'_, W>,
     query: &VerdictQuery<'_, V>,
     receive: &EventNo,
     events: &[Event],
     kept: KeptEvents<'_>,
-) -> Result<bool, WriteError>
+) -> Result<Told, WriteError>
     requires { All (V.is_race query.now.verdicts.now receive.now) kept }
     ensures { (parts : List Part) × Judges (V.is_verdict query.now.verdicts.now receive.now) kept.entry result parts
         × Adds W.sink text.old text.new result (parts_text query.now.query.form query.now.query.names.now
         events.now receive.now (shown_parts query.now.luck parts))
-        × IfOk result (λ has. has ≡ has_parts (shown_parts query.now.luck parts)) }
+        × IfOk result (λ told. told ≡ told_parts query.now.luck parts) }
 {
-    let has = add_begun(text, query, receive, events, kept)?;
-    add_end(text, query.query.form, has)?;
-    Ok(has)
+    let told = add_begun(text, query, receive, events, kept)?;
+    add_end(text, query.query.form, told.shown)?;
+    Ok(told)
 }
 
 /// The earlier events of a receive that are told, of those of these ranges that are later than so many first ones.
@@ -194,34 +211,34 @@ fn selected_events<'a>(
 }
 
 /// Adds the ranges of a receive's races, of the events of these ranges that are later than so many first ones, and
-/// answers whether one is shown.
+/// answers what is told of them.
 fn add_selected<W: Out, V: Verdicts>(
     text: &mut TextBuffer<'_, W>,
     query: &VerdictQuery<'_, V>,
     receive: &EventNo,
     passed: u32,
     earlier: &[EventRange],
-) -> Result<bool, WriteError>
+) -> Result<Told, WriteError>
     requires ranges { All IsRange earlier.now }
     requires races { All (V.is_race query.now.verdicts.now receive.now) (events_in earlier.now) }
     ensures { (parted : PartedReport) × HasParted (V.is_verdict query.now.verdicts.now) (manner_of query.now.query)
         query.now.query.lines.now (record { receive = receive.now; earlier = later_than passed (events_in earlier.now) }) result parted
         × Adds W.sink text.old text.new result
         (report_text (luck_manner query.now) query.now.query.names.now query.now.query.lines.now parted)
-        × IfOk result (λ has. has ≡ shows_parts (luck_manner query.now) parted) }
+        × IfOk result (λ told. told ≡ told_parts query.now.luck parted.parts) }
 {
     let kept = selected_events(&query.query, receive, passed, earlier);
     let events = events_of(query.query.lines, receive.instance);
     add_parts(text, query, receive, events, kept)
 }
 
-/// Adds the text of what is told of a receive's report, and answers whether a race is shown.
+/// Adds the text of what is told of a receive's report, and answers what is told of its races.
 fn add_report<W: Out, V: Verdicts>(
     text: &mut TextBuffer<'_, W>,
     query: &VerdictQuery<'_, V>,
     receive: EventNo,
     earlier: &[EventRange],
-) -> Result<bool, WriteError>
+) -> Result<Told, WriteError>
     requires report { IsReportIn (chart_lines query.now.query.lines.now)
         (record { receive = receive; earlier = events_in earlier.now }) }
     requires ranges { All IsRange earlier.now }
@@ -233,18 +250,18 @@ fn add_report<W: Out, V: Verdicts>(
         query.now.query.lines.now shown result parted
         × Adds W.sink text.old text.new result
         (report_text (luck_manner query.now) query.now.query.names.now query.now.query.lines.now parted)
-        × IfOk result (λ has. has ≡ shows_parts (luck_manner query.now) parted) }
+        × IfOk result (λ told. told ≡ told_parts query.now.luck parted.parts) }
 {
     let passed = passed_by(&query.query, &receive, earlier);
     add_selected(text, query, &receive, passed, earlier)
 }
 
-/// Adds the text of each receive's races as they are found, and answers whether one is shown.
+/// Adds the text of each receive's races as they are found, and answers what is told of all.
 fn add_found<W: Out, V: Verdicts>(
     text: &mut TextBuffer<'_, W>,
     query: &VerdictQuery<'_, V>,
     reporter: Reporter<'_>,
-) -> Result<bool, WriteError>
+) -> Result<Told, WriteError>
     requires reporter { HaveReported reporter.lines reporter.line reporter.place [] }
     requires lines { query.now.query.lines.now ≡ reporter.lines }
     requires possible { IsPossible (length query.now.query.lines.now) (chart_lines query.now.query.lines.now) }
@@ -255,22 +272,23 @@ fn add_found<W: Out, V: Verdicts>(
         query.now.query.names.now query.now.query.lines.now result }
 {
     let mut reporter = reporter;
-    let mut has_races = false;
+    let mut told = Told::none();
     while let Some(receive) = reporter.next() {
-        let has = add_report(text, query, receive, reporter.earlier())?;
-        has_races = either(has_races, has);
+        let more = add_report(text, query, receive, reporter.earlier())?;
+        told = told.either(&more);
     }
-    Ok(has_races)
+    Ok(told)
 }
 
 /// Writes the races that a reporter finds in the chart with these lines, each range with its word, or luck alone, and
-/// answers whether one is shown. It takes no memory. F24: a put failed.
+/// answers what is told of them: whether one is shown, whether there is one, and whether one isn't begun in the middle.
+/// It takes no memory. F24: a put failed.
 #[tactic(auto, using(texts::proofs::Writes::joining, crate::proofs::NamedLemmas::FoundRaces::wrote_less, crate::proofs::NamedLemmas::FoundRaces::vacuous))]
 pub fn write_luck<W: Out, V: Verdicts>(
     query: &VerdictQuery<'_, V>,
     reporter: Reporter<'_>,
     out: &mut W,
-) -> Result<bool, WriteError>
+) -> Result<Told, WriteError>
     requires reporter { HaveReported reporter.lines reporter.line reporter.place [] }
     requires lines { query.now.query.lines.now ≡ reporter.lines }
     requires possible { IsPossible (length query.now.query.lines.now) (chart_lines query.now.query.lines.now) }
@@ -281,7 +299,7 @@ pub fn write_luck<W: Out, V: Verdicts>(
         query.now.query.names.now query.now.query.lines.now result }
 {
     let mut text = TextBuffer::new(out);
-    let has_races = add_found(&mut text, query, reporter)?;
+    let told = add_found(&mut text, query, reporter)?;
     text.finish()?;
-    Ok(has_races)
+    Ok(told)
 }

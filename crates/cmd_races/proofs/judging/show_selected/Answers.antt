@@ -1,14 +1,10 @@
-use Rattle.std.proofs.Common.{◌≡◌, Bool, List, Ok, Err, ap, ◌∙◌, subst}
+use Rattle.std.proofs.Common.{Bool, List, subst}
 use Rattle.chart.specs.Charts.{LineView}
 use Rattle.chart.specs.declared.instance.EventNo.{EventNo}
 use Rattle.chart.specs.Reports.{ReportView}
-use Rattle.cmd_base.specs.declared.error.ProgramError.TheVariants as errors
-use Rattle.cmd_base.specs.declared.columns.error.FormatError.{FormatError}
-use Rattle.cmd_base.specs.declared.columns.error.FormatError.TheVariants.{Program}
-use Rattle.cmd_base.specs.Statuses.{status_in}
-use Rattle.texts.specs.Writing.{Puts, Breaks}
+use Rattle.texts.specs.Writing.{Puts}
 use Rattle.races_text.specs.Named.Listing.{Manner, AreSelected, is_there}
-use Rattle.races_text.specs.Judged.Listing.{IsRaceIn, PartedReport, AreParted, HaveParted, luck_text, shows_luck}
+use Rattle.races_text.specs.Judged.Listing.{IsRaceIn, PartedReport, AreParted, luck_text}
 use Rattle.cmd_races.specs.Judging.{luck_manner_of}
 use Rattle.cmd_races.proofs.judging.show_selected.Goals as goal
 
@@ -37,5 +33,5 @@ returns-in-Ok-write_luck g c =
         parted_so = subst (λ (b : Bool). AreParted is (manner_as b) closure reports parted) c.requires.asked are;
       },
       subst (λ (ls : List LineView). Puts g.W.Out.sink c.args.out.now c.write_luck.new.out (luck_text manner c.args.names.now ls parted)) c.lines.ensures w.4,
-      c.of.ensures ∙ ap status_in w.5,
+      w.5,
     )

@@ -1,4 +1,4 @@
-use Rattle.std.proofs.Common.{◌≡◌, Bool, List, ap, ◌∙◌, subst}
+use Rattle.std.proofs.Common.{Bool, List, ap, ◌∙◌, subst}
 use Rattle.chart.specs.Charts.{LineView}
 use Rattle.chart.specs.Reports.{ReportView}
 use Rattle.cmd_base.specs.Statuses.{status_in}

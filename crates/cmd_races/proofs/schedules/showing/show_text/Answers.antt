@@ -1,19 +1,26 @@
+use Rattle.std.proofs.Common.{Ok, Err}
 use Rattle.std.proofs.lemmas.Result.{err_from_is_err_and}
 use Rattle.cmd_base.proofs.TextLemmas.{not_read, not_replayed, was_done}
 use Rattle.cmd_base.specs.declared.columns.error.FormatError.TheVariants.{Program}
+use Rattle.cmd_races.specs.Showing.{IsShownOf}
 use Rattle.cmd_races.specs.Schedules.Showing.{ShowsRun}
 use Rattle.cmd_races.proofs.schedules.showing.show_text.Goals as goal
 
 pub returns-in_err-text : goal.returns-in_err-text
 returns-in_err-text g c =
     let p = err_from_is_err_and c.from_residual.result c.from_residual.ensures.1 in
-    rw (p.1, p.2) (not_read Program (λ source done. ShowsRun g.W.Out.sink c.args.out.now c.args.out.now done c.args.wanted.now source) c.args.out.now c.args.bytes.now c.in_err-text.field-0.0 c.in_err-text.ensures)
+    rw (p.1, p.2) (not_read Program (IsShownOf (λ source done. ShowsRun g.W.Out.sink c.args.out.now c.args.out.now done c.args.wanted.now source)) c.args.out.now c.args.bytes.now c.in_err-text.field-0.0 c.in_err-text.ensures)
 
 pub returns-in_err-source : goal.returns-in_err-source
 returns-in_err-source g c =
     let p = err_from_is_err_and c.from_residual-in_err-source.result c.from_residual-in_err-source.ensures.1 in
-    rw (p.1, p.2) (not_replayed Program (λ source done. ShowsRun g.W.Out.sink c.args.out.now c.args.out.now done c.args.wanted.now source) c.args.out.now c.args.bytes.now c.in_err-source.field-0.0 c.in_err-source.ensures.memory)
+    rw (p.1, p.2) (not_replayed Program (IsShownOf (λ source done. ShowsRun g.W.Out.sink c.args.out.now c.args.out.now done c.args.wanted.now source)) c.args.out.now c.args.bytes.now c.in_err-source.field-0.0 c.in_err-source.ensures.memory)
+
+pub returns-in_err-status : goal.returns-in_err-status
+returns-in_err-status g c =
+    let p = err_from_is_err_and c.from_residual-in_err-status.result c.from_residual-in_err-status.ensures.1 in
+    rw (p.1, p.2) (was_done Program (IsShownOf (λ source done. ShowsRun g.W.Out.sink c.args.out.now c.show_source.new.out done c.args.wanted.now source)) c.args.out.now c.args.bytes.now c.show_source.new.out c.in_ok-text.text c.in_ok-source.source (Err c.in_err-status.field-0.0) c.in_ok-text.ensures c.in_ok-source.ensures.source c.in_err-status.ensures)
 
 pub returns : goal.returns
 returns g c =
-    was_done Program (λ source done. ShowsRun g.W.Out.sink c.args.out.now c.show_source.new.out done c.args.wanted.now source) c.args.out.now c.args.bytes.now c.show_source.new.out c.in_ok-text.text c.in_ok-source.source c.show_source.result c.in_ok-text.ensures c.in_ok-source.ensures.source c.show_source.ensures
+    was_done Program (IsShownOf (λ source done. ShowsRun g.W.Out.sink c.args.out.now c.show_source.new.out done c.args.wanted.now source)) c.args.out.now c.args.bytes.now c.show_source.new.out c.in_ok-text.text c.in_ok-source.source (Ok (record { status = c.in_ok-status.status; not_done = c.not_done.result })) c.in_ok-text.ensures c.in_ok-source.ensures.source (c.in_ok-status.ensures, c.not_done.ensures)

@@ -9,15 +9,17 @@ use Rattle.races_text.specs.Named.Listing.{IsSelectedOf}
 use Rattle.races_text.specs.Named.Listing.AreSelectedOf.{none}
 use Rattle.texts.specs.Writing.{Adds}
 use Rattle.texts.proofs.Writes.{buffers_nothing}
-use Rattle.races_text.proofs.NamedLemmas.FoundRaces.{adds_next, stops_at_next, any_more, vacuous}
+use Rattle.races_text.proofs.NamedLemmas.FoundRaces.{adds_next, stops_at_next, vacuous}
 use Rattle.races_text.proofs.NamedLemmas.LaterRaces.{selected_exist, selected_append, selected_push, selected_are, last_of_all}
-use Rattle.races_text.specs.Judged.Listing.{PartedReport, luck_manner, report_text, luck_text, shows_parts, shows_luck}
+use Rattle.races_text.specs.Judged.Listing.{PartedReport, luck_manner, report_text, luck_text, told_of}
+use Rattle.races_text.specs.declared.judged.told.Told.{Told}
 use Rattle.races_text.specs.Judged.Listing.AreParted.{none as none_parted}
 use Rattle.races_text.proofs.JudgedLemmas.FoundParts.{parted_push, parted_last, parted_early, are_races}
+use Rattle.races_text.proofs.JudgedLemmas.ToldLemmas.{told_next}
 use Rattle.races_text.proofs.judged.listing.add_found.Goals as goal
 
 pub loop-receive-init : goal.loop-receive-init
-loop-receive-init g c = (refl, ([], [], [], c.requires.reporter, none, none_parted, buffers_nothing c.args.text.now, refl))
+loop-receive-init g c = (refl, ([], [], [], c.requires.reporter, none, none_parted, buffers_nothing c.args.text.now, c.none-told.ensures))
 
 pub add_report-requires-clause-report : goal.add_report-requires-clause-report
 add_report-requires-clause-report g c =
@@ -59,7 +61,7 @@ loop-receive-preserved g c =
     let reports = so_far.0 in
     let found : ReportView = record { receive = c.in-Some.receive; earlier = c.next.new.self.earlier } in
     let all = reports ++ found ∷ [] in
-    let added = c.in_ok-has.ensures in
+    let added = c.in_ok-more.ensures in
     let had = c.in-Some.ensures.reported reports (subst (λ (ls : List LineView). HaveReported ls c.loop-receive.reporter.line c.loop-receive.reporter.place reports) (sym same) so_far.3) in
     let its = subst (λ (es : List EventNo). IsSelectedOf manner.races.completed chart (record { receive = c.in-Some.receive; earlier = es }) added.0) c.earlier.ensures.events added.1 in (
       c.next.ensures.lines ∙ same,
@@ -71,12 +73,12 @@ loop-receive-preserved g c =
         selected_push chart found added.0 so_far.4 its,
         parted_push verdict manner.races query.lines.now added.0 added.2 so_far.5 added.3,
         adds_next text so_far.2 added.2 so_far.6 added.4,
-        c.either-has_races.ensures ∙ any_more (shows_parts manner) so_far.2 added.2 c.loop-receive.has_races c.in_ok-has.has so_far.7 added.5,
+        c.either-told.ensures ∙ told_next manner so_far.2 added.2 c.loop-receive.told c.in_ok-more.more so_far.7 added.5,
       ),
     )
 
-pub returns-in_err-has : goal.returns-in_err-has
-returns-in_err-has g c =
+pub returns-in_err-more : goal.returns-in_err-more
+returns-in_err-more g c =
     let query = c.args.query.now.query in
     let manner = luck_manner c.args.query.now in
     let verdict = g.V.Verdicts.is_verdict c.args.query.now.verdicts.now in
@@ -88,7 +90,7 @@ returns-in_err-has g c =
     let reports = so_far.0 in
     let found : ReportView = record { receive = c.in-Some.receive; earlier = c.next.new.self.earlier } in
     let all = reports ++ found ∷ [] in
-    let added = c.in_err-has.ensures in
+    let added = c.in_err-more.ensures in
     let had = c.in-Some.ensures.reported reports (subst (λ (ls : List LineView). HaveReported ls c.loop-receive.reporter.line c.loop-receive.reporter.place reports) (sym same) so_far.3) in
     let whole = c.in-Some.ensures.whole all (subst (λ (ls : List LineView). HaveReported ls c.next.new.self.line c.next.new.self.place all) (sym c.next.ensures.lines) had) in
     let its = subst (λ (es : List EventNo). IsSelectedOf manner.races.completed chart (record { receive = c.in-Some.receive; earlier = es }) added.0) c.earlier.ensures.events added.1 in
@@ -103,7 +105,7 @@ returns-in_err-has g c =
       parted_early verdict manner.races lines c.from_residual.result failed (parted_last verdict manner.races lines added.0 added.2 rest.0 so_far.5 added.3),
       subst (λ (ps : List PartedReport). Adds g.W.Out.sink c.args.text.now c.add_report.new.text c.from_residual.result (luck_text manner query.names.now lines ps)) (append-nil parted)
           (stops_at_next text c.from_residual.result so_far.2 added.2 [] failed so_far.6 added.4),
-      vacuous (λ has. has ≡ shows_luck manner parted) c.from_residual.result failed,
+      vacuous (λ (told : Told). told ≡ told_of manner parted) c.from_residual.result failed,
     )
 
 pub returns : goal.returns
