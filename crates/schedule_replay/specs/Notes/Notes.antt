@@ -1,14 +1,33 @@
 -- The notes that a schedule's commands leave, each with the send that comes too late for it.
-use Rattle.std.specs.Prelude.{◌≡◌, ℕ, ◌==◌, ◌&&◌, Bool, false, List, [], ◌∷◌, map, nat_lt, Option, None, Some, if◌then◌else◌}
-use Rattle.schedule.specs.Outcomes.Outcomes.{OutcomeView, IsOutcome}
+use Rattle.std.specs.Prelude.{◌≡◌, ℕ, ◌==◌, ◌&&◌, Bool, false, List, [], ◌∷◌, ◌++◌, length, Option, None, Some, Result, Ok, Err, if◌then◌else◌}
+use Rattle.schedule.specs.Meaning.{Run, State, start, step, acts}
 use Rattle.schedule.specs.Plans.{Plan}
 use Rattle.schedule.specs.declared.command.Action.{Action}
 use Rattle.schedule.specs.declared.command.Action.TheVariants as actions
 use Rattle.schedule.specs.declared.command.Command.{Command}
-use Rattle.schedule.specs.declared.command.Note.{Note}
 use Rattle.schedule.specs.declared.command.Word.{Word}
 use Rattle.schedule.specs.declared.command.Word.TheVariants as words
 use Rattle.schedule_replay.specs.declared.notes.notes.Noted.{Noted}
+use Rattle.schedule_replay.specs.Notes.Lanes.{AreLanes}
+
+-- What each command leaves.
+
+-- the word of its note, or nothing, where it is done
+abbrev pub word_of : Result Run Word → Option Word
+word_of (Ok run) = None
+word_of (Err word) = Some word
+
+-- of commands that go on from a state
+abbrev pub words_from : ℕ → ℕ → State → List Command → List (Option Word)
+words_from n k s [] = []
+words_from n k s (command ∷ commands) =
+    word_of (acts n k s.run command.actor command.action) ∷ words_from n k (step n k s command) commands
+
+-- of a schedule's
+abbrev pub words_of : Plan → List (Option Word)
+words_of plan = words_from (length plan.names) plan.capacity start plan.commands
+
+-- Sends that come too late.
 
 -- the command sends from the one instance to the other
 abbrev pub is_send_to : ℕ → Action → Bool
@@ -16,32 +35,44 @@ is_send_to to (actions.Send receiver name) = receiver == to
 is_send_to to _ = false
 
 abbrev pub is_send : ℕ → ℕ → Command → Bool
-is_send from to command = command.actor == from && is_send_to to command.action
+is_send from to command = is_send_to to command.action && command.actor == from
 
--- the command of this line
-abbrev pub command_at : ℕ → List Command → Option Command
-command_at line [] = None
-command_at line (command ∷ commands) = if command.line == line then Some command else command_at line commands
+-- of some commands, each with what it leaves, the line of the first that is done and sends from the one instance to the
+-- other
+abbrev pub later_send : ℕ → ℕ → List Command → List (Option Word) → Option ℕ
+later_send from to [] left = None
+later_send from to (command ∷ commands) [] = None
+later_send from to (command ∷ commands) (None ∷ left) =
+    if is_send from to command then Some command.line else later_send from to commands left
+later_send from to (command ∷ commands) (Some word ∷ left) = later_send from to commands left
 
--- the line of the first send from one instance to another behind this line
-abbrev pub later_send : ℕ → ℕ → ℕ → List Command → Option ℕ
-later_send from to line [] = None
-later_send from to line (command ∷ commands) =
-    if nat_lt line command.line && is_send from to command then Some command.line else later_send from to line commands
+-- the line of the send that comes too late for a command that left this word, of the commands behind it: for a receive
+-- that found nothing
+abbrev pub later_for : Word → ℕ → Action → List Command → List (Option Word) → Option ℕ
+later_for words.Nothing actor (actions.Receive from) commands left = later_send from actor commands left
+later_for _ actor action commands left = None
 
--- the line of the send that comes too late for a command that left this word: for a receive that found nothing
-abbrev pub later_by : Word → ℕ → Action → ℕ → List Command → Option ℕ
-later_by words.Nothing actor (actions.Receive from) line commands = later_send from actor line commands
-later_by _ actor action line commands = None
+-- The notes, in the commands' order.
 
--- the same of a note, by its command
-abbrev pub later_for : Note → Option Command → List Command → Option ℕ
-later_for note None commands = None
-later_for note (Some command) commands = later_by note.word command.actor command.action note.line commands
+-- the note of a command, if it leaves one, by the commands behind it
+abbrev pub note_if : Command → Option Word → List Command → List (Option Word) → List Noted
+note_if command None commands left = []
+note_if command (Some word) commands left = record {
+  note = record { line = command.line; word = word };
+  later = later_for word command.actor command.action commands left;
+} ∷ []
 
-abbrev pub noted : List Command → Note → Noted
-noted commands note = record { note = note; later = later_for note (command_at note.line commands) commands }
+abbrev pub noted : List Command → List (Option Word) → List Noted
+noted [] left = []
+noted (command ∷ commands) [] = []
+noted (command ∷ commands) (word ∷ left) = note_if command word commands left ++ noted commands left
 
 -- these are the notes that the plan's commands leave
 abbrev pub AreNotesOf : Plan → List Noted → Type 0
-AreNotesOf plan notes = (outcome : OutcomeView) × IsOutcome plan outcome × (notes ≡ map (noted plan.commands) outcome.notes)
+AreNotesOf plan notes = notes ≡ noted plan.commands (words_of plan)
+
+-- The next send of each lane, as the code holds it.
+
+-- the table has of each lane the line of its first send that is done, among these commands
+abbrev pub AreNext : List (Option ℕ) → List Command → List (Option Word) → Type 0
+AreNext table commands left = AreLanes table (λ q p. later_send q p commands left)

@@ -1,9 +1,11 @@
 //! The notes that a schedule's commands leave, and the sends that come too late.
-ghost use Rattle.std.specs.Prelude.{◌≡◌, map, IfOk};
-ghost use Rattle.schedule_replay.specs.Notes.Notes.{is_send_to, is_send, command_at, later_send, later_for, noted, AreNotesOf};
+ghost use Rattle.std.specs.Prelude.{◌≡◌, ◌<◌, ◌∷◌, ◌++◌, List, Option, None, length, slice_index_or, IfOk, OnOk};
+ghost use Rattle.schedule.specs.declared.command.Command.{Command};
+ghost use Rattle.schedule.specs.declared.command.Word.{Word};
+ghost use Rattle.schedule_replay.specs.Notes.Notes.{later_for, note_if, noted, AreNext, AreNotesOf};
 
-use crate::replay;
-use chart::InstanceNo;
+use crate::notes::lanes::LaneTable;
+use crate::notes::words::words_of;
 use schedule::{Action, Command, Note, Schedule, Word};
 use std::alloc::{AllocError, Global};
 
@@ -14,92 +16,91 @@ pub struct Noted {
     pub later: Option<u64>,
 }
 
-/// Whether the action is a send to this instance.
-fn is_send_to(to: InstanceNo, action: &Action) -> bool
-    ensures { result ≡ is_send_to to action.now }
+/// The line of the send that comes too late for a command that left this word: by the next send of each lane.
+fn later_for(next: &LaneTable, word: Word, command: &Command) -> Option<u64>
+    ensures { (commands : List Command) (left : List (Option Word)) → AreNext next.now commands left
+        → result ≡ later_for word command.now.actor command.now.action commands left }
 {
-    match action {
-        Action::Send { to: receiver, .. } => *receiver == to,
-        _ => false,
-    }
-}
-
-/// Whether the command sends from the one instance to the other.
-fn is_send(from: InstanceNo, to: InstanceNo, command: &Command) -> bool
-    ensures { result ≡ is_send from to command.now }
-{
-    command.actor == from && is_send_to(to, &command.action)
-}
-
-/// The command of this line.
-fn command_at(line: u64, commands: &[Command]) -> Option<Command>
-    ensures { result ≡ command_at line commands.now }
-{
-    let mut rest = commands;
-    'commands: while let [command, others @ ..] = rest {
-        if command.line == line {
-            return Some(*command);
-        }
-        rest = others;
-    }
-    None
-}
-
-/// The line of the first send from one instance to another behind this line.
-fn later_send(from: InstanceNo, to: InstanceNo, line: u64, commands: &[Command]) -> Option<u64>
-    ensures { result ≡ later_send from to line commands.now }
-{
-    let mut rest = commands;
-    'commands: while let [command, others @ ..] = rest {
-        if line < command.line && is_send(from, to, command) {
-            return Some(command.line);
-        }
-        rest = others;
-    }
-    None
-}
-
-/// The line of the send that comes too late for a note, by its command.
-fn later_for(note: Note, command: Option<Command>, commands: &[Command]) -> Option<u64>
-    ensures { result ≡ later_for note command commands.now }
-{
-    let Some(command) = command else {
-        return None;
-    };
-    match (note.word, command.action) {
-        (Word::Nothing, Action::Receive { from }) => {
-            later_send(from, command.actor, note.line, commands)
-        }
+    match word {
+        Word::Nothing => match command.action {
+            Action::Receive { from } => next.at(from, command.actor),
+            _ => None,
+        },
         _ => None,
     }
 }
 
-/// A note, with the line of the send that comes too late for it.
-fn with_later(commands: &[Command], note: Note) -> Noted
-    ensures { result ≡ noted commands.now note }
+/// Puts down the command as the next send of its lane, if it sends.
+fn put_send(next: &mut LaneTable, command: &Command)
+    ensures { (commands : List Command) (left : List (Option Word)) → AreNext next.old commands left
+        → AreNext next.new (command.now ∷ commands) (None ∷ left) }
 {
-    Noted {
-        note,
-        later: later_for(note, command_at(note.line, commands), commands),
+    if let Action::Send { to, .. } = command.action {
+        next.set(command.actor, to, command.line);
     }
 }
 
-fn noted_all(alloc: Global, commands: &[Command], notes: &[Note]) -> Result<Vec<Noted>, AllocError>
-    ensures { IfOk result (λ v. v.items ≡ map (noted commands.now) notes.now) }
+/// What the command at this place left.
+fn word_at(words: &[Option<Word>], place: usize) -> Option<Word>
+    requires { place < length words.now }
+    ensures { result ≡ slice_index_or words.now place None }
 {
-    let mut all = Vec::new(alloc);
-    for note in notes {
-        all.push(with_later(commands, *note))?;
-    }
-    Ok(all)
+    words[place]
 }
 
-/// The notes that the schedule's commands leave, by their lines. F6: it fails only where there is no memory.
+/// Goes on to the command above: adds its note, if it leaves one, or puts down its send.
+fn pass(
+    notes: &mut Vec<Noted>,
+    next: &mut LaneTable,
+    command: &Command,
+    word: Option<Word>,
+) -> Result<(), AllocError>
+    ensures notes { OnOk result ((commands : List Command) (left : List (Option Word))
+        → AreNext next.old commands left
+        → notes.new.items ≡ notes.old.items ++ note_if command.now word commands left) }
+    ensures lanes { OnOk result ((commands : List Command) (left : List (Option Word))
+        → AreNext next.old commands left → AreNext next.new (command.now ∷ commands) (word ∷ left)) }
+{
+    match word {
+        None => put_send(next, command),
+        Some(word) => notes.push(Noted {
+            note: Note {
+                line: command.line,
+                word,
+            },
+            later: later_for(next, word, command),
+        })?,
+    }
+    Ok(())
+}
+
+/// The notes of these commands, each of which left this: from the last command on, which knows all sends behind it.
+fn noted_all(
+    alloc: Global,
+    commands: &[Command],
+    words: &[Option<Word>],
+) -> Result<Vec<Noted>, AllocError>
+    requires { length words.now ≡ length commands.now }
+    ensures { IfOk result (λ notes. notes.items ≡ noted commands.now words.now) }
+{
+    let mut next = LaneTable::none(alloc)?;
+    let mut notes = Vec::new(alloc);
+    let mut place = commands.len();
+    'commands: while place > 0 {
+        place -= 1;
+        let word = word_at(words, place);
+        pass(&mut notes, &mut next, &commands[place], word)?;
+    }
+    notes.reverse();
+    Ok(notes)
+}
+
+/// The notes that the schedule's commands leave, in their order. F6: it fails only where there is no memory.
 pub fn notes_of(alloc: Global, schedule: &Schedule) -> Result<Vec<Noted>, AllocError>
     ensures { IfOk result (λ v. AreNotesOf schedule.now v.items) }
 {
-    match replay(alloc, schedule) {
-        Ok(outcome) => noted_all(alloc, schedule.commands(), outcome.notes()),
+    match words_of(alloc, schedule) {
+        Ok(words) => noted_all(alloc, schedule.commands(), words.as_slice()),
         Err(_) => Err(AllocError),
     }
 }
