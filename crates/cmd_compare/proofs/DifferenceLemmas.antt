@@ -7,6 +7,7 @@ use Rattle.chart.specs.declared.event.Event.{Event}
 use Rattle.chart.specs.Charts.{Chart, at}
 use Rattle.chart.proofs.Places.{each-push}
 use Rattle.chart.proofs.Tally.{ith_within, same_from_tally}
+use Rattle.reordering.proofs.CompletionLemmas.Possible.{IsSound}
 use Rattle.cmd_compare.specs.declared.comparison.LineComparison.{LineComparison}
 use Rattle.cmd_compare.specs.declared.pairs.Difference.{Difference}
 use Rattle.cmd_compare.specs.declared.pairs.Pair.{Pair}
@@ -82,8 +83,8 @@ same_difference p pair v w x a b c d =
     ∙ ap (λ q. record { instance = x.instance; pair = x.pair; here = q; there = w }) c
     ∙ ap (λ q. record { instance = x.instance; pair = x.pair; here = x.here; there = q }) d
 
-module _ (others : List ℕ) (c d : Chart) (p : ℕ) (found : List (Option ℕ)) (fronts fronts_there : List ℕ) (are : AreMatches others (c p) (d (other_of others p)) found) (whole : length found ≡ length (c p)) (here : AreFronts c p (length (c p)) fronts)
-    (there : AreFronts d (other_of others p) (length (d (other_of others p))) fronts_there) where
+module _ (others : List ℕ) (c d : Chart) (p : ℕ) (found : List (Option ℕ)) (fronts fronts_there : List ℕ) (are : AreMatches others (c p) (d (other_of others p)) found) (whole : length found ≡ length (c p)) (sound_c : IsSound c) (sound_d : IsSound d)
+    (here : AreFronts c p fronts) (there : AreFronts d (other_of others p) fronts_there) where
   abbrev judged_so : Pair → Difference
   judged_so = judged p (c p) fronts (d (other_of others p)) fronts_there
 
@@ -104,8 +105,8 @@ module _ (others : List ℕ) (c d : Chart) (p : ℕ) (found : List (Option ℕ))
         reordered = its.4;
         earlier = first;
         later = second;
-        here = verdict_right c p fronts (w.0 + 1) (w.1 + 1) here (omega arith) (omega (arith, w.2)) (omega (arith, w.3, whole));
-        there = verdict_right d q fronts_there l k there low.0 its.4 high.1;
+        here = verdict_right c sound_c p fronts (w.0 + 1) (w.1 + 1) here (omega arith) (omega (arith, w.2)) (omega (arith, w.3, whole));
+        there = verdict_right d sound_d q fronts_there l k there low.0 its.4 high.1;
       })
 
   complete : (x : Difference) → IsDifference others c d p x → Contains (map judged_so (pairs_to found (length found))) x
@@ -163,11 +164,11 @@ AreCompared-push others back c d n lines line old new = record {
 }
 
 -- what was made of a line's pairs
-pub differences_so : (others : List ℕ) (c d : Chart) (p q : ℕ) (found : List (Option ℕ)) (a b : List Event) (f g : List ℕ) (pairs : List Pair) (xs : List Difference) → AreMatches others (c p) (d (other_of others p)) found → length found ≡ length (c p) → q ≡ other_of others p → a ≡ c p → b ≡ d q → AreFronts c p (length (c p)) f → AreFronts d q (length (d q)) g
+pub differences_so : (others : List ℕ) (c d : Chart) (p q : ℕ) (found : List (Option ℕ)) (a b : List Event) (f g : List ℕ) (pairs : List Pair) (xs : List Difference) → AreMatches others (c p) (d (other_of others p)) found → length found ≡ length (c p) → q ≡ other_of others p → a ≡ c p → b ≡ d q → IsSound c → IsSound d → AreFronts c p f → AreFronts d q g
     → pairs ≡ pairs_to found (length found) → xs ≡ map (judged p a f b g) pairs → AreDifferences others c d p xs
-differences_so others c d p q found a b f g pairs xs are whole qe ae be af bf pe made =
+differences_so others c d p q found a b f g pairs xs are whole qe ae be sc sd af bf pe made =
     let is = made ∙ ap (λ (l : List Event). map (judged p l f b g) pairs) ae ∙ ap (λ (l : List Event). map (judged p (c p) f l g) pairs) (be ∙ ap d qe) ∙ ap (map (judged p (c p) f (d (other_of others p)) g)) pe in
-    subst (λ (l : List Difference). AreDifferences others c d p l) (sym is) (are_differences others c d p found f g are whole af (subst (λ x. AreFronts d x (length (d x)) g) qe bf))
+    subst (λ (l : List Difference). AreDifferences others c d p l) (sym is) (are_differences others c d p found f g are whole sc sd af (subst (λ x. AreFronts d x g) qe bf))
 
 -- what was found of the events that the other line has not
 pub only_so : (others : List ℕ) (a b a1 b1 : List Event) (found f : List (Option ℕ)) (numbers : List ℕ) → AreMatches others a b found → length found ≡ length a → a ≡ a1 → b ≡ b1 → f ≡ found → numbers ≡ unmatched_to f (length f) → AreOnlyHere others a1 b1 numbers

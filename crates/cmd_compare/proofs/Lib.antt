@@ -1,6 +1,9 @@
 pub mod ComparedLemmas
 pub mod DifferenceLemmas
+pub mod FrontLemmas
 pub mod MatchLemmas
 pub mod NamingLemmas
+pub mod OneRegionLemmas
 pub mod PairLemmas
+pub mod ReceiveLemmas
 pub mod VerdictLemmas

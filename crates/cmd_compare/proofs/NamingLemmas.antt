@@ -1,14 +1,16 @@
 -- What the search for an instance's counterpart says.
-use Rattle.std.proofs.Common.{◌≡◌, ℕ, inl, inr, List, Option, None, Some, Result, Ok, Err, refl}
+use Rattle.std.proofs.Common.{◌≡◌, ◌⊎◌, ℕ, inl, inr, List, length, Option, None, Some, Result, Ok, Err, refl, sym, subst}
 use Rattle.std.specs.Prelude.{ok_or}
 use Rattle.cmd_base.specs.declared.error.ProgramError.TheVariants.{Usage, File, Memory, Text, ReceiveWithoutSend, NameMismatch, Cyclic, Write}
-use Rattle.cmd_base.specs.Files.{Named}
+use Rattle.chart.specs.Charts.{chart_lines, IsPossible}
+use Rattle.cmd_base.specs.declared.error.ProgramError.{ProgramError}
+use Rattle.cmd_base.specs.Files.{Named, IsRefused}
 use Rattle.texts.specs.Outs.{Sink}
 use Rattle.cmd_compare.specs.declared.comparison_text.Form.{Form}
 use Rattle.cmd_compare.specs.declared.error.CompareError.{CompareError}
 use Rattle.cmd_compare.specs.declared.error.CompareError.TheVariants.{Program, OtherInstances}
 use Rattle.cmd_compare.specs.Comparing.{AreCounterparts}
-use Rattle.cmd_compare.specs.Comparisons.{FindsCounterparts, Compares}
+use Rattle.cmd_compare.specs.Comparisons.{FindsCounterparts, HaveSameInstances, Compares}
 
 abbrev found_as : ℕ → Result ℕ (List ℕ)
 found_as p = Ok p
@@ -25,6 +27,9 @@ found None w p is = cc
 pub missing : (o : Option ℕ) (w name : List ℕ) → missing_as name ≡ ok_or o w → (o ≡ None) × (name ≡ w)
 missing None w name is = (refl, cc)
 missing (Some q) w name is = cc
+
+never : {A P : Type 0} → ⊥ ⊎ (P × ⊥) → A
+never either = elim either [ inl none ↦ absurd none | inr both ↦ absurd both.1 ]
 
 module _ {S : Type 0} (sink : S → Sink) (old : S) (form : Form) (a b : Named) where
   -- an instance of the first is none of the second, or memory ran out: nothing is written
@@ -50,3 +55,23 @@ module _ {S : Type 0} (sink : S → Sink) (old : S) (form : Form) (a b : Named) 
   none_back others (Program (NameMismatch p index)) are is = absurd is
   none_back others (Program Cyclic) are is = absurd is
   none_back others (Program Write) are is = absurd is
+
+  refused_by : (error : ProgramError) → HaveSameInstances a b → IsRefused error a ⊎ (IsPossible (length a.1) (chart_lines a.1) × IsRefused error b) → Compares sink old old form a b (Err (Program error))
+  refused_by Memory same either = refl
+  refused_by Usage same either = never either
+  refused_by File same either = never either
+  refused_by (Text fault) same either = never either
+  refused_by (ReceiveWithoutSend p index) same either = ((same, either), refl)
+  refused_by (NameMismatch p index) same either = ((same, either), refl)
+  refused_by Cyclic same either = ((same, either), refl)
+  refused_by Write same either = never either
+
+  -- the first chart isn't possible, or memory ran out
+  pub refused_first : (others back : List ℕ) (error : ProgramError) → AreCounterparts a.0 b.0 others → AreCounterparts b.0 a.0 back → (error ≡ Memory) ⊎ IsRefused error a → Compares sink old old form a b (Err (Program error))
+  refused_first others back error forth back_is (inl memory) = subst (λ x. Compares sink old old form a b (Err (Program x))) (sym memory) refl
+  refused_first others back error forth back_is (inr refused) = refused_by error ((others, forth), (back, back_is)) (inl refused)
+
+  -- the first is, and the second isn't
+  pub refused_second : (others back : List ℕ) (error : ProgramError) → AreCounterparts a.0 b.0 others → AreCounterparts b.0 a.0 back → IsPossible (length a.1) (chart_lines a.1) → (error ≡ Memory) ⊎ IsRefused error b → Compares sink old old form a b (Err (Program error))
+  refused_second others back error forth back_is possible (inl memory) = subst (λ x. Compares sink old old form a b (Err (Program x))) (sym memory) refl
+  refused_second others back error forth back_is possible (inr refused) = refused_by error ((others, forth), (back, back_is)) (inr (possible, refused))

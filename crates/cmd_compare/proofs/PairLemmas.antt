@@ -1,13 +1,15 @@
 -- Which pairs are in the list of those that stand the other way round.
-use Rattle.std.proofs.Common.{◌≡◌, ℕ, zero, suc, ◌+◌, ◌<◌, ◌≤◌, inl, inr, Bool, true, false, cond, List, [], ◌∷◌, ◌++◌, length, map, get_or, Option, None, Some, refl, sym, ap, subst, arith, append_assoc, append-nil}
+use Rattle.std.proofs.Common.{◌≡◌, ℕ, zero, suc, ◌+◌, ◌<◌, ◌≤◌, inl, inr, Bool, true, false, cond, List, [], ◌∷◌, ◌++◌, length, map, get_or, Option, None, Some, refl, sym, ap, ap₂, ◌∙◌, subst, arith, append_assoc, append-nil}
 use Rattle.std.specs.Prelude.{nat_lt, AllPairs, Contains}
 use Rattle.std.proofs.lemmas.List.Quantifiers.{all_pairs_push}
 use Rattle.std.proofs.lemmas.List.{length-map, get_or-map}
 use Rattle.std.proofs.lemmas.Bool.{cases_lt, ltb-true, lt-ltb}
+use Rattle.std.proofs.lemmas.Option.{none-some, same_Some}
+use Rattle.chart.proofs.Places.{each-push}
 use Rattle.std.proofs.lemmas.List.Elements.{Contains-append_left, Contains-append_right, Contains-append_cases, Contains-push, Contains-push_cases, Contains-get_or}
 use Rattle.cmd_compare.specs.declared.pairs.Difference.{Difference}
 use Rattle.cmd_compare.specs.declared.pairs.Pair.{Pair}
-use Rattle.cmd_compare.specs.Pairs.{IsSooner, found_at, pair_by, pairs_above, pairs_to, number_if, unmatched_to}
+use Rattle.cmd_compare.specs.Pairs.{IsSooner, found_at, pair_by, pairs_above, pairs_to, number_if, unmatched_to, greatest, AreAtMost, AreHighest}
 
 -- an empty list has nothing
 pub has_none : {X : Type 0} (x : X) → Contains [] x → ⊥
@@ -192,3 +194,52 @@ map-rises f xs keeps rising i j d less within =
     (subst (λ (y : Difference). IsSooner (f (get_or xs i d.pair)).pair y.pair) (sym g)
     (subst (λ (x : Pair). IsSooner x (f (get_or xs j d.pair)).pair) (sym (keeps (get_or xs i d.pair)))
     (subst (λ (y : Pair). IsSooner (get_or xs i d.pair) y) (sym (keeps (get_or xs j d.pair))) so)))
+
+-- What may be passed over.
+
+-- where nothing was found for the later event there is no pair
+pub none_found : (found : List (Option ℕ)) (j n : ℕ) → found_at found j ≡ None → pairs_above found j n ≡ []
+none_found found j zero is = refl
+none_found found j (suc n) is = ap₂ (λ (xs : List Pair) (ys : List Pair). xs ++ ys) (none_found found j n is) (no_pair (found_at found n) (found_at found j) is)
+  where
+    no_pair : (x y : Option ℕ) → y ≡ None → pair_by (n + 1) (j + 1) x y ≡ []
+    no_pair None y none = refl
+    no_pair (Some k) None none = refl
+    no_pair (Some k) (Some l) none = absurd (none-some l (sym none))
+
+-- nor with an event that isn't behind it there
+pub none_behind : (found : List (Option ℕ)) (j n l : ℕ) → found_at found j ≡ Some l → AreAtMost l found n → pairs_above found j n ≡ []
+none_behind found j zero l is most = refl
+none_behind found j (suc n) l is most =
+    ap₂ (λ (xs : List Pair) (ys : List Pair). xs ++ ys) (none_behind found j n l is (λ i k less here. most i k (omega (arith, less)) here)) (no_pair (found_at found n) refl (found_at found j) is)
+  where
+    no_pair : (x : Option ℕ) → found_at found n ≡ x → (y : Option ℕ) → y ≡ Some l → pair_by (n + 1) (j + 1) x y ≡ []
+    no_pair None here y its = refl
+    no_pair (Some k) here None its = refl
+    no_pair (Some k) here (Some m) its = by_test (nat_lt m k) refl
+      where
+        by_test : (t : Bool) → nat_lt m k ≡ t → cond t (pair_so (n + 1) (j + 1) k m ∷ []) [] ≡ []
+        by_test false past = refl
+        by_test true less = absurd (omega (arith, ltb-true m k less, most n k (omega arith) here, same_Some m l its))
+
+-- the greatest number so far
+pub at_most-push : (found : List (Option ℕ)) (highest n : ℕ) → AreAtMost highest found n → AreAtMost (greatest highest (found_at found n)) found (n + 1)
+at_most-push found highest n most = λ i l less here. elim (cases_lt i n) [
+  | inl before ↦ omega (arith, most i l before here, grows (found_at found n))
+  | inr past ↦ let same : i ≡ n = omega (arith, less, past) in has (found_at found n) l (ap (found_at found) (sym same) ∙ here)
+]
+  where
+    grows : (x : Option ℕ) → highest ≤ greatest highest x
+    grows None = omega arith
+    grows (Some k) = omega arith
+
+    has : (x : Option ℕ) (l : ℕ) → x ≡ Some l → l ≤ greatest highest x
+    has None l is = absurd (none-some l is)
+    has (Some k) l is = omega (arith, same_Some k l is)
+
+pub highest-push : (found : List (Option ℕ)) (highest : List ℕ) (n k : ℕ) → length highest ≡ n → AreHighest found highest → AreAtMost k found (n + 1) → AreHighest found (highest ++ k ∷ [])
+highest-push found highest n k whole are most = each-push (λ i x. AreAtMost x found (suc i)) highest k are (subst (λ m. AreAtMost k found m) (omega (arith, whole)) most)
+
+-- what is at most a number is at most a greater one
+pub at_most_more : (found : List (Option ℕ)) (k l n : ℕ) → k ≤ l → AreAtMost k found n → AreAtMost l found n
+at_most_more found k l n le most = λ i m less here. omega (arith, le, most i m less here)

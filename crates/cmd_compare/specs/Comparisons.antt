@@ -87,19 +87,29 @@ abbrev pub HaveOtherInstances : Named → Named → List ℕ → Type 0
 HaveOtherInstances a b name = HasNoCounterpart a.0 b.0 name
     ⊎ (((others : List ℕ) × AreCounterparts a.0 b.0 others) × HasNoCounterpart b.0 a.0 name)
 
+-- each instance of either is one of the other
+abbrev pub HaveSameInstances : Named → Named → Type 0
+HaveSameInstances a b = ((others : List ℕ) × AreCounterparts a.0 b.0 others) × ((back : List ℕ) × AreCounterparts b.0 a.0 back)
+
+-- Of two recordings whose texts have no fault this is the first refusal that applies, memory aside: that their instances
+-- are others, then that the first one's chart isn't possible, then that the second one's isn't.
+abbrev pub IsFirstRefusal : Named → Named → CompareError → Type 0
+IsFirstRefusal a b (OtherInstances name) = HaveOtherInstances a b name
+IsFirstRefusal a b (Program error) = HaveSameInstances a b
+    × (IsRefused error a ⊎ (IsPossible (length a.1) (chart_lines a.1) × IsRefused error b))
+
 module _ {S : Type 0} (sink : S → Sink) where
-  -- the text of two charts was written; or a beginning of it, where a put failed; or nothing, where their instances are
-  -- others, where a chart is not possible, or where memory ran out
+  -- the text of two charts was written; or a beginning of it, where a put failed; or nothing, where a refusal applies,
+  -- the first that does, or where memory ran out
   abbrev pub Compares : S → S → Form → Named → Named → Result Found CompareError → Type 0
   Compares old new form a b (Ok found) = IsPossible (length a.1) (chart_lines a.1)
       × IsPossible (length b.1) (chart_lines b.1)
       × ((text : List ℕ) × IsCompared form a b text found × Puts sink old new text)
-  Compares old new form a b (Err (OtherInstances name)) = HaveOtherInstances a b name × (new ≡ old)
   Compares old new form a b (Err (Program errors.Memory)) = new ≡ old
   Compares old new form a b (Err (Program errors.Write)) = IsPossible (length a.1) (chart_lines a.1)
       × IsPossible (length b.1) (chart_lines b.1)
       × ((text : List ℕ) × (found : Found) × IsCompared form a b text found × Breaks sink old new text)
-  Compares old new form a b (Err (Program error)) = (IsRefused error a ⊎ IsRefused error b) × (new ≡ old)
+  Compares old new form a b (Err error) = IsFirstRefusal a b error × (new ≡ old)
 
   -- the same of what two files say, of which the first is looked at first
   abbrev pub ComparesFiles : S → S → Form → List ℕ → List ℕ → Result Found CompareError → Type 0

@@ -5,6 +5,7 @@ pub mod PlainText
 pub mod Words
 pub mod Comparing
 pub mod Ends
+pub mod Fronts
 pub mod Matches
 pub mod Pairs
 pub mod Verdicts

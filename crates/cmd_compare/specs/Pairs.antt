@@ -1,5 +1,5 @@
 -- Lists of the pairs of a line's events that stand the other way round elsewhere (this project's own).
-use Rattle.std.specs.Prelude.{◌≡◌, ◌<◌, ◌⊎◌, ℕ, zero, suc, ◌+◌, nat_lt, List, [], ◌∷◌, ◌++◌, slice_index_or, Option, None, Some, if◌then◌else◌}
+use Rattle.std.specs.Prelude.{◌≡◌, ◌<◌, ◌⊎◌, ℕ, zero, suc, ◌+◌, ◌≤◌, max, nat_lt, List, [], ◌∷◌, ◌++◌, slice_get, slice_index_or, Option, None, Some, if◌then◌else◌}
 use Rattle.chart.specs.declared.event.Event.{Event}
 use Rattle.cmd_compare.specs.declared.pairs.Pair.{Pair}
 use Rattle.cmd_compare.specs.declared.pairs.Difference.{Difference}
@@ -28,6 +28,19 @@ pairs_above found j (suc i) = pairs_above found j i ++ pair_by (i + 1) (j + 1) (
 abbrev pub pairs_to : List (Option ℕ) → ℕ → List Pair
 pairs_to found zero = []
 pairs_to found (suc j) = pairs_to found j ++ pairs_above found j j
+
+-- the greatest of the numbers that were found, with one more
+abbrev pub greatest : ℕ → Option ℕ → ℕ
+greatest highest None = highest
+greatest highest (Some l) = max highest l
+
+-- what was found for the first n events is at most this
+abbrev pub AreAtMost : ℕ → List (Option ℕ) → ℕ → Type 0
+AreAtMost most found n = (i l : ℕ) → i < n → found_at found i ≡ Some l → l ≤ most
+
+-- of as many first events as there are numbers, each number is at least what was found up to its place
+abbrev pub AreHighest : List (Option ℕ) → List ℕ → Type 0
+AreHighest found highest = (i k : ℕ) → slice_get highest i ≡ Some k → AreAtMost k found (suc i)
 
 -- the number of an event for which nothing was found
 abbrev pub number_if : ℕ → Option ℕ → List ℕ

@@ -6,21 +6,20 @@ ghost use Rattle.cmd_compare.specs.Ends.{other_of};
 ghost use Rattle.cmd_compare.specs.Matches.{AreMatches};
 ghost use Rattle.cmd_compare.specs.Comparing.{AreDifferences, IsCompared, AreCompared};
 
-use crate::fronts::fronts_of;
+use crate::fronts::Ordered;
 use crate::lane_end::other_of;
 use crate::matching::{BothLines, matches_of};
 use crate::pairs::{Difference, judge, pairs_of, unmatched};
 use crate::verdict::Side;
 use chart::InstanceNo;
 use chart::line_events::events_of;
-use closure::Closure;
 use std::alloc::{AllocError, Global};
 
 /// Two recordings of one system, the first of which is looked at line by line.
 #[derive(Clone, Copy)]
 pub struct Recordings<'a> {
-    pub here: &'a Closure<'a>,
-    pub there: &'a Closure<'a>,
+    pub here: &'a Ordered<'a>,
+    pub there: &'a Ordered<'a>,
     /// The number that each instance of the first has in the second.
     pub others: &'a [InstanceNo],
     /// The number that each instance of the second has in the first.
@@ -60,15 +59,13 @@ fn differences_of(
         return Ok(Vec::new(alloc));
     }
     let other = other_of(recordings.others, instance);
-    let fronts = fronts_of(alloc, recordings.here, instance)?;
-    let fronts_there = fronts_of(alloc, recordings.there, other)?;
     let here = Side {
         events: events_of(recordings.here.lines(), instance),
-        fronts: fronts.as_slice(),
+        fronts: recordings.here.fronts_on(instance),
     };
     let there = Side {
         events: events_of(recordings.there.lines(), other),
-        fronts: fronts_there.as_slice(),
+        fronts: recordings.there.fronts_on(other),
     };
     judge(alloc, instance, &here, &there, pairs.as_slice())
 }

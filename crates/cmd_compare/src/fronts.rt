@@ -1,47 +1,122 @@
-//! How many first events of its line come before each event.
-ghost use Rattle.std.specs.Prelude.{◌≡◌, length, Some, IfOk};
-ghost use Rattle.chart.specs.Charts.{chart_event, chart_lines};
-ghost use Rattle.closure.specs.Faults.{place_of};
-ghost use Rattle.cmd_compare.specs.Verdicts.{IsFront, AreFronts};
+//! How many first events of its line come before each receive.
+ghost use Rattle.std.specs.Prelude.{◌≡◌, length, replicate, All, IfOk, OnOk};
+ghost use Rattle.chart.specs.Charts.{IsPossible, chart_lines};
+ghost use Rattle.chart.specs.Ranges.{IsRange, events_in};
+ghost use Rattle.cmd_compare.specs.Fronts.{number_of, front_by, with_front, HasFronts};
+ghost use Rattle.cmd_compare.specs.Verdicts.{AreFronts};
 
-use chart::line_events::events_of;
-use chart::{Event, EventNo, InstanceNo};
+use chart::{EventNo, EventRange, InstanceNo, Line, MAX_EVENTS};
 use closure::Closure;
-use closure::chain::past;
 use std::alloc::{AllocError, Global};
+use std::marker::Model;
 
-/// How many first events of its line come before the event. Beside them only those come before it that are, as itself,
-/// receives from one instance.
-fn front_of(closure: &Closure<'_>, place: &EventNo, event: &Event) -> Result<usize, AllocError>
-    requires { chart_event (chart_lines closure.now) (place_of place.now) ≡ Some event.now }
-    ensures { IfOk result (IsFront (chart_lines closure.now) (place_of place.now)) }
+/// The number of an event among those of all lines.
+fn number_of(event: &EventNo) -> usize
+    ensures { result ≡ number_of event.now }
 {
-    match event {
-        Event::Send { .. } => Ok((place.index as usize).saturating_sub(1)),
-        Event::Receive { .. } => {
-            let counts = past(closure, place)?;
-            Ok(counts.at(place.instance.place()))
-        }
+    event.instance.place() * MAX_EVENTS + event.index as usize
+}
+
+/// How many first events come before a receive, by its races: those before the first of them, or where there is none
+/// all that stand above it.
+fn front_by(receive: &EventNo, earlier: &[EventRange]) -> usize
+    requires { All IsRange earlier.now }
+    ensures { result ≡ front_by receive.now (events_in earlier.now) }
+{
+    match earlier {
+        [] => (receive.index as usize).saturating_sub(1),
+        [first, ..] => (first.first.index as usize).saturating_sub(1),
     }
 }
 
-/// The same of each event of a line.
-pub(crate) fn fronts_of(
-    alloc: Global,
-    closure: &Closure<'_>,
-    instance: InstanceNo,
-) -> Result<Vec<usize>, AllocError>
-    ensures { IfOk result (λ fronts. AreFronts (chart_lines closure.now) instance
-        (length (chart_lines closure.now instance)) fronts.items) }
+/// Puts down what is found for a receive.
+fn put(fronts: &mut Vec<usize>, receive: &EventNo, front: usize)
+    ensures { fronts.new.items ≡ with_front fronts.old.items receive.now front }
 {
-    let events = events_of(closure.lines(), instance);
-    let mut fronts = Vec::new(alloc);
-    for place in 0..events.len() {
-        let event = EventNo {
-            instance,
-            index: place as u32 + 1,
-        };
-        fronts.push(front_of(closure, &event, &events[place])?)?;
+    let number = number_of(receive);
+    if number < fronts.len() {
+        fronts[number] = front;
+    }
+}
+
+/// So many zeros.
+fn zeros(alloc: Global, count: usize) -> Result<Vec<usize>, AllocError>
+    ensures { IfOk result (λ zeros. zeros.items ≡ replicate count 0) }
+{
+    let zeros = vec![in alloc; 0; count]?;
+    Ok(zeros)
+}
+
+/// How many first events of its line come before each receive of a recording, by the receives' numbers among the
+/// events of all lines. A coregion's other events aren't counted.
+fn fronts_of(alloc: Global, closure: &Closure<'_>) -> Result<Vec<usize>, AllocError>
+    ensures fronts { IfOk result (λ fronts. HasFronts (chart_lines closure.now) fronts.items) }
+    ensures possible { OnOk result (IsPossible (length closure.now) (chart_lines closure.now)) }
+{
+    let mut fronts = zeros(alloc, closure.len() * MAX_EVENTS + 1)?;
+    let mut reporter = closure.reporter()?;
+    while let Some(receive) = reporter.next() {
+        let front = front_by(&receive, reporter.earlier());
+        put(&mut fronts, &receive, front);
     }
     Ok(fronts)
+}
+
+/// A possible chart, and how many first events of its line come before each of its receives. A contract sees the
+/// chart's lines.
+#[derive(Drop)]
+pub struct Ordered<'a> {
+    closure: &'a Closure<'a>,
+    fronts: Vec<usize>,
+}
+
+impl<'a> Model for Ordered<'a> {
+    ghost use Rattle.std.specs.Prelude.{List, length};
+    ghost use Rattle.chart.specs.Charts.{LineView, IsPossible, chart_lines};
+    ghost use Rattle.cmd_compare.specs.Fronts.{HasFronts};
+
+    ghost Value = { List LineView };
+
+    ghost view = { λ o. o.closure.now };
+
+    ghost invariant = { λ o. HasFronts (chart_lines o.closure.now) o.fronts.items
+        × IsPossible (length o.closure.now) (chart_lines o.closure.now) };
+}
+
+impl<'a> Ordered<'a> {
+    /// Finds them, by the races of all receives.
+    ///
+    /// F6: it fails only where there is no memory.
+    pub fn of(alloc: Global, closure: &'a Closure<'a>) -> Result<Ordered<'a>, AllocError>
+        ensures { IfOk result (λ ordered. ordered ≡ closure.now) }
+    {
+        let fronts = fronts_of(alloc, closure)?;
+        Ok(Ordered { closure, fronts })
+    }
+
+    /// How many lines there are.
+    pub fn len(&self) -> usize
+        ensures { result ≡ length self.now }
+    {
+        self.closure.len()
+    }
+
+    /// The chart's lines.
+    pub fn lines(&self) -> &[Line]
+        ensures { result.now ≡ self.now }
+    {
+        self.closure.lines()
+    }
+
+    /// What is found for a line's receives, from its first event on.
+    pub(crate) fn fronts_on(&self, instance: InstanceNo) -> &[usize]
+        ensures fronts { AreFronts (chart_lines self.now) instance result.now }
+        ensures possible { IsPossible (length self.now) (chart_lines self.now) }
+    {
+        let start = instance.place() * MAX_EVENTS + 1;
+        if self.fronts.len() < start {
+            return &[];
+        }
+        &self.fronts.as_slice()[start..]
+    }
 }

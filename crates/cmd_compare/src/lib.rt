@@ -30,6 +30,7 @@ mod word;
 
 pub use comparison::{LineComparison, Recordings, compared};
 pub use error::CompareError;
+pub use fronts::Ordered;
 pub use naming::counterparts;
 pub use pairs::{Difference, Pair};
 pub use showing::{Form, compare};

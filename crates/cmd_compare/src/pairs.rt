@@ -1,6 +1,7 @@
 //! The pairs of events of a line that stand the other way round in another recording.
-ghost use Rattle.std.specs.Prelude.{◌≡◌, ◌<◌, ◌+◌, ◌++◌, length, map, slice_index_or, None, IfOk, OnOk};
+ghost use Rattle.std.specs.Prelude.{◌≡◌, ◌<◌, ◌≤◌, ◌+◌, ◌++◌, length, map, slice_index_or, None, IfOk, OnOk};
 ghost use Rattle.cmd_compare.specs.Pairs.{pair_by, pairs_above, pairs_to, judged, unmatched_to};
+ghost use Rattle.cmd_compare.specs.Pairs.{greatest, AreAtMost, AreHighest};
 
 use crate::verdict::{Side, Verdict, verdict_at};
 use chart::InstanceNo;
@@ -55,13 +56,53 @@ fn add_pair(
     Ok(())
 }
 
-/// Adds the pairs of which the event at this place is the later one.
-fn add_pairs(pairs: &mut Vec<Pair>, found: &[Option<usize>], later: usize) -> Result<(), AllocError>
-    requires { later < length found.now }
+/// The greatest number that was found so far, with one more; 0 where none was found.
+fn greatest(highest: usize, found: Option<usize>) -> usize
+    ensures { result ≡ greatest highest found }
+{
+    match found {
+        Some(there) if highest < there => there,
+        _ => highest,
+    }
+}
+
+/// From which place on an event above this one may stand behind it there: all numbers that were found above that place
+/// are at most its own.
+fn first_behind(highest: &[usize], found: &[Option<usize>], there: usize) -> usize
+    requires { AreHighest found.now highest.now }
+    ensures within { result ≤ length highest.now }
+    ensures none { AreAtMost there found.now result }
+{
+    let mut first = highest.len();
+    while first > 0 {
+        if highest[first - 1] <= there {
+            return first;
+        }
+        first -= 1;
+    }
+    first
+}
+
+/// Adds the pairs of which the event at this place is the later one, by the greatest numbers that were found up to each
+/// place above it.
+fn add_pairs(
+    pairs: &mut Vec<Pair>,
+    found: &[Option<usize>],
+    highest: &[usize],
+    later: usize,
+) -> Result<(), AllocError>
+    requires later { later < length found.now }
+    requires highest { AreHighest found.now highest.now }
+    requires whole { length highest.now ≡ later }
     ensures { OnOk result (pairs.new.items ≡ pairs.old.items ++ pairs_above found.now later later) }
 {
-    for place in 0..later {
-        add_pair(pairs, found, place, later)?;
+    match found[later] {
+        None => return Ok(()),
+        Some(there) => {
+            for place in first_behind(highest, found, there)..later {
+                add_pair(pairs, found, place, later)?;
+            }
+        }
     }
     Ok(())
 }
@@ -72,8 +113,12 @@ pub(crate) fn pairs_of(alloc: Global, found: &[Option<usize>]) -> Result<Vec<Pai
     ensures { IfOk result (λ pairs. pairs.items ≡ pairs_to found.now (length found.now)) }
 {
     let mut pairs = Vec::new(alloc);
+    let mut highest = Vec::new(alloc);
+    let mut so_far = 0;
     for place in 0..found.len() {
-        add_pairs(&mut pairs, found, place)?;
+        add_pairs(&mut pairs, found, highest.as_slice(), place)?;
+        so_far = greatest(so_far, found[place]);
+        highest.push(so_far)?;
     }
     Ok(pairs)
 }

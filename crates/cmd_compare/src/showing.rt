@@ -1,22 +1,27 @@
 //! What two files' recordings differ in, as it is shown.
-ghost use Rattle.std.specs.Prelude.{◌≡◌, length};
-ghost use Rattle.std.specs.List.{list_any};
+ghost use Rattle.std.specs.Prelude.{◌≡◌, length, IfOk, IfErr};
+ghost use Rattle.std.specs.List.{flat_map, list_any};
+ghost use Rattle.texts.specs.Writing.{Wrote};
+ghost use Rattle.cmd_base.specs.declared.error.ProgramError.TheVariants.{Memory};
 ghost use Rattle.cmd_base.specs.Answers.{Answers};
 ghost use Rattle.cmd_base.specs.Texts.{OfFile, named_of};
 ghost use Rattle.cmd_compare.specs.declared.error.CompareError.TheVariants.{Program};
 ghost use Rattle.cmd_compare.specs.Answers.{compare_exit};
-ghost use Rattle.cmd_compare.specs.Comparisons.{has_difference, some_difference, found_in, Compares, ComparesFiles};
+ghost use Rattle.cmd_compare.specs.Comparisons.{has_difference, some_difference, found_in, line_text};
+ghost use Rattle.cmd_compare.specs.Comparisons.{Compares, ComparesFiles};
 
 use crate::comparison::{LineComparison, Recordings, compared};
 pub use crate::comparison_text::Form;
 use crate::comparison_text::{Recording, write_lines};
 use crate::error::CompareError;
+use crate::fronts::Ordered;
 use crate::naming::counterparts;
 use crate::pairs::Difference;
 use chart::{Chart, Names};
+use closure::Closure;
 use cmd_base::{ProgramError, Source, Text, answered, closure_of};
 use std::alloc::Global;
-use texts::Out;
+use texts::{Out, WriteError};
 
 /// What was found.
 #[derive(Clone, Copy)]
@@ -58,6 +63,37 @@ struct Both<'a> {
     form: Form,
 }
 
+/// Writes what two charts differ in.
+fn write_both<W: Out>(
+    both: &Both<'_>,
+    lines: &[LineComparison],
+    out: &mut W,
+) -> Result<(), WriteError>
+    ensures { Wrote W.sink out.old out.new result (flat_map (line_text both.now.form
+        (both.now.names.now, both.now.chart.now) (both.now.other_names.now, both.now.other_chart.now)) lines.now) }
+{
+    let first = Recording {
+        names: both.names,
+        lines: both.chart.lines(),
+    };
+    let second = Recording {
+        names: both.other_names,
+        lines: both.other_chart.lines(),
+    };
+    write_lines(both.form, &first, &second, lines, out)
+}
+
+/// A possible chart with what comes before its receives. F6: it fails only where there is no memory.
+fn ordered<'a>(alloc: Global, closure: &'a Closure<'a>) -> Result<Ordered<'a>, CompareError>
+    ensures lines { IfOk result (λ ordered. ordered ≡ closure.now) }
+    ensures memory { IfErr result (λ e. e ≡ Program Memory) }
+{
+    match Ordered::of(alloc, closure) {
+        Ok(ordered) => Ok(ordered),
+        Err(_) => Err(CompareError::Program(ProgramError::Memory)),
+    }
+}
+
 /// Compares the two charts and writes what they differ in. All memory is taken before the first line is written.
 fn compare_charts<W: Out>(
     alloc: Global,
@@ -73,24 +109,18 @@ fn compare_charts<W: Out>(
     let back = counterparts(alloc, both.other_names, both.names)?;
     let here = closure_of(alloc, both.names, both.chart)?;
     let there = closure_of(alloc, both.other_names, both.other_chart)?;
+    let first = ordered(alloc, &here)?;
+    let second = ordered(alloc, &there)?;
     let recordings = Recordings {
-        here: &here,
-        there: &there,
+        here: &first,
+        there: &second,
         others: others.as_slice(),
         back: back.as_slice(),
     };
     let Ok(lines) = compared(alloc, &recordings) else {
         return Err(CompareError::Program(ProgramError::Memory));
     };
-    let first = Recording {
-        names: both.names,
-        lines: both.chart.lines(),
-    };
-    let second = Recording {
-        names: both.other_names,
-        lines: both.other_chart.lines(),
-    };
-    match write_lines(both.form, &first, &second, lines.as_slice(), out) {
+    match write_both(both, lines.as_slice(), out) {
         Ok(()) => Ok(found_on(lines.as_slice())),
         Err(_) => Err(CompareError::Program(ProgramError::Write)),
     }

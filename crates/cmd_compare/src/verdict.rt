@@ -1,7 +1,7 @@
 //! What an earlier and a later event of a line are.
-ghost use Rattle.std.specs.Prelude.{◌≡◌, ◌||◌};
-ghost use Rattle.chart.specs.Events.{ith, region_of, is_in};
-ghost use Rattle.cmd_compare.specs.Verdicts.{are_from_one, verdict_by, verdict_at};
+ghost use Rattle.std.specs.Prelude.{◌≡◌};
+ghost use Rattle.chart.specs.Events.{ith};
+ghost use Rattle.cmd_compare.specs.Verdicts.{verdict_by, verdict_at};
 
 use chart::Event;
 
@@ -16,36 +16,24 @@ pub enum Verdict {
     Unclaimed,
 }
 
-/// A line, and of each of its events how many first events of the line come before it.
+/// A line, and of each of its receives how many first events of the line come before it.
 #[derive(Clone, Copy)]
 pub(crate) struct Side<'a> {
     pub events: &'a [Event],
     pub fronts: &'a [usize],
 }
 
-/// Whether both are receives from one instance.
-fn are_from_one(earlier: &Event, later: &Event) -> bool
-    ensures { result ≡ are_from_one earlier.now later.now }
+/// What an event and a later receive are: by whether both are from one instance, whether one coregion has both, and
+/// whether the earlier is one of the receive's first events.
+fn verdict_by(are_from_one: bool, are_in_one_region: bool, is_first: bool) -> Verdict
+    ensures { result ≡ verdict_by are_from_one are_in_one_region is_first }
 {
-    match later {
-        Event::Send { .. } => false,
-        Event::Receive { from, .. } => earlier.is_receive_from(*from),
-    }
-}
-
-/// What the two are, where the earlier one is or isn't one of the first events that come before the later one.
-fn verdict_of(earlier: &Event, later: &Event, is_first: bool) -> Verdict
-    ensures { result ≡ verdict_by (is_first || are_from_one earlier.now later.now)
-        (is_in (region_of later.now) earlier.now) }
-{
-    if is_first {
-        return Verdict::Enforced;
-    }
-    if are_from_one(earlier, later) {
-        return Verdict::Enforced;
-    }
-    if earlier.is_in(later.region()) {
+    if are_from_one {
+        Verdict::Enforced
+    } else if are_in_one_region {
         Verdict::Unclaimed
+    } else if is_first {
+        Verdict::Enforced
     } else {
         Verdict::Race
     }
@@ -86,8 +74,15 @@ pub(crate) fn verdict_at(side: &Side<'_>, earlier: usize, later: usize) -> Verdi
     let Some(second) = event_at(side.events, later) else {
         return Verdict::Race;
     };
+    let Event::Receive { from, region, .. } = second else {
+        return Verdict::Enforced;
+    };
     let Some(front) = front_at(side.fronts, later) else {
         return Verdict::Race;
     };
-    verdict_of(&first, &second, earlier <= front)
+    verdict_by(
+        first.is_receive_from(from),
+        first.is_in(region),
+        earlier <= front,
+    )
 }

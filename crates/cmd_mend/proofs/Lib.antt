@@ -1,4 +1,5 @@
 pub mod FullLemmas
+pub mod MarkLemmas
 pub mod PairLemmas
 pub mod PlaceLemmas
 pub mod RangeLemmas

@@ -66,6 +66,6 @@ not_paired sink old named wanted error is possible = by error (no_pair named.0 n
     by : (error : ViewError) → IsNoPair error → pair_of named.0 named.1 wanted.asked ≡ Err error → Shows sink old old (Err (View error)) wanted named
     by (Program cause) kind same = absurd kind
     by (ManySlots slots) kind same = absurd kind
-    by (NoSuchEvent missing) kind same = (same, possible, refl)
-    by NotEarlier kind same = (same, possible, refl)
-    by (NotAReceive receive) kind same = (same, possible, refl)
+    by (NoSuchEvent missing) kind same = ((same, possible), refl)
+    by NotEarlier kind same = ((same, possible), refl)
+    by (NotAReceive receive) kind same = ((same, possible), refl)

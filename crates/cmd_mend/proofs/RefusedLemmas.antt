@@ -1,18 +1,14 @@
 -- What is written of a chart that no run has, or of no pair: nothing.
-use Rattle.std.proofs.Common.{◌≡◌, ℕ, ◌⊎◌, inl, inr, List, length, Err, refl}
-use Rattle.chart.specs.Charts.{chart_lines, IsPossible}
+use Rattle.std.proofs.Common.{◌≡◌, ℕ, ◌⊎◌, inl, inr, List, Err, refl}
 use Rattle.cmd_base.specs.declared.error.ProgramError.{ProgramError}
 use Rattle.cmd_base.specs.declared.error.ProgramError.TheVariants.{Usage, File, Memory, Text, ReceiveWithoutSend, NameMismatch, Cyclic, Write}
 use Rattle.cmd_base.specs.Files.{Named, IsRefused}
 use Rattle.texts.specs.Outs.{Sink}
-use Rattle.cmd_base.specs.declared.pairs.error.ViewError.{ViewError}
-use Rattle.cmd_base.specs.declared.pairs.error.ViewError.TheVariants.{Program}
-use Rattle.cmd_base.specs.Pairs.Pairs.{pair_of}
+use Rattle.cmd_base.specs.declared.pairs.pair.Pair.{Pair}
 use Rattle.cmd_mend.specs.Answers.{by_program}
-use Rattle.cmd_mend.specs.declared.error.MendRefusal.TheVariants.{View}
 use Rattle.cmd_mend.specs.declared.showing.Wanted.{Wanted}
 use Rattle.cmd_mend.specs.Naming.{IsMessageName}
-use Rattle.cmd_mend.specs.Showing.{Shows, name_asked}
+use Rattle.cmd_mend.specs.Showing.{Shows, IsAskedAbout, name_asked}
 
 module _ {S : Type 0} (sink : S → Sink) (old : S) (named : Named) (wanted : Wanted) where
   pub not_shown : (error : ProgramError) → (error ≡ Memory) ⊎ IsRefused error named → Shows sink old old (Err (by_program error)) wanted named
@@ -32,20 +28,20 @@ module _ {S : Type 0} (sink : S → Sink) (old : S) (named : Named) (wanted : Wa
   not_shown Write (inl is) = cc
   not_shown Write (inr refused) = absurd refused
 
-  -- a name that is none, or that is taken
-  pub not_named : (error : ProgramError) → (error ≡ Memory) ⊎ ((error ≡ Usage) × ((name : List ℕ) → IsMessageName named.1 (name_asked wanted) name → ⊥)) → Shows sink old old (Err (by_program error)) wanted named
-  not_named Memory why = refl
-  not_named Usage (inl is) = cc
-  not_named Usage (inr (is, none)) = (none, refl)
-  not_named File (inl is) = cc
-  not_named File (inr (is, none)) = cc
-  not_named (Text fault) (inl is) = cc
-  not_named (Text fault) (inr (is, none)) = cc
-  not_named (ReceiveWithoutSend p index) (inl is) = cc
-  not_named (ReceiveWithoutSend p index) (inr (is, none)) = cc
-  not_named (NameMismatch p index) (inl is) = cc
-  not_named (NameMismatch p index) (inr (is, none)) = cc
-  not_named Cyclic (inl is) = cc
-  not_named Cyclic (inr (is, none)) = cc
-  not_named Write (inl is) = cc
-  not_named Write (inr (is, none)) = cc
+  -- a name that is none, or that is taken, of a pair that there is
+  pub not_named : (pair : Pair) → IsAskedAbout named wanted pair → (error : ProgramError) → (error ≡ Memory) ⊎ ((error ≡ Usage) × ((name : List ℕ) → IsMessageName named.1 (name_asked wanted) name → ⊥)) → Shows sink old old (Err (by_program error)) wanted named
+  not_named pair asked Memory why = refl
+  not_named pair asked Usage (inl is) = cc
+  not_named pair asked Usage (inr (is, none)) = ((pair, asked, none), refl)
+  not_named pair asked File (inl is) = cc
+  not_named pair asked File (inr (is, none)) = cc
+  not_named pair asked (Text fault) (inl is) = cc
+  not_named pair asked (Text fault) (inr (is, none)) = cc
+  not_named pair asked (ReceiveWithoutSend p index) (inl is) = cc
+  not_named pair asked (ReceiveWithoutSend p index) (inr (is, none)) = cc
+  not_named pair asked (NameMismatch p index) (inl is) = cc
+  not_named pair asked (NameMismatch p index) (inr (is, none)) = cc
+  not_named pair asked Cyclic (inl is) = cc
+  not_named pair asked Cyclic (inr (is, none)) = cc
+  not_named pair asked Write (inl is) = cc
+  not_named pair asked Write (inr (is, none)) = cc

@@ -10,12 +10,12 @@ use Rattle.repair.specs.Mends.{Fails}
 use Rattle.texts.specs.Outs.{Sink}
 use Rattle.cmd_base.specs.declared.pairs.error.ViewError.TheVariants.{Program, NoSuchEvent, NotEarlier, NotAReceive, ManySlots}
 use Rattle.cmd_base.specs.declared.pairs.pair.Pair.{Pair}
-use Rattle.cmd_base.specs.Pairs.Pairs.{pair_of}
+use Rattle.cmd_mend.specs.Naming.{IsMessageName}
 use Rattle.cmd_mend.specs.declared.answering.Outcome.{Outcome}
 use Rattle.cmd_mend.specs.declared.error.MendRefusal.{MendRefusal}
 use Rattle.cmd_mend.specs.declared.error.MendRefusal.TheVariants.{View, LineFull}
 use Rattle.cmd_mend.specs.declared.showing.Wanted.{Wanted}
-use Rattle.cmd_mend.specs.Showing.{AreMended, Writes, Shows, refused_so, IsNamedFor}
+use Rattle.cmd_mend.specs.Showing.{AreMended, Writes, Shows, IsAskedAbout, name_asked, refused_so, IsNamedFor}
 use Rattle.cmd_mend.proofs.FullLemmas.{full_within}
 
 module _ {S : Type 0} (sink : S → Sink) (names : List (List ℕ)) (lines : List LineView) (wanted : Wanted) where
@@ -36,12 +36,12 @@ module _ {S : Type 0} (sink : S → Sink) (names : List (List ℕ)) (lines : Lis
   came_so old new pair name mending (Err (LineFull full)) are w = absurd w
 
   -- a line is full, or memory ran out
-  full_shown : (old : S) (pair : Pair) (error : MendError) → pair_of names lines wanted.asked ≡ Ok pair → Fails (chart_lines lines) (place_of pair.earlier) (place_of pair.receive) error → Shows sink old old (Err (refused_so names error)) wanted (names, lines)
-  full_shown old pair (fulls.LineFull p) is fails = (pair, p, is, refl, fails, refl)
-  full_shown old pair fulls.Memory is fails = refl
+  full_shown : (old : S) (pair : Pair) (name : List ℕ) (error : MendError) → IsAskedAbout (names, lines) wanted pair → IsMessageName lines (name_asked wanted) name → Fails (chart_lines lines) (place_of pair.earlier) (place_of pair.receive) error → Shows sink old old (Err (refused_so names error)) wanted (names, lines)
+  full_shown old pair name (fulls.LineFull p) asked called fails = ((pair, name, p, asked, called, refl, fails), refl)
+  full_shown old pair name fulls.Memory asked called fails = refl
 
-  pub refused_shown : (old : S) (pair : Pair) (error : MendError) (e : MendRefusal) → pair_of names lines wanted.asked ≡ Ok pair → Fails (chart_lines lines) (place_of pair.earlier) (place_of pair.receive) error → e ≡ refused_so names error → Shows sink old old (Err e) wanted (names, lines)
-  refused_shown old pair error e is fails so = subst (λ (x : MendRefusal). Shows sink old old (Err x) wanted (names, lines)) (sym so) (full_shown old pair error is fails)
+  pub refused_shown : (old : S) (pair : Pair) (name : List ℕ) (error : MendError) (e : MendRefusal) → IsAskedAbout (names, lines) wanted pair → IsMessageName lines (name_asked wanted) name → Fails (chart_lines lines) (place_of pair.earlier) (place_of pair.receive) error → e ≡ refused_so names error → Shows sink old old (Err e) wanted (names, lines)
+  refused_shown old pair name error e asked called fails so = subst (λ (x : MendRefusal). Shows sink old old (Err x) wanted (names, lines)) (sym so) (full_shown old pair name error asked called fails)
 
 pub named_for : (lines : List LineView) (pair : Pair) (n : ℕ) (error : MendError) → n ≡ length lines → Fails (chart_lines lines) (place_of pair.earlier) (place_of pair.receive) error → IsNamedFor n error
 named_for lines pair n (fulls.LineFull p) long fails = subst (λ k. p ≤ k) (sym long) (full_within lines (place_of pair.earlier) (place_of pair.receive) p fails)

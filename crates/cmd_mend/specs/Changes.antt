@@ -4,6 +4,7 @@ use Rattle.std.specs.List.{list_any}
 use Rattle.chart.specs.declared.instance.EventNo.{EventNo}
 use Rattle.chart.specs.Reports.{ReportView}
 use Rattle.repair.specs.Messages.{NewMessage, moved_index}
+use Rattle.cmd_mend.specs.Marks.{is_at}
 
 -- in the new chart it is the message's send or its receive
 abbrev pub is_new : NewMessage → EventNo → Bool
@@ -14,10 +15,6 @@ abbrev pub new_index : NewMessage → EventNo → ℕ
 new_index m e =
     if e.instance == m.sender then moved_index m.sent e.index
     else (if e.instance == m.receiver then moved_index m.received e.index else e.index)
-
--- the event of this number of the instance's line
-abbrev pub is_at : ℕ → ℕ → EventNo → Bool
-is_at p i e = (e.instance == p) && (e.index == i)
 
 -- an old event is no race of a receive in the new chart, whose report this is
 abbrev pub is_gone : NewMessage → ReportView → EventNo → Bool

@@ -2,6 +2,7 @@ pub mod Answers
 pub mod ChangeText
 pub mod Changes
 pub mod Laws
+pub mod Marks
 pub mod Naming
 pub mod Showing
 pub mod Outcomes

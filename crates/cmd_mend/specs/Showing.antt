@@ -48,6 +48,24 @@ pub record AreMended (named : Named) (wanted : Wanted) (pair : Pair) (name : Lis
   pub called : IsMessageName named.1 (name_asked wanted) name
   pub mends : Mends (length named.1) (chart_lines named.1) (place_of pair.earlier) (place_of pair.receive) name mending
 
+-- the chart is possible, and this is the pair that is asked about
+abbrev pub IsAskedAbout : Named → Wanted → Pair → Type 0
+IsAskedAbout named wanted pair = (pair_of named.0 named.1 wanted.asked ≡ Ok pair)
+    × IsPossible (length named.1) (chart_lines named.1)
+
+-- Of a text without a fault this is the first refusal that applies, memory aside: that its chart isn't possible; that it
+-- has no such pair; that the name isn't one, or is taken; that a line is full.
+abbrev pub IsFirstRefusal : Named → Wanted → MendRefusal → Type 0
+IsFirstRefusal named wanted (View (Program errors.Usage)) = (pair : Pair) × IsAskedAbout named wanted pair
+    × ((name : List ℕ) → IsMessageName named.1 (name_asked wanted) name → ⊥)
+IsFirstRefusal named wanted (View (Program error)) = IsRefused error named
+IsFirstRefusal named wanted (View (ManySlots slots)) = ⊥
+IsFirstRefusal named wanted (View error) = (pair_of named.0 named.1 wanted.asked ≡ Err error)
+    × IsPossible (length named.1) (chart_lines named.1)
+IsFirstRefusal named wanted (LineFull full) = (pair : Pair) × (name : List ℕ) × (p : ℕ) × IsAskedAbout named wanted pair
+    × IsMessageName named.1 (name_asked wanted) name × (full ≡ name_at named.0 p)
+    × IsFull (chart_lines named.1) (place_of pair.earlier) (place_of pair.receive) p
+
 module _ {S : Type 0} (sink : S → Sink) where
   -- the chart was written, or nothing, where there is none
   abbrev pub WritesIt : S → S → List (List ℕ) → Mending → Type 0
@@ -77,21 +95,12 @@ module _ {S : Type 0} (sink : S → Sink) where
   Came old new done wanted named = (pair : Pair) × (name : List ℕ) × (mending : Mending)
       × AreMended named wanted pair name mending × Writes old new named pair mending done
 
-  -- that, or nothing, where the chart is not possible, where there is no such pair, where the name isn't one or is
-  -- taken, where a line is full, or where memory ran out
+  -- that, or nothing, where a refusal applies, the first that does, or where memory ran out
   abbrev pub Shows : S → S → Result Outcome MendRefusal → Wanted → Named → Type 0
   Shows old new (Ok outcome) wanted named = Came old new (Ok outcome) wanted named
   Shows old new (Err (View (Program errors.Memory))) wanted named = new ≡ old
   Shows old new (Err (View (Program errors.Write))) wanted named = Came old new (Err (by_program errors.Write)) wanted named
-  Shows old new (Err (View (Program errors.Usage))) wanted named =
-      ((name : List ℕ) → IsMessageName named.1 (name_asked wanted) name → ⊥) × (new ≡ old)
-  Shows old new (Err (View (Program error))) wanted named = IsRefused error named × (new ≡ old)
-  Shows old new (Err (View (ManySlots slots))) wanted named = ⊥
-  Shows old new (Err (View error)) wanted named = (pair_of named.0 named.1 wanted.asked ≡ Err error)
-      × IsPossible (length named.1) (chart_lines named.1) × (new ≡ old)
-  Shows old new (Err (LineFull full)) wanted named = (pair : Pair) × (p : ℕ)
-      × (pair_of named.0 named.1 wanted.asked ≡ Ok pair) × (full ≡ name_at named.0 p)
-      × IsFull (chart_lines named.1) (place_of pair.earlier) (place_of pair.receive) p × (new ≡ old)
+  Shows old new (Err error) wanted named = IsFirstRefusal named wanted error × (new ≡ old)
 
   -- the same for the chart that the bytes say; or nothing was written, where the bytes have a fault
   abbrev pub ShowsText : S → S → Wanted → List ℕ → Result Outcome MendRefusal → Type 0

@@ -4,9 +4,11 @@ ghost use Rattle.std.specs.List.{list_any};
 ghost use Rattle.chart.specs.Ranges.{events_of, events_in};
 ghost use Rattle.repair.specs.Growing.{message_of};
 ghost use Rattle.repair.specs.Messages.{moved_index};
-ghost use Rattle.cmd_mend.specs.Changes.{is_new, new_index, is_at, gone_of, all_gone, old_receives, kept_of};
+ghost use Rattle.cmd_mend.specs.Changes.{is_new, new_index, gone_of, all_gone, old_receives, kept_of};
 ghost use Rattle.cmd_mend.specs.Changes.{has_new, is_kept, changed_by};
+ghost use Rattle.cmd_mend.specs.Marks.{is_at, AreMarks};
 
+use crate::marks::marked;
 use chart::{EventNo, EventRange, InstanceNo, Report};
 use repair::Message;
 use std::alloc::{AllocError, Global};
@@ -100,6 +102,23 @@ fn have_event(ranges: &[EventRange], instance: InstanceNo, index: usize) -> bool
     one_has_event(ranges, instance, index)
 }
 
+/// The same where the numbers of an instance's events among them are marked.
+fn have_marked(
+    marks: &[bool],
+    marked: InstanceNo,
+    ranges: &[EventRange],
+    instance: InstanceNo,
+    index: usize,
+) -> bool
+    requires { AreMarks marked (events_in ranges.now) marks.now }
+    ensures { result ≡ list_any (is_at instance index) (events_in ranges.now) }
+{
+    if instance == marked && index < marks.len() {
+        return marks[index];
+    }
+    have_event(ranges, instance, index)
+}
+
 /// Of an old receive's report the races that go, by its report in the new chart.
 fn gone_of(
     alloc: Global,
@@ -109,11 +128,15 @@ fn gone_of(
 ) -> Result<Report, AllocError>
     ensures { IfOk result (λ gone. gone ≡ gone_of (message_of message.now) report.now other.now) }
 {
+    let instance = report.receive().instance;
+    let ranges = other.earlier().as_slice();
+    let others = other.earlier().listed(alloc)?;
+    let marks = marked(alloc, instance, others.as_slice())?;
     let earlier = report.earlier().listed(alloc)?;
     let mut gone = Vec::new(alloc);
     for event in earlier.as_slice() {
         let index = new_index(message, event);
-        if !have_event(other.earlier().as_slice(), event.instance, index) {
+        if !have_marked(marks.as_slice(), instance, ranges, event.instance, index) {
             gone.push(*event)?;
         }
     }

@@ -20,6 +20,7 @@ mod change;
 mod change_text;
 mod error;
 pub mod laws;
+mod marks;
 mod naming;
 mod outcomes;
 mod showing;

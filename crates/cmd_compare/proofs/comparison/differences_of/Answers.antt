@@ -3,7 +3,7 @@ use Rattle.std.proofs.lemmas.Result.{IfOk-weaker}
 use Rattle.std.proofs.lemmas.List.{nil_from_length}
 use Rattle.chart.specs.Charts.{LineView, chart_lines}
 use Rattle.cmd_compare.specs.Comparing.{AreDifferences}
-use Rattle.cmd_compare.specs.Verdicts.{AreFronts}
+use Rattle.reordering.proofs.CompletionLemmas.Possible.{is_sound}
 use Rattle.cmd_compare.specs.declared.pairs.Difference.{Difference}
 use Rattle.cmd_compare.proofs.DifferenceLemmas.{differences_so, no_differences}
 use Rattle.cmd_compare.proofs.comparison.differences_of.Goals as goal
@@ -23,9 +23,11 @@ returns c =
     let p = c.args.instance in
     let q = c.other_of-other.result in
     IfOk-weaker c.judge.result _ (λ differences. AreDifferences r.others.now (chart_lines r.here.now) (chart_lines r.there.now) p differences.items)
-    (λ differences made. differences_so r.others.now (chart_lines r.here.now) (chart_lines r.there.now) p q c.args.found.now c.events_of.result.now c.events_of-2.result.now c.as_slice.result.now c.as_slice-2.result.now c.as_slice-3.result.now differences.items c.requires.matches c.requires.whole c.other_of-other.ensures
+    (λ differences made. differences_so r.others.now (chart_lines r.here.now) (chart_lines r.there.now) p q c.args.found.now c.events_of.result.now c.events_of-2.result.now c.fronts_on.result.now c.fronts_on-2.result.now c.as_slice.result.now differences.items c.requires.matches c.requires.whole c.other_of-other.ensures
     (c.events_of.ensures.events ∙ ap (λ (l : List LineView). chart_lines l p) c.lines.ensures)
     (c.events_of-2.ensures.events ∙ ap (λ (l : List LineView). chart_lines l q) c.lines-2.ensures)
-    (subst (λ l. AreFronts (chart_lines r.here.now) p (length (chart_lines r.here.now p)) l) (sym c.as_slice.ensures.value) c.in_ok-fronts.ensures)
-    (subst (λ l. AreFronts (chart_lines r.there.now) q (length (chart_lines r.there.now q)) l) (sym c.as_slice-2.ensures.value) c.in_ok-fronts_there.ensures)
-    (c.as_slice-3.ensures.value ∙ c.in_ok-pairs.ensures) made) c.judge.ensures
+    (is_sound (length r.here.now) (chart_lines r.here.now) c.fronts_on.ensures.possible)
+    (is_sound (length r.there.now) (chart_lines r.there.now) c.fronts_on-2.ensures.possible)
+    c.fronts_on.ensures.fronts
+    c.fronts_on-2.ensures.fronts
+    (c.as_slice.ensures.value ∙ c.in_ok-pairs.ensures) made) c.judge.ensures

@@ -1,4 +1,6 @@
-use Rattle.std.proofs.Common.{◌≡◌, List, length, Ok, sym, ap, ◌∙◌, subst}
+use Rattle.std.proofs.Common.{◌≡◌, ◌⊎◌, ℕ, List, length, Ok, sym, subst}
+use Rattle.std.proofs.lemmas.Result.{err_from_is_err_and}
+use Rattle.cmd_base.specs.declared.error.ProgramError.TheVariants.{Usage, Memory}
 use Rattle.chart.specs.Charts.{LineView, chart_lines}
 use Rattle.closure.specs.Faults.{place_of}
 use Rattle.repair.specs.Mends.{Mends, Fails}
@@ -6,6 +8,7 @@ use Rattle.cmd_base.specs.Pairs.Pairs.{pair_of, IsPair}
 use Rattle.cmd_base.proofs.PairsLemmas.PairLemmas.{IsPair-from_words}
 use Rattle.cmd_mend.specs.Naming.{IsMessageName}
 use Rattle.cmd_mend.specs.Showing.{Writes, name_asked}
+use Rattle.cmd_mend.proofs.RefusedLemmas.{not_named}
 use Rattle.cmd_mend.proofs.ShowLemmas.{came_so, refused_shown, named_for}
 use Rattle.cmd_mend.proofs.showing.mend_in.Goals as goal
 
@@ -57,4 +60,16 @@ returns g c =
     let pair = c.in_ok-pair.pair in
     let is : pair_of names lines asked ≡ Ok pair = subst (λ (l : List LineView). pair_of names l asked ≡ Ok pair) c.lines.ensures.value (sym c.in_ok-pair.ensures) in
     let fails = subst (λ (l : List LineView). Fails (chart_lines l) (place_of pair.earlier) (place_of pair.receive) c.in-Err.error) c.in_ok-closure.ensures.closure c.in-Err.ensures.err in
-    refused_shown g.W.Out.sink names lines wanted c.args.out.now pair c.in-Err.error c.refused.result is fails c.refused.ensures
+    let called = subst (λ (l : List LineView). IsMessageName l (name_asked wanted) c.in_ok-name.name) c.lines-2.ensures.value c.in_ok-name.ensures.ok in
+    refused_shown g.W.Out.sink names lines wanted c.args.out.now pair c.in_ok-name.name c.in-Err.error c.refused.result (is, c.in_ok-closure.ensures.possible) called fails c.refused.ensures
+
+pub returns-in_err-name : goal.returns-in_err-name
+returns-in_err-name g c =
+    let wanted = c.args.wanted.now in
+    let names = c.args.names.now in
+    let lines = c.args.chart.now in
+    let pair = c.in_ok-pair.pair in
+    let is : pair_of names lines wanted.asked ≡ Ok pair = subst (λ (l : List LineView). pair_of names l wanted.asked ≡ Ok pair) c.lines.ensures.value (sym c.in_ok-pair.ensures) in
+    let p = err_from_is_err_and c.from_residual-in_err-name.result c.from_residual-in_err-name.ensures.1 in
+    rw (p.1, p.2) (not_named g.W.Out.sink c.args.out.now (names, lines) wanted pair (is, c.in_ok-closure.ensures.possible) c.in_err-name.field-0.0
+    (subst (λ (l : List LineView). (c.in_err-name.field-0.0 ≡ Memory) ⊎ ((c.in_err-name.field-0.0 ≡ Usage) × ((name : List ℕ) → IsMessageName l (name_asked wanted) name → ⊥))) c.lines-2.ensures.value c.in_err-name.ensures.err))
