@@ -4,9 +4,11 @@ use Rattle.chart.specs.Charts.{chart_lines, IsPossible}
 use Rattle.chart.specs.Reports.{ReportView, AreReports}
 use Rattle.cmd_base.specs.Answers.{Exit, exit_of, program_exit}
 use Rattle.cmd_base.specs.Files.{Named, IsRefused}
+use Rattle.cmd_base.specs.NotDone.{IsNoted, not_done_exit}
 use Rattle.cmd_base.specs.Texts.{OfFile, named_of}
 use Rattle.cmd_base.specs.declared.error.ProgramError.{ProgramError}
 use Rattle.cmd_base.specs.declared.error.ProgramError.TheVariants as errors
+use Rattle.cmd_base.specs.declared.not_done.NotDone.{NotDone}
 use Rattle.cmd_draw.specs.Drawing.{Draws, DrawsText}
 use Rattle.cmd_draw.specs.declared.drawing.Wanted.{Wanted}
 use Rattle.cmd_draw.specs.declared.windows.Rows.TheVariants.{Between}
@@ -46,7 +48,8 @@ pub record IsDrawn (bytes file picture : List ℕ) : Type 0 where
   pub wanted : Wanted
   pub asked : IsAskedOf file wanted
   pub out : Stored
-  pub done : DrawsText memory none out wanted bytes (Ok tt)
+  pub not_done : Option NotDone
+  pub done : DrawsText memory none out wanted bytes (Ok not_done)
   pub text : picture ≡ out.bytes
 
 -- the picture is what `draw` writes of the chart by whose turn it is, with no note beside it
@@ -89,6 +92,11 @@ module _ {S : Type 0} (sink : S → Sink) where
   ShowsText old new heading bytes done =
       OfFile (λ error. error) (λ source done. Shows old new done bytes heading (named_of source)) old new bytes done
 
--- what is said of a page that was written: nothing
-abbrev pub page_exit : Result (Unit {0}) ProgramError → Exit
-page_exit = exit_of (λ done. record { status = 0; diagnostics = None }) program_exit
+  -- the same, and of a schedule which of its commands did nothing
+  unfoldable pub ShowsFile : S → S → HeadingView → List ℕ → Result (Option NotDone) ProgramError → Type 0
+  ShowsFile old new heading bytes done = OfFile (λ error. error)
+      (IsNoted (λ them. tt) (λ them. them) (λ source done. Shows old new done bytes heading (named_of source))) old new bytes done
+
+-- what is said of a page that was written: of a schedule which of its commands did nothing
+abbrev pub page_exit : Result (Option NotDone) ProgramError → Exit
+page_exit = exit_of not_done_exit program_exit

@@ -5,6 +5,7 @@
 //!
 //! - With status 0 exactly the page was written that `mscview page` writes of the text that `mscview import` writes
 //!   of the same texts. Standard error tells what an import tells.
+//! - A log that has one end of each message is refused (F52): no receive takes a send of it.
 //! - With status 2 the refusal's line was written, or a beginning of it where standard error failed, and nothing went
 //!   to the output before it, unless a write failed (F24).
 

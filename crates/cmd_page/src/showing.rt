@@ -9,6 +9,7 @@ ghost use Rattle.cmd_page.specs.Showing.{
   IsDrawn,
   IsDrawnBy,
   Shows,
+  ShowsFile,
   ShowsText,
   heading_view,
   page_exit,
@@ -21,7 +22,7 @@ use crate::races::{ReadFile, races_of};
 use crate::text::{Page, write_page};
 use chart::{Chart, InstanceNo, Names};
 use closure::Closure;
-use cmd_base::{ProgramError, Source, Text, answered, closure_of};
+use cmd_base::{NotDone, ProgramError, Source, Text, answered, closure_of};
 use cmd_draw::{Events, Rows, Wanted, draw, draw_chart};
 use std::alloc::{AllocError, Global};
 use texts::Out;
@@ -188,11 +189,31 @@ pub fn show_text<W: Out>(
     show_chart(alloc, file, heading, source.names(), source.chart(), out)
 }
 
+/// Writes the page of what a file says, and answers which commands of its schedule did nothing. The refusals are those
+/// of [`write_page_of`].
+fn show_file<W: Out>(
+    alloc: Global,
+    bytes: &[u8],
+    heading: &Heading<'_>,
+    out: &mut W,
+) -> Result<Option<NotDone>, ProgramError>
+    ensures { ShowsFile W.sink out.old out.new (heading_view heading.now) bytes.now result }
+{
+    let text = Text::read(alloc, bytes)?;
+    let source = Source::of(alloc, &text)?;
+    let file = ReadFile {
+        bytes,
+        source: &source,
+    };
+    show_chart(alloc, file, heading, source.names(), source.chart(), out)?;
+    Ok(source.not_done())
+}
+
 /// Writes the page of the chart that the bytes of a file say, or of what the schedule comes to that they say: its
 /// picture, its races, and what `why`, `witness` and `mend` say of those that are told in full. Writes the line of a
-/// refusal to `err`. Answers the exit status: 0 where it was written, 2 after a refusal. The text's faults are refused
-/// first, then F16, F17 or F18. Nothing is written to `out` before a refusal, but where writing to it failed (F24). A
-/// failed write to `err` changes nothing.
+/// refusal to `err`, and of a schedule how many of its commands did nothing. Answers the exit status: 0 where it was
+/// written, 2 after a refusal. The text's faults are refused first, then F16, F17 or F18. Nothing is written to `out`
+/// before a refusal, but where writing to it failed (F24). A failed write to `err` changes nothing.
 pub fn write_page_of<W: Out, V: Out>(
     alloc: Global,
     bytes: &[u8],
@@ -200,9 +221,9 @@ pub fn write_page_of<W: Out, V: Out>(
     out: &mut W,
     err: &mut V,
 ) -> u8
-    ensures { Answers (ShowsText W.sink out.old out.new (titled title.now) bytes.now) page_exit V.sink err.old err.new
+    ensures { Answers (ShowsFile W.sink out.old out.new (titled title.now) bytes.now) page_exit V.sink err.old err.new
         result }
 {
     let heading = Heading { title, turns: None };
-    answered(&show_text(alloc, bytes, &heading, out), err)
+    answered(&show_file(alloc, bytes, &heading, out), err)
 }

@@ -1,4 +1,4 @@
-//! Two clients order at a server, each on a thread of its own. The server tells each race of its receives as it
+//! Two clients order at a server, each on a thread of its own. The server prints each race of its receives as it
 //! comes.
 #![tactic(auto)]
 
@@ -22,7 +22,7 @@ fn order(alloc: Global, mut post: Post) -> anyhow::Result<()> {
     Ok(())
 }
 
-/// Tells the races of a receive: the earlier events of its line that came before it by luck alone.
+/// Prints the races of a receive: the earlier events of its line that nothing forces to come first.
 fn print_races<R: Print>(rt: &R, mailbox: &Mailbox, arrival: &Arrival) -> anyhow::Result<()> {
     let name = arrival.message.name();
     let receive = arrival.report.receive().index;

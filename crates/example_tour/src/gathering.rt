@@ -5,7 +5,7 @@ use anyhow::bail;
 use board::{GatherError, Post, gather};
 use std::alloc::Global;
 
-/// Gathers a board, and tells what it came to.
+/// Gathers a board, and prints the result.
 pub fn gather_board<R: Print>(rt: &R, alloc: Global, posts: Vec<Post>) -> anyhow::Result<()>
     requires { AreOfOneBoard posts.items }
 {

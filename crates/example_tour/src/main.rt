@@ -1,4 +1,4 @@
-//! The code of `docs/USING-THE-LIBRARY.md`, which goes over it piece by piece.
+//! The code of `docs/guide/library.md`, which goes over it piece by piece.
 //!
 //! With no word two messages cross, and a mailbox looks for one. With the word `threads` posts are held on threads,
 //! and with the word `schedule` a schedule is run on threads.

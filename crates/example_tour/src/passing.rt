@@ -32,7 +32,7 @@ pub fn send_by(alloc: Global, post: &mut Post, to: usize, name: &[u8]) -> anyhow
     }
 }
 
-/// Receives from an instance, and tells of the receive's races as soon as the message is there.
+/// Receives from an instance, and prints the receive's races as soon as the message is there.
 pub fn receive_by<R: Print>(rt: &R, post: &mut Post, from: usize) -> anyhow::Result<()>
     ensures { post.new.board ≡ post.old.board }
 {

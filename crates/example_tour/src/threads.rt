@@ -18,7 +18,7 @@ fn ask(alloc: Global, post: &mut Post) -> anyhow::Result<()>
     Ok(())
 }
 
-/// The second one receives until the lane has ended, and looks so many times at most.
+/// The second one receives until the lane has ended, and looks at most a million times.
 fn listen(post: &mut Post) -> anyhow::Result<()>
     ensures { post.new.board ≡ post.old.board }
 {

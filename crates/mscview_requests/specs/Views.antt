@@ -6,12 +6,14 @@ use Rattle.diagram_import.specs.Importing as diagrams
 use Rattle.cmd_explain_file.specs.Explaining.{Explains, explained_exit}
 use Rattle.cmd_base.specs.Answers.{Answers}
 use Rattle.cmd_base.specs.Refusals.{refusal_text, Tried}
+use Rattle.cmd_base.specs.Strict.{Refuses}
 use Rattle.cmd_base.specs.declared.error.ProgramError.{ProgramError}
 use Rattle.cmd_base.specs.declared.error.ProgramError.TheVariants.{Usage}
 use Rattle.cmd_draw.specs.Answers.{draw_exit}
 use Rattle.cmd_draw.specs.Drawing.{DrawsText}
 use Rattle.cmd_draw.specs.Exporting.{ExportsText, export_exit}
 use Rattle.cmd_draw.specs.Targets.{target_named}
+use Rattle.cmd_draw.specs.declared.drawing.Wanted as pictures
 use Rattle.cmd_import_diagram.specs.Importing as diagram_answers
 use Rattle.cmd_page.specs.Imports.Drawings as diagram_pages
 use Rattle.cmd_draw.specs.Imports.Drawing as diagram_pictures
@@ -43,6 +45,7 @@ use Rattle.cli.specs.declared.view.request.ImportLog.{ImportLog}
 use Rattle.cli.specs.declared.view.request.LogRaces.{LogRaces}
 use Rattle.cli.specs.declared.view.request.Mend as mend
 use Rattle.cli.specs.declared.view.request.Mend.TheVariants.{One, All}
+use Rattle.cli.specs.declared.view.request.Page.{Page}
 use Rattle.cli.specs.declared.view.request.Pair.{Pair}
 use Rattle.cli.specs.declared.view.request.Question as question
 use Rattle.cli.specs.declared.view.request.Question.TheVariants.{Witness, Why}
@@ -50,8 +53,8 @@ use Rattle.cli.specs.declared.view.request.Races.{Races}
 use Rattle.cli.specs.declared.view.request.Reading.{Reading}
 use Rattle.cli.specs.declared.view.request.Request.{Request}
 use Rattle.cli.specs.declared.view.request.Request.TheVariants as requests
-use Rattle.cmd_explain_race.specs.Answers.{why_exit, witness_exit}
-use Rattle.cmd_explain_race.specs.Views.{Whys}
+use Rattle.cmd_explain_race.specs.Answers.{why_file_exit, witness_exit}
+use Rattle.cmd_explain_race.specs.Views.{WhysFile}
 use Rattle.cmd_explain_race.specs.Witnessing.{Witnesses}
 use Rattle.cmd_base.specs.declared.pairs.pair.Asked.{Asked}
 use Rattle.cmd_draw.specs.Witness.Answers.{picture_exit}
@@ -62,10 +65,20 @@ use Rattle.mscview_requests.specs.Wanted.{IsAsked, IsMend, IsPicture, IsPictureO
 
 -- What commands do, by what is known of standard output and of standard error, with what they were before and are afterwards.
 module _ {S V : Type 0} (sink : S → Sink) (old new : S) (diagnostics : V → Sink) (before after : V) where
+  -- what is told where a file was refused, with this status, or else what the command does, by what standard error was before
+  abbrev pub DoesUnless : Option ℕ → (V → List ℕ → ℕ → Type 0) → V → List ℕ → ℕ → Type 0
+  DoesUnless None Does between text status = Does between text status
+  DoesUnless (Some refused) Does between text status = (status ≡ refused) × (after ≡ between) × (new ≡ old)
+
+  -- with `--strict` a file that it refuses was refused, and nothing was written; of any other the command does this
+  abbrev pub DoesStrictly : Bool → (V → List ℕ → ℕ → Type 0) → List ℕ → ℕ → Type 0
+  DoesStrictly strict Does text status = (between : V) × (refused : Option ℕ) × Refuses strict text diagnostics before between refused
+      × DoesUnless refused Does between text status
+
   -- a pair of events was explained, or turned round
   abbrev pub DoesPair : question.Question → Asked → List ℕ → ℕ → Type 0
   DoesPair Witness asked text status = Answers (Witnesses sink old new text asked) witness_exit diagnostics before after status
-  DoesPair Why asked text status = Answers (Whys sink old new text asked) why_exit diagnostics before after status
+  DoesPair Why asked text status = Answers (WhysFile sink old new text asked) why_file_exit diagnostics before after status
 
   -- the races of a chart or of a schedule were shown; where luck is asked for, those that were luck
   abbrev pub DoesRaces : Bool → Wanted → List ℕ → ℕ → Type 0
@@ -88,10 +101,13 @@ module _ {S V : Type 0} (sink : S → Sink) (old new : S) (diagnostics : V → S
       × (names ≡ diagnostic_files (map (λ word. word.now) asked.log.files.items))
       × Answers (log_races.ShowsLog sink old new options texts wanted) (log_races.races_exit names) diagnostics before after status
 
-  -- the page of a file was written, called as a picture of it is
-  abbrev pub DoesPage : Option (List ℕ) → List ℕ → ℕ → Type 0
-  DoesPage file text status = (title : List ℕ) × IsNameOf (titled_path file) title
-      × Answers (pages.ShowsText sink old new (pages.titled title) text) page_exit diagnostics before after status
+  -- a chart or a schedule was drawn
+  abbrev pub DoesPicture : pictures.Wanted → List ℕ → ℕ → Type 0
+  DoesPicture wanted text status = Answers (DrawsText sink old new wanted text) draw_exit diagnostics before after status
+
+  -- the page of a file was written, called so
+  abbrev pub WritesPage : List ℕ → List ℕ → ℕ → Type 0
+  WritesPage title text status = Answers (pages.ShowsFile sink old new (pages.titled title) text) page_exit diagnostics before after status
 
   -- the page of another tool's text was written, called as a picture of the file is
   abbrev pub DoesToolPage : Option (List ℕ) → Option Tool × diagrams.OptionsView → List ℕ → ℕ → Type 0
@@ -135,12 +151,13 @@ module _ {S V : Type 0} (gives : ℕ → Option (List ℕ) → Result (List ℕ)
   -- a pair of events was explained, or turned round
   abbrev pub ViewsPair : Pair → Result ℕ ProgramError → Type 0
   ViewsPair pair = OfFile (IsAsked pair.instance.now pair.earlier.now pair.receive.now)
-      (SayNothing (IsAsked pair.instance.now pair.earlier.now pair.receive.now)) (named_so pair.file.now) (DoesPair sink old new diagnostics before after pair.question)
+      (SayNothing (IsAsked pair.instance.now pair.earlier.now pair.receive.now)) (named_so pair.file.now)
+      (λ asked. DoesStrictly sink old new diagnostics before after pair.strict (λ between. DoesPair sink old new diagnostics between after pair.question asked))
 
   -- a chart or a schedule was drawn
   abbrev pub ViewsFilePicture : Draw → Result ℕ ProgramError → Type 0
   ViewsFilePicture draw = OfFile (IsPicture draw) (SayNothing (IsPicture draw)) (file_named (option_map (λ word. word.now) draw.file))
-      (λ wanted text status. Answers (DrawsText sink old new wanted text) draw_exit diagnostics before after status)
+      (λ wanted. DoesStrictly sink old new diagnostics before after draw.strict (λ between. DoesPicture sink old new diagnostics between after wanted))
 
   -- another tool's text was drawn
   abbrev pub ViewsPictureOf : Draw → Reading → Result ℕ ProgramError → Type 0
@@ -187,7 +204,8 @@ module _ {S V : Type 0} (gives : ℕ → Option (List ℕ) → Result (List ℕ)
   -- the races of a chart or of a schedule were shown
   abbrev pub ViewsFileRaces : Races → Result ℕ ProgramError → Type 0
   ViewsFileRaces asked = OfFileAlone (file_named (option_map (λ word. word.now) asked.file))
-      (λ text status. (wanted : Wanted) × AreRaces asked.showing wanted × DoesRaces sink old new diagnostics before after asked.showing.luck wanted text status)
+      (λ text status. (wanted : Wanted) × AreRaces asked.showing wanted × DoesStrictly sink old new diagnostics before after asked.strict
+      (λ between. DoesRaces sink old new diagnostics between after asked.showing.luck wanted) text status)
 
   -- the text wasn't given; or it was, and luck is asked for, of which such a text tells nothing (G1)
   abbrev pub HasNoLuck : Bool → Option (List ℕ) → ProgramError → Type 0
@@ -221,9 +239,11 @@ module _ {S V : Type 0} (gives : ℕ → Option (List ℕ) → Result (List ℕ)
   ViewsMend (All file) result = OfFileAlone (file_named (option_map (λ word. word.now) file))
       (λ text status. Answers (mends.ShowsAllText sink old new text) mend_all_exit diagnostics before after status) result
 
-  -- the page of a file was written
-  abbrev pub ViewsPage : Option (List ℕ) → Result ℕ ProgramError → Type 0
-  ViewsPage file = OfFileAlone (file_named file) (DoesPage sink old new diagnostics before after file)
+  -- the page of a file was written, called as a picture of it is
+  abbrev pub ViewsPage : Page → Result ℕ ProgramError → Type 0
+  ViewsPage page = OfFileAlone (file_named (option_map (λ word. word.now) page.file))
+      (λ text status. (title : List ℕ) × IsNameOf (titled_path (option_map (λ word. word.now) page.file)) title
+      × DoesStrictly sink old new diagnostics before after page.strict (λ between. WritesPage sink old new diagnostics between after title) text status)
 
   -- the page of another tool's text was written
   abbrev pub ViewsToolPage : Import → Result ℕ ProgramError → Type 0
@@ -247,7 +267,7 @@ module _ {S V : Type 0} (gives : ℕ → Option (List ℕ) → Result (List ℕ)
   Comes (requests.Pair pair) result = ViewsPair pair result
   Comes (requests.Draw draw) result = ViewsPicture draw result
   Comes (requests.DrawWitness draw) result = ViewsWitnessPicture draw result
-  Comes (requests.Page file) result = ViewsPage (option_map (λ word. word.now) file) result
+  Comes (requests.Page page) result = ViewsPage page result
   Comes (requests.ToolPage wanted) result = ViewsToolPage wanted result
   Comes (requests.LogPage log) result = ViewsLogPage log result
   Comes (requests.Export wanted) result = ViewsExport wanted result

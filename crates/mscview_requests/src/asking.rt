@@ -1,13 +1,13 @@
 //! What is asked about files: pairs of events, and what two files differ in.
 ghost use Rattle.std.specs.Prelude.{◌≡◌};
 ghost use Rattle.mscview_requests.specs.Words.Words.{Says};
-ghost use Rattle.mscview_requests.specs.Views.{DoesPair, ViewsPair, ViewsComparison};
+ghost use Rattle.mscview_requests.specs.Views.{DoesPair, DoesStrictly, ViewsPair, ViewsComparison};
 ghost use Rattle.mscview_requests.specs.Wanted.{IsNumberIn, IsAsked, comparison_form};
 
 use crate::giving::{Giver, first_in};
 use cli::view::{Compare, Pair, Question};
 use cmd_base::pairs::Asked;
-use cmd_base::{ProgramError, number_in};
+use cmd_base::{ProgramError, number_in, refused_strictly};
 use cmd_compare::{Form, compare};
 use cmd_explain_race::{why, witness};
 use std::alloc::Global;
@@ -57,6 +57,25 @@ fn answer_pair<W: Out, V: Out>(
     }
 }
 
+/// Explains the pair of events, or turns it round, unless `--strict` refuses the file.
+fn answer_strictly<W: Out, V: Out>(
+    alloc: Global,
+    pair: &Pair<'_>,
+    bytes: &[u8],
+    asked: &Asked<'_>,
+    out: &mut W,
+    err: &mut V,
+) -> u8
+    ensures { DoesStrictly W.sink out.old out.new V.sink err.old err.new pair.now.strict
+        (λ between. DoesPair W.sink out.old out.new V.sink between err.new pair.now.question asked.now) bytes.now
+        result }
+{
+    match refused_strictly(alloc, pair.strict, bytes, err) {
+        Some(status) => status,
+        None => answer_pair(alloc, pair.question, bytes, asked, out, err),
+    }
+}
+
 /// Explains a pair of events, or turns it round.
 pub(crate) fn view_pair<G: Giver, W: Out, V: Out>(
     alloc: Global,
@@ -69,7 +88,7 @@ pub(crate) fn view_pair<G: Giver, W: Out, V: Out>(
 {
     let asked = asked_by(pair.instance, pair.earlier, pair.receive)?;
     let bytes = first_in(alloc, giver, Some(pair.file))?;
-    Ok(answer_pair(alloc, pair.question, bytes.as_slice(), &asked, out, err))
+    Ok(answer_strictly(alloc, pair, bytes.as_slice(), &asked, out, err))
 }
 
 fn form_of(json: bool) -> Form

@@ -2,14 +2,14 @@
 ghost use Rattle.std.specs.Prelude.{◌≡◌, Some, option_map};
 ghost use Rattle.cmd_draw.specs.Targets.{target_named};
 ghost use Rattle.mscview_requests.specs.Words.Words.{Says};
-ghost use Rattle.mscview_requests.specs.Views.{ViewsPicture, ViewsFilePicture, ViewsExport};
+ghost use Rattle.mscview_requests.specs.Views.{DoesStrictly, DoesPicture, ViewsPicture, ViewsFilePicture, ViewsExport};
 ghost use Rattle.mscview_requests.specs.Wanted.{IsPicture, TitleBy, IsNameOf, AreDrawn, AreRows, titled_path};
 
 use crate::asking::number_by;
 use crate::giving::{Giver, first_in};
 use crate::importing::view_picture_of;
 use cli::view::{Draw, Export, Rows as RowWords};
-use cmd_base::ProgramError;
+use cmd_base::{ProgramError, refused_strictly};
 use cmd_draw::{
     Around, Events, Rows, Target, Wanted, draw, events_in, export, file_name, target_in,
 };
@@ -99,6 +99,24 @@ pub(crate) fn picture_by<'a>(draw: &Draw<'a>) -> Result<Wanted<'a>, ProgramError
     })
 }
 
+/// Draws a chart or a schedule, unless `--strict` refuses the file.
+fn answer_strictly<W: Out, V: Out>(
+    alloc: Global,
+    is_strict: bool,
+    bytes: &[u8],
+    wanted: &Wanted<'_>,
+    out: &mut W,
+    err: &mut V,
+) -> u8
+    ensures { DoesStrictly W.sink out.old out.new V.sink err.old err.new is_strict
+        (λ between. DoesPicture W.sink out.old out.new V.sink between err.new wanted.now) bytes.now result }
+{
+    match refused_strictly(alloc, is_strict, bytes, err) {
+        Some(status) => status,
+        None => draw(alloc, bytes, wanted, out, err),
+    }
+}
+
 /// Draws a chart or a schedule.
 fn view_file_picture<G: Giver, W: Out, V: Out>(
     alloc: Global,
@@ -111,7 +129,7 @@ fn view_file_picture<G: Giver, W: Out, V: Out>(
 {
     let wanted = picture_by(picture)?;
     let bytes = first_in(alloc, giver, picture.file)?;
-    Ok(draw(alloc, bytes.as_slice(), &wanted, out, err))
+    Ok(answer_strictly(alloc, picture.strict, bytes.as_slice(), &wanted, out, err))
 }
 
 /// Draws a file, which may be another tool's text.

@@ -1,12 +1,12 @@
 //! Races by name.
 ghost use Rattle.std.specs.Prelude.{◌≡◌, option_map};
-ghost use Rattle.mscview_requests.specs.Views.{DoesRaces, ViewsRaces, ViewsFileRaces};
+ghost use Rattle.mscview_requests.specs.Views.{DoesRaces, DoesStrictly, ViewsRaces, ViewsFileRaces};
 ghost use Rattle.mscview_requests.specs.Wanted.{races_form, AreRaces};
 
 use crate::giving::{Giver, first_in};
 use crate::importing::view_races_of;
 use cli::view::{Races, Showing};
-use cmd_base::ProgramError;
+use cmd_base::{ProgramError, refused_strictly};
 use cmd_races::schedules::lucky_races;
 use cmd_races::{Wanted, races};
 use races_text::named::Form;
@@ -50,6 +50,25 @@ fn answer_races<W: Out, V: Out>(
     }
 }
 
+/// Shows the races of a chart or of a schedule, unless `--strict` refuses the file.
+fn answer_strictly<W: Out, V: Out>(
+    alloc: Global,
+    asked: &Races<'_>,
+    bytes: &[u8],
+    wanted: &Wanted<'_>,
+    out: &mut W,
+    err: &mut V,
+) -> u8
+    ensures { DoesStrictly W.sink out.old out.new V.sink err.old err.new asked.now.strict
+        (λ between. DoesRaces W.sink out.old out.new V.sink between err.new asked.now.showing.luck wanted.now) bytes.now
+        result }
+{
+    match refused_strictly(alloc, asked.strict, bytes, err) {
+        Some(status) => status,
+        None => answer_races(alloc, asked.showing.luck, bytes, wanted, out, err),
+    }
+}
+
 /// Shows the races of a chart or of a schedule.
 fn view_file_races<G: Giver, W: Out, V: Out>(
     alloc: Global,
@@ -62,8 +81,7 @@ fn view_file_races<G: Giver, W: Out, V: Out>(
 {
     let bytes = first_in(alloc, giver, asked.file)?;
     let wanted = wanted_by(&asked.showing);
-    let luck = asked.showing.luck;
-    Ok(answer_races(alloc, luck, bytes.as_slice(), &wanted, out, err))
+    Ok(answer_strictly(alloc, asked, bytes.as_slice(), &wanted, out, err))
 }
 
 /// Shows the races of a file by name, which may be another tool's text.

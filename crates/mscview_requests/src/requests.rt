@@ -31,7 +31,7 @@ fn come<G: Giver, W: Out, V: Out>(
         Request::Pair(pair) => view_pair(alloc, pair, giver, out, err),
         Request::Draw(picture) => view_picture(alloc, picture, giver, out, err),
         Request::DrawWitness(wanted) => view_beside(alloc, wanted, giver, out, err),
-        Request::Page(file) => view_page(alloc, *file, giver, out, err),
+        Request::Page(page) => view_page(alloc, page, giver, out, err),
         Request::ToolPage(wanted) => view_tool_page(alloc, wanted, giver, out, err),
         Request::LogPage(wanted) => view_log_page(alloc, wanted, giver, out, err),
         Request::Export(exported) => view_export(alloc, exported, giver, out, err),

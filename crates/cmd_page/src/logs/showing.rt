@@ -9,7 +9,7 @@ ghost use Rattle.cmd_page.specs.Logs.Showing.{ShowsLog, page_error_text, page_ex
 use crate::{Heading, show_drawn};
 use cmd_base::{ProgramError, refused};
 use cmd_import_log::answers::{Diagnostics, write_diagnostics};
-use cmd_import_log::{LogImportError, Options, drawing_in, refused_log};
+use cmd_import_log::{LogImportError, Options, drawing_in, refused_log, refused_one_end};
 use std::alloc::Global;
 use texts::Out;
 
@@ -18,11 +18,14 @@ use texts::Out;
 pub enum PageError {
     /// The log isn't read or has no chart, or memory ran out.
     Log(LogImportError),
+    /// F52: the log has one end of each message, so no race is claimed.
+    OneEnd,
     /// Memory ran out, or a write failed.
     Page(ProgramError),
 }
 
-/// Reads the log and writes the page of its chart. All memory is taken before the first byte is written.
+/// Reads the log and writes the page of its chart, if some receive takes a send of the log. All memory is taken before
+/// the first byte is written.
 fn show<W: Out>(
     alloc: Global,
     options: Options<'_>,
@@ -37,6 +40,9 @@ fn show<W: Out>(
         Ok(drawing) => drawing,
         Err(error) => return Err(PageError::Log(error)),
     };
+    if drawing.diagnostics.is_one_ended {
+        return Err(PageError::OneEnd);
+    }
     let heading = Heading { title, turns: None };
     match show_drawn(
         alloc,
@@ -51,12 +57,13 @@ fn show<W: Out>(
 }
 
 /// Prints the line of a refusal, and answers the exit status.
-fn refused_page<V: Out>(error: &PageError, err: &mut V) -> u8
+fn refused_page<V: Out>(files: &[&[u8]], error: &PageError, err: &mut V) -> u8
     ensures status { result ≡ 2 }
-    ensures line { Tried V.sink err.old err.new (page_error_text error.now) }
+    ensures line { Tried V.sink err.old err.new (page_error_text (map (λ file. file.now) files.now) error.now) }
 {
     match error {
-        PageError::Log(error) => refused_log(error, err),
+        PageError::Log(error) => refused_log(files, error, err),
+        PageError::OneEnd => refused_one_end(err),
         PageError::Page(error) => refused(error, err),
     }
 }
@@ -74,8 +81,8 @@ fn print_diagnostics<V: Out>(files: &[&[u8]], diagnostics: &Diagnostics, err: &m
 /// Writes the page of the chart that the texts of a log say, of which these are the names where there are several, and
 /// none where there is one: that of the text which `mscview import` writes. On `err` is told what an import tells of
 /// the chart. Writes the line of a refusal to `err`. Answers the exit status: 0 where it was written, 2 after a
-/// refusal. The refusals are those of an import. Nothing is written to `out` before a refusal, but where writing to it
-/// failed (F24). A failed write to `err` changes nothing.
+/// refusal. The refusals are those of an import, and behind them a log that has one end of each message (F52). Nothing
+/// is written to `out` before a refusal, but where writing to it failed (F24). A failed write to `err` changes nothing.
 pub fn page_of_log<W: Out, V: Out>(
     alloc: Global,
     options: Options<'_>,
@@ -90,6 +97,6 @@ pub fn page_of_log<W: Out, V: Out>(
 {
     match show(alloc, options, texts, title, out) {
         Ok(diagnostics) => print_diagnostics(files, &diagnostics, err),
-        Err(error) => refused_page(&error, err),
+        Err(error) => refused_page(files, &error, err),
     }
 }

@@ -2,4 +2,4 @@ use Rattle.mscview_requests.proofs.GivenLemmas.{given_as}
 use Rattle.mscview_requests.proofs.drawing.view_file_picture.Goals as goal
 
 pub returns : goal.returns
-returns g c = (c.in_ok-wanted.wanted, c.as_slice.result.now, c.in_ok-wanted.ensures, given_as (g.G.Giver.gives c.args.giver.now) 0 _ _ _ c.as_slice.ensures c.in_ok-bytes.ensures, c.draw.ensures)
+returns g c = (c.in_ok-wanted.wanted, c.as_slice.result.now, c.in_ok-wanted.ensures, given_as (g.G.Giver.gives c.args.giver.now) 0 _ _ _ c.as_slice.ensures c.in_ok-bytes.ensures, c.answer_strictly.ensures)
