@@ -358,7 +358,7 @@ inline std::pair<board, std::vector<std::size_t>> gathered::carry_over(std::uint
 }
 
 /* What a program answers for a text: its exit status, and what it writes to standard output and standard error. The
- * status is 0, or 1 if there are races, or 2 if it refuses the text. */
+ * status is 0, or 1 if there are races, or 2 if it refuses the text, or 3 if the answer isn't known. */
 struct answer {
     int status;
     std::string out;

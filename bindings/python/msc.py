@@ -239,10 +239,10 @@ class Left:
 @dataclass(frozen=True)
 class Answer:
     """What a program answers for a text that it doesn't refuse."""
-
     has_races: bool  #: whether its exit status is 1
     out: bytes  #: what it writes to standard output
     notes: bytes  #: what it writes to standard error
+    is_known: bool = True  #: whether its exit status isn't 3: if it is, notes says why this isn't known
 
     @property
     def text(self) -> str:
@@ -599,4 +599,4 @@ def _whole(length: int, call: Callable[..., int]) -> Answer:
         out_room, err_room = max(out_room, written.first), max(err_room, written.second)
     if status == 2:
         raise BadText(err.raw[: written.second].decode(errors="replace").rstrip("\n"))
-    return Answer(status == 1, out.raw[: written.first], err.raw[: written.second])
+    return Answer(status == 1, out.raw[: written.first], err.raw[: written.second], status != 3)

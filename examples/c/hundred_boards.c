@@ -26,7 +26,7 @@ static void must(const char *what, int answer) {
     exit(1);
 }
 
-/* Receives a token from the instance before, and passes it on to the next one, so many times. */
+/* Receives a token from the instance before, and passes it on to the next one, ROUNDS times. */
 static void pass(int me) {
     uint32_t next = (uint32_t)((me + 1) % INSTANCES + 1), before = (uint32_t)((me + INSTANCES - 1) % INSTANCES + 1);
     msc_arrival came;
@@ -41,7 +41,7 @@ static void pass(int me) {
     }
 }
 
-/* Counts the races of a board but for those whose earlier event is a carried send. */
+/* Counts the races of a board, except those whose earlier event is a carried send. */
 static void count_races(msc_board *board) {
     uint32_t earlier[4096];
     msc_report report;

@@ -1,6 +1,6 @@
 /* A client asks a server, which gives up when nothing comes for a while, and tells a logger. Three threads, a post
- * each. Each race is told as it comes. At the end the board is gathered, and its chart is printed, which mscrun check
- * and mscview read.
+ * each. Each race is printed as it comes. At the end the board is gathered, and its chart is printed. mscrun check and
+ * mscview read it.
  *
  *     c++ -std=c++17 give_up.cpp $(pkg-config --cflags --libs msc) -pthread && ./a.out
  */
@@ -40,7 +40,7 @@ void show(const msc::post &post, const msc::message &message) {
     std::cout << line.str();
 }
 
-/* The next message from any instance: nothing where none has come after so many looks. */
+/* The next message from any instance: nothing if none has come after that many looks. */
 msc::taken next(msc::post &post, unsigned looks) {
     msc::message message;
     for (unsigned tries = 0; tries < looks; tries++) {

@@ -9,7 +9,7 @@ void order(msc::post &post, const std::string &what) {
     post.close(3);
 }
 
-// Receives until both have closed their lanes, and tells each race.
+// Receives until both have closed their lanes, and prints each race.
 void serve(msc::post &post) {
     msc::message message;
     for (;;) {

@@ -1,6 +1,6 @@
 """A client asks a server, which gives up when nothing comes for a while, and tells a logger. Three threads, a post
-each. Each race is told as it comes. At the end the board is gathered, and its chart is printed, which mscrun check and
-mscview read.
+each. Each race is printed as it comes. At the end the board is gathered, and its chart is printed. mscrun check and
+mscview read it.
 
     python3 give_up.py
 """

@@ -29,6 +29,16 @@ def races_in(text):
     return [line.split()[1:] for line in text.splitlines() if line.startswith("race ")]
 
 
+def not_done_in(text):
+    """What `mscview` tells of the commands that did nothing, by the notes that a replay has printed."""
+    lines = [line.split()[1] for line in text.splitlines() if line.startswith("note ")]
+    if not lines:
+        return ""
+    if len(lines) == 1:
+        return f"1 command of the schedule did nothing, in line {lines[0]}: the chart lacks it\n"
+    return f"{len(lines)} commands of the schedule did nothing, the first in line {lines[0]}: the chart lacks them\n"
+
+
 def example_files():
     """The charts and schedules of examples/ that tell what they come to."""
     files = pathlib.Path("examples").glob("*/*")

@@ -1,4 +1,4 @@
-"""The enforced order of a chart, and its races, by the definitions of docs/SPECIFICATION.md."""
+"""The enforced order of a chart, and its races, by the definitions of docs/reference/specification.md."""
 
 from collections import deque
 

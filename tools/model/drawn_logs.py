@@ -62,14 +62,21 @@ class Mailboxes:
         self.boxes = {host: Mailbox() for host in self.hosts}
         self.lines: list[str] = []
         self.tells_arrivals = draw.random() < 0.8
+        self.often_told = 0.9
         self.tells_patterns = draw.random() < 0.8
         self.in_order = draw.random() < 0.5
+        self.names = NAMES[: draw.choice((1, 2, 4, 4))]
+        self.most_ids = draw.choice((0, 3, 1000, 1000))
+
+    def words(self, name: str, number: int) -> str:
+        """A message's name and its id: that of this message alone, of several messages, or none."""
+        return f"{name} {number % self.most_ids}" if self.most_ids else name
 
     def send(self, number: int) -> None:
         host, peer = self.draw.sample(self.hosts, 2)
-        name = self.draw.choice(NAMES)
+        name = self.draw.choice(self.names)
         self.boxes[peer].on_the_way.setdefault(host, []).append((name, number))
-        self.lines.append(f"{host} send {peer} {name} {number}")
+        self.lines.append(f"{host} send {peer} {self.words(name, number)}")
 
     def arrive(self) -> None:
         host = self.draw.choice(self.hosts)
@@ -80,8 +87,8 @@ class Mailboxes:
             way = box.on_the_way[peer]
             name, number = way.pop(0 if self.in_order else self.draw.randrange(len(way)))
             box.waiting.append((peer, name, number))
-            if self.tells_arrivals and self.draw.random() < 0.9:
-                self.lines.append(f"{host} arrive {peer} {name} {number}")
+            if self.tells_arrivals and self.draw.random() < self.often_told:
+                self.lines.append(f"{host} arrive {peer} {self.words(name, number)}")
 
     def receive(self) -> None:
         host = self.draw.choice(self.hosts)
@@ -93,27 +100,48 @@ class Mailboxes:
                 told = f" takes={peer}:{names}" if self.tells_patterns else ""
                 if told and self.draw.random() < 0.2:
                     told += f" takes={self.draw.choice(self.hosts)}:{self.draw.choice(NAMES)}"
-                self.lines.append(f"{host} receive {waits[0]} {waits[1]} {waits[2]}{told}")
+                self.lines.append(f"{host} receive {waits[0]} {self.words(waits[1], waits[2])}{told}")
                 return
+
+
+    def go_on(self) -> None:
+        """Some turns, and maybe more until nothing waits."""
+        for number in range(self.draw.randint(20, 120)):
+            turn = self.draw.random()
+            if turn < 0.4:
+                self.send(number)
+            elif turn < 0.75:
+                self.arrive()
+            else:
+                self.receive()
+        for _ in range(self.draw.choice((0, 100))):
+            self.arrive()
+            self.receive()
 
 
 def recorded_lines(draw: Random) -> list[str]:
     """The recording of a run of mailboxes. Of some the beginning or some lines are missing."""
     run = Mailboxes(draw)
-    for number in range(draw.randint(20, 120)):
-        turn = draw.random()
-        if turn < 0.4:
-            run.send(number)
-        elif turn < 0.75:
-            run.arrive()
-        else:
-            run.receive()
-    for _ in range(draw.choice((0, 100))):
-        run.arrive()
-        run.receive()
+    run.go_on()
     begin = draw.choice((0, 0, draw.randint(0, len(run.lines) // 4)))
     missing = draw.choice((0, 0, 0.05))
     return [line for line in run.lines[begin:] if draw.random() >= missing]
+
+
+def whole_lines(draw: Random) -> list[str]:
+    """
+    The whole recording of a run over ways that are first in, first out. Each arrival is told, and each message has an
+    id of its own.
+    """
+    run = Mailboxes(draw)
+    run.in_order, run.tells_arrivals, run.often_told, run.most_ids = True, True, 1, 1000
+    run.go_on()
+    return run.lines
+
+
+def without_ids(lines: list[str]) -> list[str]:
+    """The same lines, whose messages have their names alone."""
+    return [" ".join(words[:4] + words[5:]) for words in (line.split(" ") for line in lines)]
 
 
 def named_otherwise(draw: Random, lines: list[str]) -> tuple[list[str], tuple[tuple[str, tuple[str, ...]], ...]]:

@@ -10,7 +10,7 @@ import sys
 from typing import NamedTuple
 
 from chart_texts import chart_text
-from log_charts import chart_of_log, diagnostics
+from log_charts import chart_of_log, diagnostics, unmatched_diagnostics
 from log_patterns import Expression, read_by
 from logs import Log, place_in
 from names import Refused
@@ -77,15 +77,24 @@ def read_file(log: Log, file: File, files: int, options: Options) -> list[Clocke
 
 
 def read_log(files: list[File], options: Options) -> Log:
-    """What the files say. F38: nothing in them matches."""
+    """What the files say. F38: nothing in them matches. F51: nothing in them is a receive."""
     peers = {word: name for name, words in reversed(options.peers) for word in words}
     log = Log(hosts=list(options.hosts), peers=peers)
     clocked = [event for file in files for event in read_file(log, file, len(files), options)]
     add_clocked(log, clocked)
     log.unmatched.sort(key=lambda place: place_order(place, files))
-    if all(entry.kind == "arrive" for entry in log.entries):
-        raise Refused("F38")
+    passed = [entry for entry in log.entries if entry.kind != "arrive"]
+    unread = unmatched_diagnostics(log.unmatched, log.line_count)
+    if not passed:
+        raise Refused("F38", behind=unread)
+    if all(entry.kind == "send" for entry in passed):
+        raise Refused("F51", behind=[sends_text(len(passed)), *unread])
     return log
+
+
+def sends_text(sends: int) -> str:
+    """How many lines say a message, though none is a receive."""
+    return "1 line matches, and it isn't a receive" if sends == 1 else f"{sends} lines match, and none is a receive"
 
 
 def place_order(place: str, files: list[File]) -> tuple[int, int]:

@@ -14,7 +14,7 @@ from random import Random
 from charts import sends_of_receives
 from judge_threads import run
 from made_schedules import made_schedule
-from replays import outcome
+from replays import not_done_text, outcome
 from schedule_texts import schedule_text
 
 SEND_RULE = b"earlier event of a line, before a send"
@@ -81,8 +81,9 @@ def race_lines(chart, before, receive):
     return lines + [b"line %s | %s" % (half(chart, p, i), half(chart, p, j)) for i, j in enumerate(order)]
 
 
-def judge(program, file, chart, sends, draw, seen):
-    """The first pair that is explained otherwise, or None."""
+def judge(program, file, chart, told, draw, seen):
+    """The first pair that is explained otherwise, or None. Of each it is told which commands did nothing."""
+    sends = sends_of_receives(chart)
     for receive in sends:
         p, r = receive
         steps = steps_to(chart, sends, receive)
@@ -92,13 +93,13 @@ def judge(program, file, chart, sends, draw, seen):
             lines = out.splitlines()
             if (p, e) in before:
                 seen["enforced"] += 1
-                right = status == 0 and not said and len(lines) == steps[p, e]
+                right = status == 0 and said == told and len(lines) == steps[p, e]
                 right = right and is_chain(chart, sends, lines, (p, e), receive)
             else:
                 coregions = {chart.lines[p][i].coregion for i in (e, r)}
                 hidden = len(coregions) == 1 and coregions != {0}
                 seen["hidden" if hidden else "races"] += 1
-                right = status == 1 and said == (b"a coregion hides this pair\n" if hidden else b"")
+                right = status == 1 and said == (b"a coregion hides this pair\n" if hidden else b"") + told
                 right = right and lines == race_lines(chart, before, receive)
             if not right:
                 return chart.names[p], e + 1, r + 1, status, out, said
@@ -114,8 +115,8 @@ def main(program, count, first):
             schedule = made_schedule(seed)
             with open(file, "wb") as written:
                 written.write(schedule_text(schedule))
-            chart = outcome(schedule)[0]
-            difference = judge(program, file, chart, sends_of_receives(chart), Random(seed), seen)
+            chart, notes = outcome(schedule)
+            difference = judge(program, file, chart, not_done_text(notes), Random(seed), seen)
             if difference:
                 failed += 1
                 print(f"FAILED seed {seed}:", *difference, flush=True)

@@ -96,7 +96,7 @@ class Judge:
     def comes_back(self, what: str, files: list[File], options: Options, chart: Chart, told: bytes) -> None:
         """Compares with the chart that the log was written from, and what has to be told of it."""
         options = options._replace(hosts=tuple(name.decode() for name in chart.names))
-        wanted = Answer(0, chart_text(chart), told)
+        wanted = Answer(0, chart_text(chart), read_told(chart) + told)
         if imported(files, options) != wanted:
             self.fail(what, "by the plain model", files, options.words(), imported(files, options), wanted)
         answer = self.programs.imported(files, options)
@@ -119,13 +119,21 @@ class Judge:
         """Counts logs of a kind of which something is told."""
         if wanted.status == 2:
             self.seen[f"{what}, {wanted.diagnostics.split()[1].decode()}"] += 1
-        for words in ("invented", "lost", "overtakes", "circle"):
+        for words in ("invented", "lost", "overtakes", "circle", "one end"):
             self.seen[f"{what}, {words}"] += words.encode() in wanted.diagnostics
 
     def tell(self) -> None:
         for what, number in self.seen.items():
             if number:
                 print(number, what)
+
+
+def read_told(chart: Chart) -> bytes:
+    """What is told of how much was read, of a log with all events of a chart."""
+    events, hosts = sum(map(len, chart.lines)), len(chart.names)
+    first = f"1 event of {hosts} hosts is read" if events == 1 else f"{events} events of {hosts} hosts are read"
+    lineless = [f"{name.decode()} has no line of its own" for name, line in zip(chart.names, chart.lines) if not line]
+    return "".join(line + "\n" for line in [first, *lineless]).encode()
 
 
 def text_of(lines: list[str], ends: bool = True) -> bytes:
@@ -143,11 +151,11 @@ def others_diagnostics(places: list[str], files: list[File]) -> bytes:
 
 
 def scheduled_charts(count: int, seed: int) -> Iterator[tuple[Random, Chart]]:
-    """So many charts with events, of schedules that are drawn from a seed on."""
+    """So many charts with receives, of schedules that are drawn from a seed on."""
     number = seed
     while count > 0:
         chart = scheduled_chart(number)
-        if any(chart.lines):
+        if any(event.kind == "in" for line in chart.lines for event in line):
             yield Random(f"schedule {number}"), chart
             count -= 1
         number += 1

@@ -21,8 +21,8 @@ from random import Random
 
 from drawn_logs import named_otherwise, recorded_lines
 from imported_logs import Answer, File, Options
-from judged_races import JudgedRace, Shown, chart_of, diagnostics_of, judged_races, ranges_of
-from log_charts import LogChart
+from judged_races import JudgedRace, Shown, answer_of, chart_of, is_unclaimed, judged_races, ranges_of
+from log_charts import LogChart, is_one_ended
 from names import Refused
 
 RECEIVE = ["instance", "receive", "message", "sender"]
@@ -106,11 +106,14 @@ def stated_ranges(made: LogChart, written: bytes, as_json: bool) -> list[list[Ju
 
 def fault_of(made: LogChart, shown: Shown, answer: Answer) -> str | None:
     """What is wrong with an answer, or nothing."""
-    wanted = judged_races(made, shown)
-    if answer.diagnostics != diagnostics_of(made):
+    expected = answer_of(made, shown)
+    if answer.diagnostics != expected.diagnostics:
         return f"standard error: {answer.diagnostics!r}"
-    if answer.status != int(bool(wanted)):
+    if answer.status != expected.status:
         return f"status {answer.status}"
+    if expected.status == 2:
+        return f"standard output: {answer.written!r}" if answer.written else None
+    wanted = judged_races(made, shown)
     try:
         ranges = stated_ranges(made, answer.written, shown.as_json)
     except (Unlike, ValueError, LookupError) as unlike:
@@ -133,8 +136,16 @@ def drawn_files(draw: Random, lines: list[str]) -> list[File]:
     return [File(f"log{number}", of_host[host].encode()) for number, host in enumerate(order)]
 
 
+def of_one_host(draw: Random, lines: list[str]) -> list[str]:
+    """The lines of one host alone."""
+    host = draw.choice(sorted({line.split()[0] for line in lines}))
+    return [line for line in lines if line.split()[0] == host]
+
+
 def drawn_recording(draw: Random) -> tuple[list[File], Options]:
     lines = recorded_lines(draw)
+    if draw.random() < 0.05:
+        lines = of_one_host(draw, lines)
     peers: tuple[tuple[str, tuple[str, ...]], ...] = ()
     if draw.random() < 0.4:
         lines, peers = named_otherwise(draw, lines)
@@ -161,6 +172,8 @@ class Judge:
         made = chart_of(files, options)
         self.seen.update(race.word for race in judged_races(made, Shown()))
         self.seen["recordings"] += 1
+        self.seen["recordings with one end of each message"] += is_one_ended(made)
+        self.seen["recordings of which no race is claimed"] += is_unclaimed(made, Shown())
         for luck, as_json in product((False, True), repeat=2):
             shown = Shown(luck, receives, as_json)
             fault = fault_of(made, shown, self.ask(files, options, shown))

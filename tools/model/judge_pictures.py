@@ -21,7 +21,8 @@ from collections import Counter
 from judge_margins import look_at_margin
 from made_schedules import made_schedule
 from picture_labels import in_picture, is_level
-from schedule_texts import schedule_text
+from replays import not_done_text, outcome
+from schedule_texts import read_schedule, schedule_text
 
 SVG = "{http://www.w3.org/2000/svg}"
 TITLES = [
@@ -97,7 +98,7 @@ class Judge:
         tree = self.tree_of(file, picture)
         if tree is None:
             return
-        self.holds("a picture is told of nothing", file, status == 0 and not said, said)
+        self.holds("a picture is told of what did nothing alone", file, (status, said) == (0, told_of(file)), said)
         self.look_at_labels(file, tree)
         self.look_at_titles(file, tree, title)
         self.look_beside(file, picture)
@@ -150,6 +151,11 @@ class Judge:
 def races_by_replay(file):
     """Whether a file is a schedule."""
     return pathlib.Path(file).read_bytes().startswith(b"instances ")
+
+
+def told_of(file):
+    """What is told of a schedule's commands that did nothing."""
+    return not_done_text(outcome(read_schedule(pathlib.Path(file).read_bytes()))[1]) if races_by_replay(file) else b""
 
 
 def names_of(text):

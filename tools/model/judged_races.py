@@ -1,5 +1,6 @@
 """
 What `mscview races --from log` answers, by the plain model: each race's word, in ranges that are split where it changes.
+The status is 1 where one is shown; else 3 where some are asked for and each is begun in the middle, and else 0.
 
 `judged_races.py races --from log [--luck] [--receives] [--json] [--hosts a,b] [--peer A=x,y].. FILE..` writes it.
 """
@@ -12,9 +13,11 @@ from typing import NamedTuple
 
 from chart_texts import Event
 from imported_logs import Answer, File, Options, read_log
-from log_charts import LogChart, chart_of_log, diagnostics
-from luck import LUCK, words_of_races
+from log_charts import ONE_ENDED, LogChart, chart_of_log, diagnostics, is_one_ended
+from luck import BEGUN, LUCK, words_of_races
 from names import Refused
+
+UNCLAIMED = "no race is claimed: each is begun in the middle"
 
 
 class Shown(NamedTuple):
@@ -111,19 +114,37 @@ def chart_of(files: list[File], options: Options) -> LogChart:
     return chart_of_log(read_log(files, options))
 
 
-def diagnostics_of(made: LogChart) -> bytes:
+def is_unclaimed(made: LogChart, shown: Shown) -> bool:
+    """Whether there are races that are asked for, luck or not, and each is begun in the middle."""
+    return {race.word for race in judged_races(made, shown._replace(luck=False))} == {BEGUN}
+
+
+def diagnostics_of(made: LogChart, shown: Shown) -> bytes:
     """What standard error has."""
-    return "".join(line + "\n" for line in diagnostics(made)).encode("utf-8", "surrogateescape")
+    lines = diagnostics(made) + [UNCLAIMED] * is_unclaimed(made, shown)
+    return "".join(line + "\n" for line in lines).encode("utf-8", "surrogateescape")
+
+
+def status_of(made: LogChart, shown: Shown) -> int:
+    if judged_races(made, shown):
+        return 1
+    return 3 if is_unclaimed(made, shown) else 0
+
+
+def answer_of(made: LogChart, shown: Shown) -> Answer:
+    """What is answered to a log that comes to a chart."""
+    if is_one_ended(made):
+        return Answer(2, b"", Refused("F52", behind=[ONE_ENDED]).text)
+    races = judged_races(made, shown)
+    lines = race_objects(races) if shown.as_json else race_lines(made, races)
+    return Answer(status_of(made, shown), "".join(line + "\n" for line in lines).encode(), diagnostics_of(made, shown))
 
 
 def answered(files: list[File], options: Options, shown: Shown) -> Answer:
     try:
-        made = chart_of(files, options)
+        return answer_of(chart_of(files, options), shown)
     except Refused as refused:
         return Answer(2, b"", refused.text)
-    races = judged_races(made, shown)
-    lines = race_objects(races) if shown.as_json else race_lines(made, races)
-    return Answer(int(bool(races)), "".join(line + "\n" for line in lines).encode(), diagnostics_of(made))
 
 
 def main() -> int:

@@ -14,6 +14,8 @@ from given_names import GivenNames, shown
 from logs import Entry, Log, Message, messages_of
 from names import Refused
 
+ONE_ENDED = "no race is claimed: the log has one end of each message"
+
 # An event of a line: "out" or "in", and its message.
 Item = tuple[str, Message]
 
@@ -78,10 +80,14 @@ def logged_lines(log: Log, messages: list[Message], left_out: set[Message]) -> d
 
 
 def invented_sends(hosts: list[str], lines: dict[str, list[Item]]) -> tuple[dict, dict]:
-    """The messages whose sends are invented: for each peer those at its head, and those behind another's send."""
+    """
+    The messages whose sends are invented: for each peer those at its head, by the names of their receivers, and those
+    behind another's send.
+    """
     heads: dict[str, list[Message]] = defaultdict(list)
     behind: dict[Message, list[Message]] = defaultdict(list)
-    for host in hosts:
+    names = names_of(hosts)
+    for host in sorted(hosts, key=lambda host: names[host].encode()):
         last: dict[str, Message] = {}
         for kind, message in lines[host]:
             if kind == "out":
@@ -111,7 +117,10 @@ def whole_lines_of(hosts: list[str], lines: dict[str, list[Item]]) -> list[list[
 
 
 def first_on_a_cycle(made: LogChart) -> Entry | None:
-    """The first receive in the files that is on a cycle and whose send is logged."""
+    """
+    Of the receives on a cycle whose sends are logged the one of the host whose name is the least by its bytes, and of
+    this host the first.
+    """
     on_cycle = on_cycles(direct_pairs(made.chart, sends_of_receives(made.chart)))
     receives = [
         message.receive
@@ -119,7 +128,7 @@ def first_on_a_cycle(made: LogChart) -> Entry | None:
         for kind, message in [made.lines[p][i]]
         if kind == "in" and message.send is not None
     ]
-    return min(receives, key=lambda entry: entry.number, default=None)
+    return min(receives, key=lambda entry: (made.names[entry.host].encode(), entry.number), default=None)
 
 
 def chart_of_log(log: Log) -> LogChart:
@@ -197,17 +206,34 @@ def unmatched_diagnostics(places: list[str], lines: int) -> list[str]:
     return [first + places[0]]
 
 
+def read_diagnostics(made: LogChart) -> list[str]:
+    """How many events are read, and which hosts have no line of their own."""
+    passed = [entry for entry in made.log.passed() if entry.host != entry.peer]
+    with_lines = {entry.host for entry in passed}
+    hosts = len(made.hosts)
+    several = f"{len(passed)} events of {hosts} hosts are read"
+    first = f"1 event of {hosts} hosts is read" if len(passed) == 1 else several
+    return [first] + [f"{made.names[host]} has no line of its own" for host in made.hosts if host not in with_lines]
+
+
+def is_one_ended(made: LogChart) -> bool:
+    """Whether no receive takes a send of the log, and none is freed of one."""
+    return not made.freed and all(message.send is None or message.receive is None for message in made.messages)
+
+
 def diagnostics(made: LogChart) -> list[str]:
     """What was done to come to the chart."""
     own = [entry.place for entry in made.log.entries if entry.kind != "arrive" and entry.host == entry.peer]
-    lines = unmatched_diagnostics(made.log.unmatched, made.log.line_count)
+    lines = read_diagnostics(made)
+    lines += unmatched_diagnostics(made.log.unmatched, made.log.line_count)
     lines += counted(own, "event of a message to oneself is left out", "events of messages to oneself are left out")
     lines += ["only the order at the tap is known"] if made.log.is_captured else []
     lines += ["a receive at which no entry of the clock grew isn't seen"] if made.log.is_timed else []
+    lines += [ONE_ENDED] if is_one_ended(made) else []
     lines += [f"{message.send.place} is lost" for message in made.lost]
     for message, other in made.overtaking:
         lines.append(f"{message.send.place} overtakes {other.send.place}: this lane isn't first in, first out")
-    if made.overtaking:
+    if made.lost or made.overtaking:
         lines.append("races may be shown that a message which is left out enforced")
     freed = sorted(made.freed, key=lambda entry: entry.number)
     lines += [f"{entry.place} takes no send of the log, for it would close a circle" for entry in freed]

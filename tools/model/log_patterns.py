@@ -1,6 +1,7 @@
 """
 Logs that an expression tells how to read: its first match in each line, or in as many lines as it has line feeds and one
-more, says by its named groups what happened.
+more, says by its named groups what happened. It is the first line's where it begins there, and takes the lines that it
+touches.
 """
 
 import re
@@ -34,18 +35,41 @@ CLOCK = {"host", "clock", "event"}
 SETS = ((EVENT, logged_event), (CAPTURE, logged_capture), (CLOCK, None))
 
 
+def feeds_of(text: str) -> int:
+    """How many line feeds an expression has, but for those in classes that begin with a caret."""
+    # (what is taken as one: an escape, the head of a class with a bracket that is itself, and any other character)
+    parts = re.findall(r"\\\n|\\.|\[\^?\]?|.|\n", text)
+    count = depth = 0
+    for part in parts:
+        if part.startswith("["):
+            depth += 1 if depth or part.startswith("[^") else 0
+        elif part == "]":
+            depth = max(depth - 1, 0)
+        elif not depth:
+            count += part in ("\n", "\\n", "\\\n")
+    return count
+
+
+def lacks(there: set[str]) -> str:
+    """The first group that isn't there of the set that is meant."""
+    if there & {"clock", "event"}:
+        meant = ["host", "clock", "event"]
+    else:
+        meant = ["src", "dst", "name"] if there & {"src", "dst"} else ["host", "dir", "peer", "name"]
+    return next(name for name in meant if name not in there)
+
+
 class Expression:
     """An expression with one of the three sets of groups."""
 
     def __init__(self, text: str):
         self.found = re.compile(text.replace("(?<", "(?P<"))
-        # (an escaped backslash may stand before an `n`)
-        self.more = len(re.findall(r"\\n|\n", re.sub(r"\\\\", "", text)))
+        self.more = feeds_of(text)
         there = set(self.found.groupindex)
         # (the first of the three that it has whole)
         sets = [one for one in SETS if one[0] <= there]
         if not sets:
-            raise Refused("F39", len(text.encode()) + 1)
+            raise Refused("F39", len(text.encode()) + 1, behind=[f"no group is named {lacks(there)}"])
         self.groups, self.logged_by = sets[0]
 
     @property
@@ -53,9 +77,16 @@ class Expression:
         return self.groups is CAPTURE
 
     def match(self, lines: str) -> re.Match | None:
-        """The first match, if each group takes part."""
+        """The first match, if it begins in the first line and each group takes part."""
         found = self.found.search(lines)
-        return found if found and all(found[name] is not None for name in self.groups) else None
+        if not found or "\n" in lines[: found.start()]:
+            return None
+        return found if all(found[name] is not None for name in self.groups) else None
+
+
+def touched(found: re.Match) -> int:
+    """How many lines behind the first the match touches. A line feed belongs to the line that it ends."""
+    return found.string[: max(found.end() - 1, 0)].count("\n")
 
 
 def read_by(
@@ -76,5 +107,5 @@ def read_by(
             clocked.append(Clocked(found["host"], found["clock"], found["event"], place(number)))
         elif lines[number - 1].strip(" \t\r"):
             log.unmatched.append(place(number))
-        number += 1 + expression.more if said or found and not expression.logged_by else 1
+        number += 1 + touched(found) if said or found and not expression.logged_by else 1
     return clocked

@@ -182,8 +182,8 @@ def messages_of(log: Log, freed: set[int]) -> list[Message]:
 
 def add_arrivals(log: Log, messages: list[Message]) -> None:
     """
-    An arrival is that of the first message of its lane and key that isn't received before it, in the order of the
-    receives and then of the sends. Of several of one message the first counts.
+    An arrival is that of the first message of its lane and key that waits: it isn't received before the arrival, and no
+    arrival before is its own. Messages come in the order of the receives, and then of the sends.
     """
     of_key: dict[object, list[Message]] = defaultdict(list)
     for message in sorted(messages, key=receive_order):
@@ -193,9 +193,11 @@ def add_arrivals(log: Log, messages: list[Message]) -> None:
     for entry in log.entries:
         if entry.kind != "arrive":
             continue
-        later = [m for m in of_key[entry.lane, entry.key] if not m.receive or m.receive.number > entry.number]
-        if later and not later[0].arrival:
-            later[0].arrival = entry
+        for message in of_key[entry.lane, entry.key]:
+            is_received = message.receive is not None and message.receive.number < entry.number
+            if not is_received and message.arrival is None:
+                message.arrival = entry
+                break
 
 
 def receive_order(message: Message) -> tuple[bool, int]:

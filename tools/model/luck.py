@@ -10,6 +10,7 @@ from log_charts import LogChart
 from logs import Entry, Message
 
 LUCK = "luck"
+BEGUN = "begun in the middle"
 Place = tuple[int, int]
 Race = tuple[int, int, int]
 
@@ -79,7 +80,7 @@ class Words:
         kind, earlier = self.made.lines[p][e]
         message = self.made.lines[p][r][1]
         if self.made.is_invented((p, e)) or message.send is None or self.before[p, r] & self.invented:
-            return "begun in the middle"
+            return BEGUN
         if kind == "out":
             return "the earlier is a send"
         if earlier.receive.number in self.log.before(message.send.number):
@@ -91,10 +92,13 @@ class Words:
         return "behind another" if self.is_behind_another(earlier, message) else LUCK
 
     def is_behind_another(self, earlier: Message, message: Message) -> bool:
-        """Whether the sender sent another, before this one, that the earlier receive would have taken first."""
+        """
+        Whether the sender sent another, before this one, that the earlier receive would have taken first. None is lost.
+        """
         return any(
             other.send.number < message.send.number
-            and not (other.receive and other.receive.number < earlier.receive.number)
+            and other.receive is not None
+            and other.receive.number >= earlier.receive.number
             and fits(earlier, other)
             and not is_passed_over(earlier, other)
             for other in self.of_lane[message.lane]

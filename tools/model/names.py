@@ -12,16 +12,17 @@ REFUSALS = {
     "F9": "Capacity", "F13": "ToItself", "F16": "ReceiveWithoutSend", "F17": "NameMismatch", "F18": "Cyclic",
     "F20": "Syntax", "F21": "Unfinished", "F22": "Duplicate", "F23": "UnknownInstance",
     "F34": "NoSuchName", "F35": "NotRead", "F37": "NotPossible", "F38": "NotALog", "F39": "BadPattern",
+    "F51": "NoReceive", "F52": "OneEnd",
 }
 
 
 class Refused(Exception):
-    """A refusal: its number, and its details."""
+    """A refusal: its number and its details, and behind its line what is told of its cause."""
 
-    def __init__(self, number, *details):
+    def __init__(self, number, *details, behind=()):
         super().__init__(number)
         words = [number, REFUSALS[number]] + [d.decode() if isinstance(d, bytes) else str(d) for d in details]
-        self.text = ("refused: " + " ".join(words) + "\n").encode()
+        self.text = "".join(line + "\n" for line in ["refused: " + " ".join(words), *behind]).encode()
 
 
 def check_name(word, line):

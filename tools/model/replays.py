@@ -1,4 +1,4 @@
-"""What a schedule means, by docs/SPECIFICATION.md, and what its replay prints, by docs/reference/replay.md."""
+"""What a schedule means (docs/reference/specification.md), and what its replay prints (replay.md beside it)."""
 
 from collections import deque
 
@@ -88,6 +88,16 @@ def outcome(schedule):
         if word:
             notes.append((command.line, word))
     return Chart(schedule.names, world.lines), sorted(notes)
+
+
+def not_done_text(notes):
+    """What `mscview` tells of a schedule's commands that did nothing."""
+    if not notes:
+        return b""
+    line = notes[0][0]
+    if len(notes) == 1:
+        return b"1 command of the schedule did nothing, in line %d: the chart lacks it\n" % line
+    return b"%d commands of the schedule did nothing, the first in line %d: the chart lacks them\n" % (len(notes), line)
 
 
 def replay(schedule):

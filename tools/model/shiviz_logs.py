@@ -116,8 +116,12 @@ class Clocks:
         return found
 
     def implies(self, other: Hearing, one: Hearing) -> bool:
-        """Whether the event that one hears of knows of another one."""
-        return other.host != one.host and other.of is not None and self.entries[other.of].get(one.host, 0) >= one.count
+        """Whether the event that one hears of knows of another one, or may know of it if the log lacks that event."""
+        if other.host == one.host:
+            return False
+        if other.of is not None:
+            return self.entries[other.of].get(one.host, 0) >= one.count
+        return one.of is not None and self.entries[one.of].get(other.host, 0) < other.count
 
     def logged(self, number: int) -> list[LoggedEvent]:
         """What an event is, where its clock tells it: first its receives."""

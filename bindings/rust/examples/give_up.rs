@@ -1,5 +1,5 @@
 //! A client asks a server, which gives up when nothing comes for a while, and tells a logger. Three threads, a post
-//! each. Each race is told as it comes. At the end the board is gathered, and its chart is printed, which `mscrun
+//! each. Each race is printed as it comes. At the end the board is gathered, and its chart is printed, which `mscrun
 //! check` and `mscview` read.
 //!
 //!     cargo run --example give_up
@@ -38,7 +38,7 @@ fn show(post: &Post<'_>, message: &Message) {
     }
 }
 
-/// The next message from any instance: `Nothing` where none has come after so many looks.
+/// The next message from any instance: `Nothing` if none has come after that many looks.
 fn next(post: &mut Post<'_>, looks: u32) -> Result<Taken, Error> {
     for tries in 0..looks {
         match post.any()? {

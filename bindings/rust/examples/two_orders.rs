@@ -6,7 +6,7 @@ fn order(mut post: Post<'_>, what: &str) -> Result<(), Error> {
     post.close(3)
 }
 
-/// Receives until both have closed their lanes, and tells each race.
+/// Receives until both have closed their lanes, and prints each race.
 fn serve(mut post: Post<'_>) -> Result<(), Error> {
     loop {
         match post.any()? {

@@ -9,7 +9,7 @@
 //! use msc::{Board, Error, Post, Taken};
 //! use std::thread;
 //!
-//! /// Receives until all others have closed their lanes, and tells each race by the names of its two messages.
+//! /// Receives until all others have closed their lanes, and prints each race by the names of its two messages.
 //! fn serve(mut post: Post<'_>) -> Result<usize, Error> {
 //!     let mut races = 0;
 //!     loop {

@@ -11,6 +11,8 @@ pub struct Answer {
     /// Whether its exit status is 1. For `check`, `replay` and `random`: whether there are races. For `view`: whether
     /// there is something of what was asked for.
     pub has_races: bool,
+    /// Whether its exit status isn't 3. If it is 3, `notes` says why it isn't known whether there is something.
+    pub is_known: bool,
     /// What it writes to standard output.
     pub out: Vec<u8>,
     /// What it writes to standard error: notes.
@@ -140,7 +142,7 @@ fn whole(
         out.truncate(written.out);
         err.truncate(written.err);
         return match status {
-            0 | 1 => Ok(Answer { has_races: status == 1, out, notes: err }),
+            0 | 1 | 3 => Ok(Answer { has_races: status == 1, is_known: status != 3, out, notes: err }),
             _ => Err(Refused { line: String::from_utf8_lossy(&err).into_owned() }),
         };
     }
