@@ -1,11 +1,12 @@
 # shellcheck shell=bash
-# Read by scripts that run the cases at the repository's top; they set `room` to a folder of their own.
+# Read by scripts that run the cases at the repository's top; they set `room` to a folder of their own. PROGRAMS is the folder
+# of the programs that are tried, where these aren't the built ones.
 
-# The built program that a case is for: the one that its file `program` names, or mscrun.
+# The program that a case is for: the one that its file `program` names, or mscrun.
 program_of() {
   local name=mscrun
   [[ ! -e $1/program ]] || name=$(<"$1/program")
-  echo "out/bin/$name"
+  echo "${PROGRAMS-out/bin}/$name"
 }
 
 # Unpacks the cases, a folder for each, as $unpacked/cases/mscview/why/a_race.case. Without them the script ends.

@@ -1,7 +1,8 @@
 # shellcheck shell=bash
 # Read by scripts that try charts' texts; they set `room` to a folder of their own, where `outcome` is what a schedule comes to.
-mscrun=out/bin/mscrun
-mscview=out/bin/mscview
+# PROGRAMS is the folder of the programs that are tried, where these aren't the built ones.
+mscrun=${PROGRAMS-out/bin}/mscrun
+mscview=${PROGRAMS-out/bin}/mscview
 
 # Puts the outcome's chart and its lines of races into files of their own.
 take_apart() { sed '/^endmsc;$/q' "$room/outcome" >"$room/chart" && { grep '^race ' "$room/outcome" >"$room/races" || true; }; }

@@ -241,7 +241,7 @@ reader_of() {
 }
 
 # Whether this line refuses a text, which `mscview explain` can tell more of.
-refuses_text() { [[ $1 =~ ^'refused: F'(1|2|3|4|7|8|9|13|16|17|18|20|21|22|23|35|37)' ' ]]; }
+refuses_text() { [[ $1 =~ ^'refused: F'(1|2|3|4|7|8|9|13|16|17|18|20|21|22|23|35|37|53)' ' ]]; }
 
 # Colours what `mscview explain` writes, as compilers do.
 coloured() {
@@ -286,8 +286,8 @@ tell_of_options() {
   if [[ $refusal == 'refused: F21 '* && $words == *' --skip'[\ =]* ]]; then
     echo 'what --skip leaves of the text ends too early'
   elif [[ $refusal == 'refused: F35 '* ]]; then
-    [[ $words != *' --skip'[\ =]* ]] || echo 'what --skip leaves has to be read too: a branch without its else, or a frame with its end'
-    [[ "$words " != *' --strict '* ]] || echo '--strict refuses what has no meaning in a chart: without it that is left out, and told'
+    [[ $words != *' --skip'[\ =]* ]] || echo 'the remaining lines have to be valid: skip an else with its branch, and an end with its frame'
+    [[ "$words " != *' --strict '* ]] || echo '--strict refuses constructs that a chart cannot express; without it they are skipped with a warning'
     tool=$(tool_in "$told") || return 0
     [[ $words != *' --from'[\ =]* || $words == *" --from"[\ =]"$tool"* ]] || echo "it looks like a diagram for --from $tool"
   fi
@@ -304,7 +304,7 @@ tell_missing() {
     'refused: F31 NoSuchEvent') echo 'the chart has no instance of this name' ;;
     'refused: F32 NotAPair '*) echo "event ${refusal##* } is a send, and a race ends in a receive" ;;
     'refused: F32 NotAPair') echo 'the first of the two events has to be the earlier one' ;;
-    'refused: F34 NoSuchName') echo 'each of these names has to be that of an instance, and stand once' ;;
+    'refused: F34 NoSuchName') echo 'each name has to be that of an instance, and is given once' ;;
   esac
 }
 
@@ -334,21 +334,17 @@ tell_who_takes() {
   esac
 }
 
-# Tells on a terminal that a schedule whose races `mscview races` has shown had commands that did nothing.
+# Tells on a terminal what explains why commands of a schedule did nothing.
 tell_notes() {
-  local program=$1 file count
-  shift
+  local file
   file=$(file_among "$@") || return 0
-  count=$(explained "$program" "$file" | sed -n '1{/^a schedule, /!q}; /^note: /p' | wc -l)
-  ((count > 0)) || return 0
-  echo "commands of the schedule that did nothing, and aren't in its chart: $count" >&2
   echo "try: $(typed mscview) explain $(quoted "$file")" >&2
 }
 
 # Answers the words of a command line: the usage and the version where it asks for them, which takes no program. What the
 # program refuses as a command line has the usage behind it, and which word isn't known; what it refuses as a text has what to
-# try, and on a terminal a file that can't be read its name. There is also told what a schedule's races leave out, and what
-# instances on threads waited for.
+# try, and on a terminal a file that can't be read its name. There is also told what says why commands of a schedule did nothing,
+# and what instances on threads waited for.
 answer() {
   local name=$1 program=$2 status said kept=''
   shift 2
@@ -375,8 +371,8 @@ answer() {
     tell_what_to_try "$name" "$program" "$said " "$@"
   elif [[ $status == 2 && $name == mscview && -t 2 ]]; then
     tell_missing "$said" >&2
-  elif [[ $status != 2 && $name == mscview && $1 == races && " $* " != *' --from'* && -t 2 ]]; then
-    tell_notes "$program" "$@"
+  elif [[ $status != 2 && $name == mscview && $said =~ ' of the schedule did nothing, ' && -t 2 ]]; then
+    tell_notes "$@"
   elif [[ $status != 2 && -n $kept ]]; then
     tell_spent "$kept" "$@" >&2 2>/dev/null
   fi

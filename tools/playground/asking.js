@@ -105,7 +105,7 @@ async function mendAll() {
   if (now === null) return;
   const answer = await view(["mend", "--all", now.name], now.file);
   const told = decode(answer.err).trim();
-  if (told === "") by("summary").textContent = `${by("summary").textContent.split("; ")[0]}; no single message makes them fewer.`;
+  if (told === "") by("summary").textContent = `${by("summary").textContent.split("; ")[0]}; no single message leaves fewer.`;
   else {
     await take(answer.out);
     by("told").replaceChildren(...told.split("\n").map((line) => element("li", line)));
@@ -150,12 +150,12 @@ async function compare() {
   const kind = by("kind_b").value || kindOf(by("text_b").value);
   const other = {text: by("text_b").value, kind, name: "B", options: [], seed: null, source: file("B", by("text_b").value)};
   by("compared").textContent = "";
-  if (now === null) return (by("compared").textContent = "The text on the left comes to no chart.");
+  if (now === null) return (by("compared").textContent = "The text on the left has no chart.");
   const chart = await chartOfText(other);
   if (chart.status === 2) return (by("compared").textContent = `B: ${chart.words}`);
   const answer = await view(["compare", "A", "B"], file("A", now.text_of_chart), file("B", chartPart(decode(chart.out))));
   by("compared").textContent = answer.status === 2 ? decode(answer.err)
-    : decode(answer.out) || "Both say the same: no two events stand the other way round, and neither has one that the other lacks.";
+    : decode(answer.out) || "Both are the same: no two events are in opposite orders, and neither has an event that the other lacks.";
 }
 
 // ---- The command line
@@ -170,7 +170,7 @@ async function runCommand(event) {
   };
   if (program !== "mscview" && program !== "mscrun") return show("", "", "A command line begins with mscview or mscrun.");
   if (words.length === 0 || words.includes("--help") || words[0] === "help") return show("", usages[program], "");
-  if (program === "mscrun" && words[0] === "threads") return show("", "", "Threads aren't here: ./mscrun threads has them.");
+  if (program === "mscrun" && words[0] === "threads") return show("", "", "This page has no threads: use ./mscrun threads.");
   const files = [file("FILE", by("text").value), file("B", by("text_b").value)];
   if (now !== null) files.push(file("CHART", now.text_of_chart));
   try {
@@ -209,7 +209,7 @@ async function stateOf(address) {
 async function keepInAddress() {
   const {text, options} = asked();
   location.hash = await addressOf({text, kind: by("kind").value, options: options.length > 0 ? by("options").value : ""});
-  const told = "The text stands in the address now: send it, or keep it as a bookmark.";
+  const told = "The address now contains the text: send it, or bookmark it.";
   by("summary").textContent = told;
   await navigator.clipboard?.writeText(location.href).catch(() => undefined);
 }
@@ -272,7 +272,7 @@ function listen() {
   on("example", "change", () => by("example").value !== "" && setText(...examples[by("example").value].slice(1)));
   on("open", "change", () => openFile(by("open").files[0], "text"));
   on("open_b", "change", () => openFile(by("open_b").files[0], "text_b"));
-  on("stop", "click", () => answers.stop("stopped, and begun anew"));
+  on("stop", "click", () => answers.stop("stopped and restarted"));
   on("earlier", "change", () => (choice++, tellPair(races.chosen, +by("earlier").value, ((number) => () => number === choice)(choice))));
   on("mend", "click", () => take(mended));
   on("mend_all", "click", mendAll);

@@ -127,7 +127,7 @@ function tellFaults(it, refusal) {
   by("what").textContent = it.explained === undefined ? KINDS[it.kind] : kind.trim();
   faultLines.clear();
   const cards = isFault(it, refusal) || refusal === "" ? parts.map((part) => card(part.trimEnd())) : [];
-  if (kind.startsWith("neither")) cards.push(card('help: where this is a log of a form of its own, choose "a log" above, and give --pattern with its form'));
+  if (kind.startsWith("neither")) cards.push(card('help: if this is a log of another form, choose "a log" above, and describe its lines by --pattern'));
   if (refusal !== "" && !cards.some((it) => it.dataset.sort === "error")) cards.unshift(card(`error: ${refusal}`));
   by("faults").replaceChildren(...cards);
   by("told").replaceChildren(...it.told.map((line) => element("li", line)));
@@ -224,7 +224,7 @@ function tellSummary(ranges) {
   const events = ranges.reduce((sum, it) => sum + lastOf(it) - firstOf(it) + 1, 0);
   const many = (count, one, more) => `${count} ${count === 1 ? one : more}`;
   by("mend_all").hidden = ranges.length === 0;
-  by("summary").textContent = ranges.length === 0 ? "No race is shown: each order is one that the channels guarantee."
+  by("summary").textContent = ranges.length === 0 ? "No race is shown: the channels guarantee each order."
     : `${many(events, "race", "races")}, of ${many(receives, "receive", "receives")} at ${many(instances, "instance", "instances")}`;
 }
 

@@ -59,7 +59,7 @@ class Answers {
     tellWork("");
     if (this.waiting.size === 0) return;
     this.slow = setTimeout(() => tellWork("working .."), 300);
-    this.late = setTimeout(() => this.stop(`stopped after ${LIMIT / 1000} seconds, and begun anew`), LIMIT);
+    this.late = setTimeout(() => this.stop(`stopped after ${LIMIT / 1000} seconds, and restarted`), LIMIT);
   }
 
   stop(why) {
