@@ -1,5 +1,5 @@
 /* msc.h: message passing between threads that reports message races as they happen. For C programmers;
- * docs/USING-FROM-C.md is an introduction, and msc.hpp has these calls for C++.
+ * docs/guide/c.md is an introduction, and msc.hpp has these calls for C++.
  *
  * A board has 2 to 32 instances, with a lane from each to every other. A lane has 1 to 64 slots, and delivers messages
  * in the order in which they were sent. An instance acts through its post: it sends, receives and closes lanes. Each
@@ -512,9 +512,9 @@ int32_t msc_view_(const msc_bytes_ *words, size_t count, const msc_bytes_ *texts
  *
  * OUT receives the program's standard output and ERR its standard error, as much of each as its room allows.
  * *OUT_LENGTH and *ERR_LENGTH receive their whole lengths. The answer is the program's exit status: 0, 1 for a race or
- * another finding, 2 if a word, a text or memory is refused. With 2, ERR has a line that says why
- * (docs/reference/refusals.md). MSC_MISUSE also if the words read another number of files than TEXTS; then nothing is
- * written. It uses no post, and any thread may call. */
+ * another finding, 2 if a word, a text or memory is refused. It is 3 if what was asked for isn't known. With 2 and 3,
+ * ERR has a line that says why (docs/reference/refusals.md). MSC_MISUSE also if the words read another number of files
+ * than TEXTS; then nothing is written. It uses no post, and any thread may call. */
 static inline int msc_view(int count, const char *const *words, size_t texts, const char *const *text,
                            const size_t *length, char *out, size_t out_room, size_t *out_length, char *err,
                            size_t err_room, size_t *err_length) {
