@@ -1,5 +1,5 @@
 -- The text of what is told of a file: in the style of a compiler's messages.
-use Rattle.std.specs.Prelude.{ℕ, ◌+◌, ◌-◌, ◌==◌, List, [], ◌∷◌, ◌++◌, length, take, drop, min, codes, decimal, Option, None, Some, if◌then◌else◌}
+use Rattle.std.specs.Prelude.{◌≡◌, ℕ, ◌+◌, ◌-◌, ◌==◌, List, [], ◌∷◌, ◌++◌, length, take, drop, min, codes, decimal, Option, None, Some, if◌then◌else◌}
 use Rattle.std.specs.List.{flat_map}
 use Rattle.cmd_explain_file.specs.Findings.{line_of, note_finding}
 use Rattle.cmd_explain_file.specs.Words.{kind_words, start_of, what_label, what_words, want_words}
@@ -13,6 +13,7 @@ use Rattle.fault_places.specs.NamedCycles.{step_text}
 use Rattle.fault_places.specs.declared.want.Want.{Want}
 use Rattle.cmd_import_diagram.specs.Diagnostics.{left_out_line, overtaking_line}
 use Rattle.texts.specs.Bytes.Classes.{printable}
+use Rattle.texts.specs.Lines.{lines_of, end_of}
 
 abbrev pub blank : ℕ → List ℕ
 blank b = 32 ∷ []
@@ -82,12 +83,11 @@ shown_text line bytes place = at_text line (place + 1)
 
 -- what is wrong, with its place, where the line is told by this number
 unfoldable pub numbered_text : List ℕ → ℕ → Finding → List ℕ
-numbered_text file number f = head_text f.what
-    ++ (shown_text number (line_of file f.line) (min f.place (length (line_of file f.line))) ++ want_text number f.want)
+numbered_text line number f = head_text f.what ++ (shown_text number line (min f.place (length line)) ++ want_text number f.want)
 
 -- the same by its own number
 abbrev pub finding_text : List ℕ → Finding → List ℕ
-finding_text file f = numbered_text file f.line f
+finding_text line f = numbered_text line f.line f
 
 unfoldable pub sent_text : ℕ → List ℕ
 sent_text line = codes " = the message is sent later, in line " ++ (decimal line ++ codes "\n")
@@ -99,7 +99,7 @@ later_text line (Some later) = flat_map blank (decimal line) ++ sent_text later
 
 -- a note
 unfoldable pub noted_text : List ℕ → Noted → List ℕ
-noted_text file noted = finding_text file (note_finding noted.note) ++ later_text noted.note.line noted.later
+noted_text line noted = finding_text line (note_finding noted.note) ++ later_text noted.note.line noted.later
 
 unfoldable pub read_text : List ℕ
 read_text = codes "nothing is wrong with it\n"
@@ -114,15 +114,37 @@ unfoldable pub log_text : List ℕ
 log_text = codes "\nhelp: of a log, mscview races --from log tells the races: of lines HOST send PEER NAME and HOST recv PEER NAME, or as --pattern reads its lines\n"
 
 -- what is told
-unfoldable pub saying_text : List ℕ → Saying → List ℕ
-saying_text file (Kind kind) = kind_words kind
-saying_text file Read = read_text
-saying_text file (sayings.Finding finding) = finding_text file finding
-saying_text file (sayings.Typed finding number) = numbered_text file number finding
-saying_text file (sayings.Note noted) = noted_text file noted
-saying_text file (sayings.LeftOut left_out) = left_out_line left_out
-saying_text file (sayings.Overtaking message) = overtaking_line message
-saying_text file Cyclic = cyclic_text
-saying_text file (sayings.Step step) = step_text step
-saying_text file Tidy = tidy_text
-saying_text file Log = log_text
+unfoldable pub said_text : List ℕ → Saying → List ℕ
+said_text line (Kind kind) = kind_words kind
+said_text line Read = read_text
+said_text line (sayings.Finding finding) = finding_text line finding
+said_text line (sayings.Typed finding number) = numbered_text line number finding
+said_text line (sayings.Note noted) = noted_text line noted
+said_text line (sayings.LeftOut left_out) = left_out_line left_out
+said_text line (sayings.Overtaking message) = overtaking_line message
+said_text line Cyclic = cyclic_text
+said_text line (sayings.Step step) = step_text step
+said_text line Tidy = tidy_text
+said_text line Log = log_text
+
+-- the line that is shown with it, if one is, and else the first
+abbrev pub shown_line : Saying → ℕ
+shown_line (sayings.Finding finding) = finding.line
+shown_line (sayings.Typed finding number) = finding.line
+shown_line (sayings.Note noted) = noted.note.line
+shown_line (Kind kind) = 1
+shown_line Read = 1
+shown_line (sayings.LeftOut left_out) = 1
+shown_line (sayings.Overtaking message) = 1
+shown_line Cyclic = 1
+shown_line (sayings.Step step) = 1
+shown_line Tidy = 1
+shown_line Log = 1
+
+-- the same in a file
+abbrev pub saying_text : List ℕ → Saying → List ℕ
+saying_text file saying = said_text (line_of file (shown_line saying)) saying
+
+-- a text is what a file has from a line on
+abbrev pub IsFrom : List ℕ → ℕ → List ℕ → Type 0
+IsFrom file line text = (lines_of text ≡ drop (line - 1) (lines_of file)) × (end_of text ≡ end_of file)

@@ -13,6 +13,7 @@
 mod adding;
 mod explaining;
 mod finding;
+mod going_on;
 mod judging;
 mod kind;
 mod saying;

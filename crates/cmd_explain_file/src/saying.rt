@@ -1,18 +1,18 @@
 //! What is told of a file, as a list of values, and its text.
 ghost use Rattle.std.specs.Prelude.{◌≡◌, ◌≤◌, length, min};
 ghost use Rattle.std.specs.List.{flat_map};
-ghost use Rattle.cmd_explain_file.specs.Findings.{line_of};
-ghost use Rattle.cmd_explain_file.specs.Sayings.{before, behind, head_text, at_text, bar_text, quote_text, caret_text, want_text, wanted_text, shown_text, numbered_text, finding_text, sent_text, later_text, noted_text, read_text, cyclic_text, tidy_text, log_text, saying_text, bar, arrow, here, stands, caret, end};
+ghost use Rattle.cmd_explain_file.specs.Sayings.{before, behind, head_text, at_text, bar_text, quote_text, caret_text, want_text, wanted_text, shown_text, numbered_text, finding_text, sent_text, later_text, noted_text, read_text, cyclic_text, tidy_text, log_text, said_text, shown_line, saying_text, IsFrom, bar, arrow, here, stands, caret, end};
 ghost use Rattle.texts.specs.Writing.{Wrote, Adds};
 
 use crate::adding::{add_blanks, add_margin, add_shown};
 use crate::finding::{Finding, What, note_finding};
+use crate::going_on::text_from;
 use crate::kind::Kind;
 use crate::words::{kind_words, start_of, want_words, what_label, what_words};
 use cmd_import_diagram::{add_left_out, add_overtaking};
 use diagram_join::Overtaking;
 use diagrams::LeftOut;
-use fault_places::{Step, Want, add_step, line_from, standing_at};
+use fault_places::{Step, Want, add_step, line_from};
 use schedule_replay::notes::Noted;
 use texts::pieces::{Piece, add_pieces};
 use texts::{Out, TextBuffer, WriteError};
@@ -225,32 +225,31 @@ fn add_line<W: Out>(
     add_caret(text, line, before)
 }
 
-/// Adds what is wrong, with its place, in a file with these bytes, where the line is told by this number.
+/// Adds what is wrong, with its place, in this line, which is told by this number.
 #[tactic(auto, using(texts::proofs::Writes::joining), unfolding(crate::specs::Sayings::numbered_text))]
 fn add_numbered<W: Out>(
     text: &mut TextBuffer<'_, W>,
-    file: &[u8],
+    line: &[u8],
     number: u64,
     finding: &Finding,
 ) -> Result<(), WriteError>
-    ensures { Adds W.sink text.old text.new result (numbered_text file.now number finding.now) }
+    ensures { Adds W.sink text.old text.new result (numbered_text line.now number finding.now) }
 {
-    let bytes = line_from(standing_at(file, finding.line).text);
-    let place = finding.place.min(bytes.len());
+    let place = finding.place.min(line.len());
     add_head(text, finding.what)?;
-    add_line(text, number, bytes, place)?;
+    add_line(text, number, line, place)?;
     add_want(text, number, finding.want)
 }
 
-/// Adds what is wrong, with its place, in a file with these bytes.
+/// Adds what is wrong, with its place, in this line.
 fn add_finding<W: Out>(
     text: &mut TextBuffer<'_, W>,
-    file: &[u8],
+    line: &[u8],
     finding: &Finding,
 ) -> Result<(), WriteError>
-    ensures { Adds W.sink text.old text.new result (finding_text file.now finding.now) }
+    ensures { Adds W.sink text.old text.new result (finding_text line.now finding.now) }
 {
-    add_numbered(text, file, finding.line, finding)
+    add_numbered(text, line, finding.line, finding)
 }
 
 #[tactic(auto, unfolding(crate::specs::Sayings::sent_text))]
@@ -285,16 +284,16 @@ fn add_later<W: Out>(
     }
 }
 
-/// Adds a note.
+/// Adds a note of this line.
 #[tactic(auto, using(texts::proofs::Writes::joining), unfolding(crate::specs::Sayings::noted_text))]
 fn add_noted<W: Out>(
     text: &mut TextBuffer<'_, W>,
-    file: &[u8],
+    line: &[u8],
     noted: &Noted,
 ) -> Result<(), WriteError>
-    ensures { Adds W.sink text.old text.new result (noted_text file.now noted.now) }
+    ensures { Adds W.sink text.old text.new result (noted_text line.now noted.now) }
 {
-    add_finding(text, file, &note_finding(noted.note))?;
+    add_finding(text, line, &note_finding(noted.note))?;
     add_later(text, noted.note.line, noted.later)
 }
 
@@ -322,27 +321,45 @@ fn log_words() -> &'static [u8]
     b"\nhelp: of a log, mscview races --from log tells the races: of lines HOST send PEER NAME and HOST recv PEER NAME, or as --pattern reads its lines\n"
 }
 
-/// Adds what is told of a file with these bytes.
-#[tactic(auto, unfolding(crate::specs::Sayings::saying_text, crate::specs::Sayings::read_text))]
+/// Adds what is told, with this line of the file where one is shown.
+#[tactic(auto, unfolding(crate::specs::Sayings::said_text, crate::specs::Sayings::read_text))]
 fn add_saying<W: Out>(
     text: &mut TextBuffer<'_, W>,
-    file: &[u8],
+    line: &[u8],
     saying: &Saying,
 ) -> Result<(), WriteError>
-    ensures { Adds W.sink text.old text.new result (saying_text file.now saying.now) }
+    ensures { Adds W.sink text.old text.new result (said_text line.now saying.now) }
 {
     match saying {
         Saying::Kind(kind) => text.add(kind_words(*kind)),
         Saying::Read => text.add(b"nothing is wrong with it\n"),
-        Saying::Finding(finding) => add_finding(text, file, finding),
-        Saying::Typed(finding, number) => add_numbered(text, file, *number, finding),
-        Saying::Note(noted) => add_noted(text, file, noted),
+        Saying::Finding(finding) => add_finding(text, line, finding),
+        Saying::Typed(finding, number) => add_numbered(text, line, *number, finding),
+        Saying::Note(noted) => add_noted(text, line, noted),
         Saying::LeftOut(left_out) => add_left_out(text, left_out),
         Saying::Overtaking(message) => add_overtaking(text, message),
         Saying::Cyclic => text.add(cyclic_words()),
         Saying::Step(step) => add_step(text, step),
         Saying::Tidy => text.add(tidy_words()),
         Saying::Log => text.add(log_words()),
+    }
+}
+
+/// The line that is shown with what is told, if one is, and else the first.
+fn shown_line(saying: &Saying) -> u64
+    ensures { result ≡ shown_line saying.now }
+{
+    match saying {
+        Saying::Finding(finding) | Saying::Typed(finding, _) => finding.line,
+        Saying::Note(noted) => noted.note.line,
+        Saying::Kind(_)
+        | Saying::Read
+        | Saying::LeftOut(_)
+        | Saying::Overtaking(_)
+        | Saying::Cyclic
+        | Saying::Step(_)
+        | Saying::Tidy
+        | Saying::Log => 1,
     }
 }
 
@@ -353,8 +370,13 @@ fn add_sayings<W: Out>(
 ) -> Result<(), WriteError>
     ensures { Adds W.sink text.old text.new result (flat_map (saying_text file.now) sayings.now) }
 {
+    let mut rest = file;
+    let mut line = 1;
     for saying in sayings {
-        add_saying(text, file, saying)?;
+        let wanted = shown_line(saying);
+        rest = text_from(file, rest, line, wanted);
+        line = wanted;
+        add_saying(text, line_from(rest), saying)?;
     }
     Ok(())
 }
