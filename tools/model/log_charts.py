@@ -213,20 +213,47 @@ def read_diagnostics(made: LogChart) -> list[str]:
     hosts = len(made.hosts)
     several = f"{len(passed)} events of {hosts} hosts are read"
     first = f"1 event of {hosts} hosts is read" if len(passed) == 1 else several
-    return [first] + [f"{made.names[host]} has no line of its own" for host in made.hosts if host not in with_lines]
+    lineless = [host for host in made.hosts if host not in with_lines]
+    alike = alike_hosts(made, lineless, with_lines, {entry.peer for entry in passed})
+    told = [f"{made.names[host]} has no line of its own" for host in lineless]
+    for host, peer in ((made.names[host], made.names[peer]) for host, peer in alike):
+        told.append(f"{peer} may be {host}, which no line names as a peer: --peer {host}={peer}?")
+    return [first, *told]
+
+
+def is_short_for(short: str, word: str) -> bool:
+    """Whether both begin with the same letter, and the others of the first come in the second, in their order."""
+    letters = iter(word)
+    return short[0] == word[0] and all(letter in letters for letter in short)
+
+
+def alike_hosts(made: LogChart, lineless: list[str], with_lines: set[str], peers: set[str]) -> list[tuple[str, str]]:
+    """The hosts that are peers alone, each with the first host of lines alone that it may be."""
+    found = []
+    for peer in (host for host in lineless if host in peers):
+        for host in (host for host in made.hosts if host in with_lines and host not in peers):
+            one, other = made.names[peer], made.names[host]
+            if is_short_for(one, other) or is_short_for(other, one):
+                found.append((host, peer))
+                break
+    return found
 
 
 def is_one_ended(made: LogChart) -> bool:
-    """Whether no receive takes a send of the log, and none is freed of one."""
-    return not made.freed and all(message.send is None or message.receive is None for message in made.messages)
+    """Whether there are messages, no receive takes a send of the log, and none is freed of one."""
+    pairs = [message for message in made.messages if message.send is not None and message.receive is not None]
+    return bool(made.messages) and not made.freed and not pairs
 
 
-def diagnostics(made: LogChart) -> list[str]:
-    """What was done to come to the chart."""
+def diagnostics(made: LogChart, takes: bool = False) -> list[str]:
+    """What was done to come to the chart, and where it counts which receives would have taken what in other words."""
     own = [entry.place for entry in made.log.entries if entry.kind != "arrive" and entry.host == entry.peer]
     lines = read_diagnostics(made)
     lines += unmatched_diagnostics(made.log.unmatched, made.log.line_count)
     lines += counted(own, "event of a message to oneself is left out", "events of messages to oneself are left out")
+    one = "receive has a word takes= that isn't PEER:NAMES"
+    several = "receives have words takes= that aren't PEER:NAMES"
+    lines += counted(made.log.misspelled, one, several) if takes else []
     lines += ["only the order at the tap is known"] if made.log.is_captured else []
     lines += ["a receive at which no entry of the clock grew isn't seen"] if made.log.is_timed else []
     lines += [ONE_ENDED] if is_one_ended(made) else []

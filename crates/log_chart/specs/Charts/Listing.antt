@@ -1,6 +1,6 @@
 -- What is told of a log that comes to a chart: what is lost, what overtakes, which sends are invented, which receives are
 -- freed.
-use Rattle.std.specs.Prelude.{ℕ, zero, suc, ◌+◌, Bool, true, false, List, [], ◌∷◌, ◌++◌, Option, None, Some, ◌&&◌, not, is_some, is_none, map, filter, if◌then◌else◌}
+use Rattle.std.specs.Prelude.{ℕ, zero, suc, ◌+◌, ◌==◌, Bool, true, false, List, [], ◌∷◌, ◌++◌, Option, None, Some, ◌&&◌, not, is_some, is_none, length, map, filter, if◌then◌else◌}
 use Rattle.std.specs.List.{list_any}
 use Rattle.chart.specs.declared.instance.EventNo.{EventNo}
 use Rattle.log_chart.specs.declared.entry.Entry.{Entry}
@@ -36,9 +36,10 @@ has_taken lines = list_any (λ x. is_some x.send) lines
 abbrev pub has_freed : List Entry → Bool
 has_freed log = list_any (λ e. is_freed e.kind) log
 
--- of these lines of a log none takes a send, and none is a receive that is freed of one: the log has one end of each message
+-- the log has events, of its lines none takes a send, and none is a receive that is freed of one: it has one end of each
+-- message
 abbrev pub is_one_ended : List LogLine → List Entry → Bool
-is_one_ended lines log = not (has_taken lines) && not (has_freed log)
+is_one_ended lines log = if length log == 0 then false else not (has_taken lines) && not (has_freed log)
 
 -- the places of these lines whose messages are lost
 unfoldable pub lost_of : List LogLine → List Fate → List Place

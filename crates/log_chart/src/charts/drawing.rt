@@ -61,7 +61,7 @@ pub struct LogChart {
     pub invented: Vec<EventNo>,
     /// The lines of receives that are freed, in the order of the log.
     pub freed: Vec<Place>,
-    /// Whether the log has one end of each message: no receive takes a send of it, and none is freed.
+    /// Whether the log has events, and one end of each message: no receive takes a send of it, and none is freed.
     pub is_one_ended: bool,
 }
 

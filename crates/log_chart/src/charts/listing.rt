@@ -52,10 +52,13 @@ fn has_freed(log: &[Entry]) -> bool
     log.iter().any(|entry| is_freed(entry.kind))
 }
 
-/// Whether of these lines of a log none takes a send, and none is a receive that is freed of one.
+/// Whether a log has events, none of its lines takes a send, and none is a receive that is freed of one.
 pub(crate) fn is_one_ended(lines: &[LogLine], log: &[Entry]) -> bool
     ensures { result ≡ is_one_ended lines.now log.now }
 {
+    if log.is_empty() {
+        return false;
+    }
     !has_taken(lines) && !has_freed(log)
 }
 
