@@ -1,2 +1,2 @@
 pub mod RecordingLemmas
-pub mod TellingLemmas
+pub mod WritingLemmas

@@ -13,8 +13,8 @@ use Rattle.cmd_races.specs.Showing.{manner_of, AreWanted, Shows}
 use Rattle.cmd_races.specs.declared.judging.LuckWanted.{LuckWanted}
 use Rattle.cmd_base.specs.declared.status.Status.{Status}
 use Rattle.race_verdicts.specs.declared.verdict.Verdict.{Verdict}
-use Rattle.races_text.specs.Judged.Listing.{LuckManner, PartedReport, ArePartedTo, luck_text, told_of}
-use Rattle.races_text.specs.declared.judged.told.Told.{Told}
+use Rattle.races_text.specs.Judged.Listing.{LuckManner, PartedReport, ArePartedTo, luck_text, summary_of}
+use Rattle.races_text.specs.declared.judged.summary.RaceSummary.{RaceSummary}
 
 -- how they are told: of these instances
 abbrev pub luck_manner_of : LuckWanted → List ℕ → LuckManner
@@ -22,7 +22,7 @@ luck_manner_of wanted instances = record { races = manner_of wanted.races instan
 
 -- Of a chart with these names and lines the reports that are told, the instances that are asked for, and the ranges of the
 -- reports that have one verdict: of all, or of so many as were judged before a put failed.
-pub record AreJudged (is : EventNo → EventNo → Verdict → Type 0) (wanted : LuckWanted) (named : Named) (result : Result Told FormatError) (instances : List ℕ)
+pub record AreJudged (is : EventNo → EventNo → Verdict → Type 0) (wanted : LuckWanted) (named : Named) (result : Result RaceSummary FormatError) (instances : List ℕ)
     (reports : List ReportView) (parted : List PartedReport) : Type 0 where
   pub wanted_so : AreWanted wanted.races named instances reports
   pub parted_so : ArePartedTo is (manner_of wanted.races instances) named.1 reports result parted
@@ -41,13 +41,13 @@ IsLuckRefused names only (Ok status) = ⊥
 IsLuckRefused names only (Err error) = RefusesLuck names only error
 
 module _ {S : Type 0} (sink : S → Sink) where
-  -- the races were written with the words of their verdicts, or luck alone, and it was told whether one is shown, whether
-  -- there is one, and whether one is claimed; or a beginning of their text, where a put failed; or they are refused as races
+  -- the races were written with the words of their verdicts, or luck alone, and the summary says whether one is shown,
+  -- whether there is one, and whether one is claimed; or a beginning of their text, where a put failed; or they are refused as races
   -- without words
-  abbrev pub ShowsJudged : (EventNo → EventNo → Verdict → Type 0) → S → S → Result Told FormatError → LuckWanted → Named → Type 0
-  ShowsJudged is old new (Ok told) wanted named = (instances : List ℕ) × (reports : List ReportView) × (parted : List PartedReport)
-      × AreJudged is wanted named (Ok told) instances reports parted × Puts sink old new (text_of wanted named instances parted)
-      × (told ≡ told_of (luck_manner_of wanted instances) parted)
+  abbrev pub ShowsJudged : (EventNo → EventNo → Verdict → Type 0) → S → S → Result RaceSummary FormatError → LuckWanted → Named → Type 0
+  ShowsJudged is old new (Ok summary) wanted named = (instances : List ℕ) × (reports : List ReportView) × (parted : List PartedReport)
+      × AreJudged is wanted named (Ok summary) instances reports parted × Puts sink old new (text_of wanted named instances parted)
+      × (summary ≡ summary_of (luck_manner_of wanted instances) parted)
   ShowsJudged is old new (Err (Program errors.Write)) wanted named = (instances : List ℕ) × (reports : List ReportView) × (parted : List PartedReport)
       × AreJudged is wanted named (Err (Program errors.Write)) instances reports parted × Breaks sink old new (text_of wanted named instances parted)
   ShowsJudged is old new (Err error) wanted named = Shows sink old new (Err error) wanted.races named

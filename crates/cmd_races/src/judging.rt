@@ -12,7 +12,7 @@ use chart::{Chart, InstanceNo, Names};
 use closure::Closure;
 use cmd_base::columns::{FormatError, columns_in};
 use cmd_base::{ProgramError, Status};
-use races_text::judged::{Told, VerdictQuery, Verdicts, write_luck};
+use races_text::judged::{RaceSummary, VerdictQuery, Verdicts, write_luck};
 use races_text::named::RaceQuery;
 use reordering::completion::Completion;
 use std::alloc::Global;
@@ -36,7 +36,7 @@ fn show_selected<W: Out, V: Verdicts>(
     completion: Option<&Completion<'_>>,
     verdicts: &V,
     out: &mut W,
-) -> Result<Told, FormatError>
+) -> Result<RaceSummary, FormatError>
     requires instances { AreColumns names.now (only_of wanted.now.races.only) instances.now }
     requires possible { IsPossible (length closure.now) (chart_lines closure.now) }
     requires lines { IfSome completion (λ completion. completion.now ≡ closure.now) }
@@ -60,13 +60,13 @@ fn show_selected<W: Out, V: Verdicts>(
         luck: wanted.luck,
     };
     match write_luck(&query, reporter, out) {
-        Ok(told) => Ok(told),
+        Ok(summary) => Ok(summary),
         Err(_) => Err(FormatError::Program(ProgramError::Write)),
     }
 }
 
 /// Writes the races of these instances of a possible chart that are wanted, with the words of their verdicts, and
-/// answers what is told of them.
+/// answers their summary.
 pub fn show_judged<W: Out, V: Verdicts>(
     alloc: Global,
     names: &Names,
@@ -75,7 +75,7 @@ pub fn show_judged<W: Out, V: Verdicts>(
     wanted: &LuckWanted<'_>,
     verdicts: &V,
     out: &mut W,
-) -> Result<Told, FormatError>
+) -> Result<RaceSummary, FormatError>
     requires instances { AreColumns names.now (only_of wanted.now.races.only) instances.now }
     requires possible { IsPossible (length closure.now) (chart_lines closure.now) }
     requires races { (r e : EventNo) → IsRaceIn closure.now r e → V.is_race verdicts.now r e }

@@ -13,5 +13,6 @@ pub mod MarkLemmas
 pub mod MomentLemmas
 pub mod OrderLemmas
 pub mod QueueLemmas
+pub mod RunLemmas
 pub mod TableLemmas
 pub mod TakingLemmas

@@ -10,6 +10,7 @@ pub mod Marking
 pub mod Places
 pub mod QueueTables
 pub mod Recorded
+pub mod Runs
 pub mod Tables
 pub mod Taking
 pub mod TakingTables

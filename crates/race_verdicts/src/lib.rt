@@ -10,4 +10,4 @@ mod recording;
 mod verdict;
 
 pub use recording::{Arrival, LineWords, Pattern, Recording, Taken};
-pub use verdict::Verdict;
+pub use verdict::{Verdict, VerdictRun};

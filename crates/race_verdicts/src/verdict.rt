@@ -19,3 +19,11 @@ pub enum Verdict {
     /// The earlier receive would have taken another message first, which the same sender sent before.
     BehindAnother,
 }
+
+/// A verdict that the races of a receive with neighbouring events of its line have.
+#[derive(Clone, Copy, Debug, PartialEq, Eq)]
+pub struct VerdictRun {
+    pub verdict: Verdict,
+    /// How many events these are, from the first on.
+    pub count: usize,
+}

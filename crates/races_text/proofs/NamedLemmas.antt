@@ -1,3 +1,4 @@
 pub mod FoundRaces
 pub mod Joined
 pub mod LaterRaces
+pub mod StretchLemmas

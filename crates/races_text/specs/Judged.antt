@@ -1,6 +1,7 @@
 pub mod JsonText
 pub mod Parts
+pub mod PartsLeft
 pub mod PlainText
 pub mod Listing
-pub mod Telling
+pub mod Summaries
 pub mod Words

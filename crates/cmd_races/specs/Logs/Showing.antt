@@ -21,8 +21,8 @@ use Rattle.cmd_base.specs.declared.status.Status.{Status}
 use Rattle.cmd_base.specs.declared.status.Status.TheVariants.{NoRaces, Races, NotKnown}
 use Rattle.race_verdicts.specs.Recordings.{RecordingView}
 use Rattle.race_verdicts.specs.declared.verdict.Verdict.{Verdict}
-use Rattle.races_text.specs.Judged.Telling.{claims_none}
-use Rattle.races_text.specs.declared.judged.told.Told.{Told}
+use Rattle.races_text.specs.Judged.Summaries.{claims_none}
+use Rattle.races_text.specs.declared.judged.summary.RaceSummary.{RaceSummary}
 use Rattle.cmd_races.specs.declared.logs.known.ShownRaces.{ShownRaces}
 use Rattle.cmd_races.specs.declared.logs.showing.Shown.{Shown}
 use Rattle.cmd_races.specs.declared.logs.showing.RaceShowError.{RaceShowError}
@@ -34,22 +34,22 @@ verdict_in lines rec r e verdict = IsVerdict lines rec (at r.instance r.index) (
 
 -- the exit status: 1 where a race is shown; where none is, 3 where there are some that are asked for and each is begun in
 -- the middle, and else 0
-abbrev pub status_told : Told → Status
-status_told told = if told.shown then Races else (if claims_none told then NotKnown else NoRaces)
+abbrev pub status_of_summary : RaceSummary → Status
+status_of_summary summary = if summary.shown then Races else (if claims_none summary then NotKnown else NoRaces)
 
 -- what came of races of which luck is known
-abbrev pub shown_told : Told → ShownRaces
-shown_told told = record { status = status_told told; is_unclaimed = claims_none told }
+abbrev pub shown_of_summary : RaceSummary → ShownRaces
+shown_of_summary summary = record { status = status_of_summary summary; is_unclaimed = claims_none summary }
 
 module _ {S : Type 0} (sink : S → Sink) where
-  -- where luck is known: the races were shown with the words of their verdicts, and it is told whether none is claimed; or
+  -- where luck is known: the races were shown with the words of their verdicts, and the summary says whether none is claimed; or
   -- they are refused
   abbrev pub ShowsKnown : S → S → Result ShownRaces FormatError → LuckWanted → Named → RecordingView → Type 0
-  ShowsKnown old new (Ok races) wanted named rec = (told : Told) × ShowsJudged sink (verdict_in named.1 rec) old new (Ok told) wanted named
-      × (races ≡ shown_told told)
+  ShowsKnown old new (Ok races) wanted named rec = (summary : RaceSummary) × ShowsJudged sink (verdict_in named.1 rec) old new (Ok summary) wanted named
+      × (races ≡ shown_of_summary summary)
   ShowsKnown old new (Err error) wanted named rec = ShowsJudged sink (verdict_in named.1 rec) old new (Err error) wanted named
 
-  -- where it isn't: they were shown, and nothing is told of what is claimed; or they are refused
+  -- where it isn't: they were shown, and nothing is known of what is claimed; or they are refused
   abbrev pub ShowsOther : S → S → Result ShownRaces FormatError → LuckWanted → Named → Type 0
   ShowsOther old new (Ok races) wanted named = ShowsUnknown sink wanted.luck old new (Ok races.status) wanted named × (races.is_unclaimed ≡ false)
   ShowsOther old new (Err error) wanted named = ShowsUnknown sink wanted.luck old new (Err error) wanted named

@@ -19,7 +19,7 @@ use Rattle.cmd_races.specs.declared.judging.LuckWanted.{LuckWanted}
 use Rattle.cmd_races.specs.declared.showing.Wanted.{Wanted}
 use Rattle.cmd_base.specs.declared.status.Status.{Status}
 use Rattle.race_verdicts.specs.declared.verdict.Verdict.{Verdict}
-use Rattle.races_text.specs.declared.judged.told.Told.{Told}
+use Rattle.races_text.specs.declared.judged.summary.RaceSummary.{RaceSummary}
 use Rattle.schedule.specs.Plans.{Plan}
 use Rattle.cmd_races.specs.Schedules.Makers.{RunView}
 use Rattle.cmd_races.specs.Schedules.Verdicts.{IsVerdict}
@@ -40,8 +40,8 @@ module _ {S : Type 0} (sink : S → Sink) where
   -- the races of a run that were luck were shown, and the status tells whether one is, since none is begun in the middle; or
   -- they were refused
   abbrev pub ShowsLucky : RunView → S → S → Result Status FormatError → Wanted → Named → Type 0
-  ShowsLucky run old new (Ok status) wanted named = (told : Told) × ShowsJudged sink (verdict_in run) old new (Ok told) (luck_alone wanted) named
-      × (status ≡ status_in told.shown)
+  ShowsLucky run old new (Ok status) wanted named = (summary : RaceSummary) × ShowsJudged sink (verdict_in run) old new (Ok summary) (luck_alone wanted) named
+      × (status ≡ status_in summary.shown)
   ShowsLucky run old new (Err error) wanted named = ShowsJudged sink (verdict_in run) old new (Err error) (luck_alone wanted) named
 
   -- the races of the run that were luck were shown, or refused; of a chart nothing is known of luck

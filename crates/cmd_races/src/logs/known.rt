@@ -4,18 +4,17 @@ ghost use Rattle.chart.specs.Charts.{IsNumbered};
 ghost use Rattle.cmd_import_log.specs.Recording.{lent_of};
 ghost use Rattle.race_verdicts.specs.Luck.Recorded.{IsRecording};
 ghost use Rattle.cmd_races.specs.Judging.{ShowsJudged};
-ghost use Rattle.cmd_races.specs.Logs.Showing.{verdict_in, status_told, shown_told};
+ghost use Rattle.cmd_races.specs.Logs.Showing.{verdict_in, status_of_summary, shown_of_summary};
 ghost use Rattle.cmd_races.specs.Logs.Showing.{ShowsKnown, ShowsOther, ShowsRecording};
 
 use crate::{LuckWanted, show_judged, show_unknown};
-use chart::EventNo;
+use chart::{EventNo, EventRange};
 use closure::Closure;
 use cmd_base::columns::{FormatError, columns_in};
 use cmd_base::{ProgramError, Status, closure_of};
 use cmd_import_log::{LogDrawing, LogRecording};
-use race_verdicts::Verdict;
 use race_verdicts::luck::Judge;
-use races_text::judged::{Told, Verdicts};
+use races_text::judged::{Part, RaceSummary, Verdicts};
 use std::alloc::Global;
 use texts::Out;
 
@@ -28,7 +27,7 @@ pub struct ShownRaces {
     pub is_unclaimed: bool,
 }
 
-/// What is said of the races of a recording.
+/// The verdicts on the races of a recording.
 #[derive(Drop)]
 struct Judged<'a> {
     judge: Judge<'a>,
@@ -47,8 +46,15 @@ impl Verdicts for Judged<'_> {
     ghost is_verdict = { λ j r e verdict. IsVerdict j.judge.lines j.judge.recording (place_of r) (place_of e)
         verdict };
 
-    fn verdict(&self, receive: &EventNo, earlier: &EventNo) -> Verdict {
-        self.judge.verdict(*receive, *earlier)
+    fn verdict_of_first(&self, receive: &EventNo, earlier: &EventRange) -> Part {
+        let run = self.judge.verdict_of_first(*receive, *earlier);
+        Part {
+            range: EventRange {
+                first: earlier.first,
+                count: run.count,
+            },
+            verdict: run.verdict,
+        }
     }
 }
 
@@ -70,13 +76,13 @@ fn judge_of<'a>(
 }
 
 /// Writes the races that are wanted of a recording of which luck is known, with the words of their verdicts. Answers
-/// what is told of them.
+/// their summary.
 fn show_known<W: Out>(
     alloc: Global,
     recording: &LogRecording<'_>,
     wanted: &LuckWanted<'_>,
     out: &mut W,
-) -> Result<Told, FormatError>
+) -> Result<RaceSummary, FormatError>
     requires names { length recording.now.drawing.diagnostics.names ≡ length recording.now.drawing.chart }
     requires keeps { IsRecording recording.now.drawing.chart (lent_of recording.now) }
     requires numbered { IsNumbered recording.now.drawing.chart }
@@ -98,27 +104,27 @@ fn show_known<W: Out>(
     )
 }
 
-/// The exit status of races of which this is told.
-fn status_of(told: &Told) -> Status
-    ensures { result ≡ status_told told.now }
+/// The exit status of races with this summary.
+fn status_of(summary: &RaceSummary) -> Status
+    ensures { result ≡ status_of_summary summary.now }
 {
-    if told.shown {
+    if summary.shown {
         return Status::Races;
     }
-    if told.claims_none() {
+    if summary.claims_none() {
         Status::NotKnown
     } else {
         Status::NoRaces
     }
 }
 
-/// What came of races of which this is told.
-fn shown_by(told: &Told) -> ShownRaces
-    ensures { result ≡ shown_told told.now }
+/// What came of races with this summary.
+fn shown_by(summary: &RaceSummary) -> ShownRaces
+    ensures { result ≡ shown_of_summary summary.now }
 {
     ShownRaces {
-        status: status_of(told),
-        is_unclaimed: told.claims_none(),
+        status: status_of(summary),
+        is_unclaimed: summary.claims_none(),
     }
 }
 
@@ -136,7 +142,7 @@ fn show_judged_races<W: Out>(
         (recording.now.drawing.diagnostics.names, recording.now.drawing.chart) (lent_of recording.now) }
 {
     match show_known(alloc, recording, wanted, out) {
-        Ok(told) => Ok(shown_by(&told)),
+        Ok(summary) => Ok(shown_by(&summary)),
         Err(error) => Err(error),
     }
 }

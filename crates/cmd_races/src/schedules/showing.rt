@@ -14,7 +14,7 @@ use crate::shown_file::ShownFile;
 use crate::{LuckWanted, Wanted, show_judged};
 use cmd_base::columns::{FormatError, columns_in};
 use cmd_base::{ProgramError, Source, Status, Text, answered, closure_of, is_schedule};
-use races_text::judged::Told;
+use races_text::judged::RaceSummary;
 use schedule::Schedule;
 use schedule::outcomes::Outcome;
 use std::alloc::Global;
@@ -41,14 +41,14 @@ fn makers_of<'a>(
     }
 }
 
-/// Writes the races of a run that are wanted, of those that were luck, and answers what is told of them.
-fn show_told<W: Out>(
+/// Writes the races of a run that are wanted, of those that were luck, and answers their summary.
+fn show_lucky<W: Out>(
     alloc: Global,
     schedule: &Schedule,
     outcome: &Outcome<'_>,
     wanted: &Wanted<'_>,
     out: &mut W,
-) -> Result<Told, FormatError>
+) -> Result<RaceSummary, FormatError>
     requires { IsOutcome schedule.now outcome.now }
     ensures { ShowsJudged W.sink (verdict_in (run_of schedule.now outcome.now)) out.old out.new result
         (luck_alone wanted.now) (outcome.now.names, outcome.now.chart) }
@@ -84,8 +84,8 @@ fn show_run<W: Out>(
     ensures { ShowsLucky W.sink (run_of schedule.now outcome.now) out.old out.new result wanted.now
         (outcome.now.names, outcome.now.chart) }
 {
-    match show_told(alloc, schedule, outcome, wanted, out) {
-        Ok(told) => Ok(Status::of(told.shown)),
+    match show_lucky(alloc, schedule, outcome, wanted, out) {
+        Ok(summary) => Ok(Status::of(summary.shown)),
         Err(error) => Err(error),
     }
 }

@@ -1,4 +1,4 @@
-//! What is said of the races of a schedule.
+//! The verdicts on the races of a schedule.
 ghost use Rattle.std.specs.Prelude.{◌≡◌, ◌<◌, ◌≤◌, ◌↔◌, ℕ, true, Some, IfOk, IsTrue, AllPairs};
 ghost use Rattle.chart.specs.Charts.{at, chart_lines, IsReceiveFrom, IsNumbered};
 ghost use Rattle.chart.specs.declared.event.Event.{Event};
@@ -10,9 +10,9 @@ ghost use Rattle.cmd_races.specs.Schedules.Verdicts.{IsBehind, TakesAny, IsVerdi
 
 use crate::schedules::makers::lines_named;
 use chart::line_events::events_of;
-use chart::{Event, EventNo, InstanceNo, Line};
+use chart::{Event, EventNo, EventRange, InstanceNo, Line};
 use race_verdicts::Verdict;
-use races_text::judged::Verdicts;
+use races_text::judged::{Part, Verdicts};
 use races_text::named::event_at;
 use schedule::{Command, Note};
 use std::alloc::{AllocError, Global};
@@ -127,7 +127,7 @@ impl<'a> Makers<'a> {
         }
     }
 
-    /// What is said of a receive and an earlier one of its line.
+    /// The verdict of a receive and an earlier one of its line.
     fn verdict_of_receives(&self, receive: &EventNo, earlier: &EventNo) -> Verdict
         requires { IsReceive (chart_lines self.now.lines earlier.now.instance) earlier.now.index }
         ensures { IsVerdict self.now (place_of receive.now) (place_of earlier.now) result }
@@ -141,7 +141,7 @@ impl<'a> Makers<'a> {
         Verdict::Luck
     }
 
-    /// What is said of a receive and an earlier event of its line.
+    /// The verdict of a receive and an earlier event of its line.
     fn verdict_of(&self, receive: &EventNo, earlier: &EventNo) -> Verdict
         requires { IsEvent (chart_lines self.now.lines) (place_of earlier.now) }
         ensures { IsVerdict self.now (place_of receive.now) (place_of earlier.now) result }
@@ -166,7 +166,9 @@ impl Verdicts for Makers<'_> {
 
     ghost is_verdict = { λ m r e verdict. IsVerdict m (place_of r) (place_of e) verdict };
 
-    fn verdict(&self, receive: &EventNo, earlier: &EventNo) -> Verdict {
-        self.verdict_of(receive, earlier)
+    fn verdict_of_first(&self, receive: &EventNo, earlier: &EventRange) -> Part {
+        let first = earlier.first;
+        let verdict = self.verdict_of(receive, &first);
+        Part::of(&first, verdict)
     }
 }

@@ -194,10 +194,10 @@ module _ (lines : List LogLine) (arrivals : List Arrival) (i : ℕ) (a : Arrival
         record { line = its.x; stands = its.here; its = left_arrived lines arrivals i a here w.received_lists w.left_lists left left_next w.left_are w.both (no_first (opened_lists a.stream) none) its.x its.xs its.is },
       )
 
-  pub message_told : IsLog lines → (n : ℕ) → IsAtLine n → (m : MessageNo) → ((x : LogLine) → slice_get lines n ≡ Some x → m ≡ message_of x)
+  pub arrival_message : IsLog lines → (n : ℕ) → IsAtLine n → (m : MessageNo) → ((x : LogLine) → slice_get lines n ≡ Some x → m ≡ message_of x)
       → IsArrivalOf lines arrivals m i × (naming_line m < length lines)
-  message_told log n told m is =
-      subst (λ k. IsArrivalOf lines arrivals k i × (naming_line k < length lines)) (sym (is told.line told.stands)) (told.its, message_within lines log told.line (contained_get lines n told.line told.stands))
+  arrival_message log n here m is =
+      subst (λ k. IsArrivalOf lines arrivals k i × (naming_line k < length lines)) (sym (is here.line here.stands)) (here.its, message_within lines log here.line (contained_get lines n here.line here.stands))
 
   pub arrived_nothing : (first next left_first left_behind : List (Option ℕ)) → AreQueues lines false first next 0 then_lists → AreQueues lines true left_first left_behind 0 left_then
       → None ≡ first_number (opened_lists a.stream) → None ≡ first_number (w.left_lists a.stream)

@@ -1,6 +1,7 @@
 -- The later reasons, of an event and a message that are both in the log, and what a judge keeps: for the crate's own
 -- functions.
 use Rattle.std.specs.Prelude.{◌≡◌, ℕ, ◌<◌, List}
+use Rattle.log_chart.specs.declared.item.Item.{Item}
 use Rattle.log_chart.specs.declared.item.MessageNo.{MessageNo}
 use Rattle.log_chart.specs.declared.item.MessageNo.TheVariants as messages
 use Rattle.log_chart.specs.declared.matching.LogLine.{LogLine}
@@ -29,10 +30,11 @@ pub record IsLoggedVerdict (rec : RecordingView) (k : ℕ) (own : MessageNo) (s 
   pub first : (other : Verdict) → turn_of other < turn_of verdict → IsLoggedReason rec k own s other → ⊥
 
 -- all parts are of one recording
-pub record IsJudge (view : JudgeView) (rec taking arrivals lanes : RecordingView) (order : List LogLine) : Type 0 where
+pub record IsJudge (view : JudgeView) (rec taking arrivals lanes : RecordingView) (order : List LogLine) (runs : List (List Item)) : Type 0 where
   pub recording : IsRecording view.lines view.recording
   pub same : rec ≡ view.recording
   pub taking_is : taking ≡ view.recording
   pub arrivals_are : arrivals ≡ view.recording
   pub lanes_are : lanes ≡ view.recording
   pub order_is : order ≡ view.recording.lines
+  pub runs_are : runs ≡ view.recording.hosts

@@ -13,7 +13,7 @@ IsQueue lines sends next low entry (x ∷ xs) =
     (entry ≡ Some x.number) × (slice_get lines x.number ≡ Some x) × (is_send x.entry.kind ≡ sends) × (low ≤ x.number) × (x.number < length next)
     × IsQueue lines sends next (x.number + 1) (slice_index_or next x.number None) xs
 
--- it leads through some list of lines that receive
+-- it leads through some list of lines, which all send or all receive
 pub record IsSomeQueue (next : List (Option ℕ)) (entry : Option ℕ) : Type 0 where
   pub lines : List LogLine
   pub sends : Bool

@@ -1,17 +1,21 @@
 -- Which races of a recording were luck: the program didn't choose, and the later message was the next that the earlier
 -- receive would have had (this project's profile of logs). A race that was none has the first reason that applies.
-use Rattle.std.specs.Prelude.{◌≡◌, ℕ, ◌<◌, true, List, None, Some}
-use Rattle.chart.specs.Charts.{Place, LineView, chart_lines}
+use Rattle.std.specs.Prelude.{◌≡◌, ℕ, ◌<◌, ◌≤◌, true, List, None, Some, All}
+use Rattle.chart.specs.declared.ranges.EventRange.{EventRange}
+use Rattle.chart.specs.Charts.{Place, at, LineView, chart_lines}
 use Rattle.chart.specs.Order.{Before}
+use Rattle.chart.specs.Ranges.{events_of}
 use Rattle.log_chart.specs.declared.item.Item.{Item}
 use Rattle.log_chart.specs.declared.item.MessageNo.TheVariants as messages
 use Rattle.race_verdicts.specs.Luck.Arrivals.{CameFirst}
 use Rattle.race_verdicts.specs.Luck.Behind.{IsBehind}
-use Rattle.race_verdicts.specs.Luck.Places.{item_at, IsInvented}
+use Rattle.race_verdicts.specs.Luck.Places.{items_of, item_at, IsInvented}
+use Rattle.race_verdicts.specs.Luck.Runs.{AreAlike}
 use Rattle.race_verdicts.specs.Luck.Taking.{WouldTake}
 use Rattle.race_verdicts.specs.Luck.WholeOrder.{IsAhead}
 use Rattle.race_verdicts.specs.Recordings.{RecordingView}
 use Rattle.race_verdicts.specs.declared.verdict.Verdict.{Verdict}
+use Rattle.race_verdicts.specs.declared.verdict.VerdictRun.{VerdictRun}
 use Rattle.race_verdicts.specs.declared.verdict.Verdict.TheVariants.{Luck, EarlierIsSend, BegunInTheMiddle, OrderedByLeftOut, WouldNotTake, PassedOver, BehindAnother}
 
 -- the earlier event is invented, or the send of the receive r is, or an invented send is before r in the chart
@@ -19,6 +23,11 @@ pub data IsBegunBefore (lines : List LineView) (rec : RecordingView) (r : Place)
   unlogged : earlier.line ≡ None → IsBegunBefore lines rec r receive earlier
   itself : (n : ℕ) → receive.message ≡ messages.Begun n → IsBegunBefore lines rec r receive earlier
   before : (e : Place) → IsInvented rec e → Before (chart_lines lines) e r → IsBegunBefore lines rec r receive earlier
+
+-- the send of the receive r is invented, or an invented send is before r in the chart: then this holds of each earlier event
+pub data IsBegun (lines : List LineView) (rec : RecordingView) (r : Place) : Type 0 where
+  itself : (receive : Item) (n : ℕ) → item_at rec r ≡ Some receive → receive.message ≡ messages.Begun n → IsBegun lines rec r
+  before : (e : Place) → IsInvented rec e → Before (chart_lines lines) e r → IsBegun lines rec r
 
 -- the earlier event is of line k, and line s sends the message of the receive
 pub record AreLogged (earlier receive : Item) (k s : ℕ) : Type 0 where
@@ -54,6 +63,15 @@ pub record IsVerdict (lines : List LineView) (rec : RecordingView) (r e : Place)
   pub earlier_is : item_at rec e ≡ Some earlier
   pub reason : IsReason lines rec r receive earlier verdict
   pub first : (other : Verdict) → turn_of other < turn_of verdict → IsReason lines rec r receive earlier other → ⊥
+
+-- What is answered of the receive and the first of some neighbouring events of its line: its verdict, and how many of them,
+-- from the first on, have it. If the receive is begun in the middle, all have. Otherwise it is as many as are of one kind.
+pub record IsVerdictRun (lines : List LineView) (rec : RecordingView) (r : Place) (earlier : EventRange) (run : VerdictRun) : Type 0 where
+  pub some : 0 < run.count
+  pub within : run.count ≤ earlier.count
+  pub verdicts : All (λ e. IsVerdict lines rec r (at e.instance e.index) run.verdict) (events_of (record { first = earlier.first; count = run.count }))
+  pub begun : IsBegun lines rec r → run.count ≡ earlier.count
+  pub alike : (IsBegun lines rec r → ⊥) → AreAlike (items_of rec earlier.first.instance) earlier.first.index earlier.count run.count
 
 -- a pair has one verdict at most
 abbrev pub OneVerdictLaw : Type 0

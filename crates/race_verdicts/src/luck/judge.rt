@@ -1,14 +1,16 @@
 //! What is said of races in a recording.
-ghost use Rattle.std.specs.Prelude.{ℕ, ◌≡◌, ◌<◌, ◌≤◌, length, Some, IfOk};
+ghost use Rattle.std.specs.Prelude.{ℕ, ◌≡◌, ◌<◌, ◌≤◌, ◌↔◌, length, min, Some, All, IfOk, IsTrue};
 ghost use Rattle.chart.specs.Charts.{chart_lines, IsReceiveFrom};
 ghost use Rattle.chart.specs.Events.{ith};
 ghost use Rattle.chart.specs.Places.{IsEvent};
+ghost use Rattle.chart.specs.Ranges.{IsRange, events_of};
 ghost use Rattle.closure.specs.Faults.{place_of};
 ghost use Rattle.log_chart.specs.Items.{naming_line};
 ghost use Rattle.race_verdicts.specs.Luck.Judging.{IsLoggedVerdict};
-ghost use Rattle.race_verdicts.specs.Luck.Places.{host_items};
+ghost use Rattle.race_verdicts.specs.Luck.Places.{host_items, items_of};
 ghost use Rattle.race_verdicts.specs.Luck.Recorded.{IsRecording, IsSendLine};
-ghost use Rattle.race_verdicts.specs.Luck.Verdicts.{IsVerdict, OneVerdictLaw};
+ghost use Rattle.race_verdicts.specs.Luck.Runs.{AreAlike};
+ghost use Rattle.race_verdicts.specs.Luck.Verdicts.{IsBegun, IsVerdict, IsVerdictRun, OneVerdictLaw};
 ghost use Rattle.race_verdicts.specs.Recordings.{recording_view};
 
 use crate::luck::arrivals::Arrivals;
@@ -16,9 +18,10 @@ use crate::luck::invented::Beginnings;
 use crate::luck::lanes::Lanes;
 use crate::luck::lines::takers_of;
 use crate::luck::order::Order;
+use crate::luck::runs::{Kind, Runs};
 use crate::luck::taking::Taking;
-use crate::{Recording, Verdict};
-use chart::EventNo;
+use crate::{Recording, Verdict, VerdictRun};
+use chart::{EventNo, EventRange};
 use closure::Closure;
 use log_chart::{HostLine, Item, MessageNo};
 use std::alloc::{AllocError, Global};
@@ -34,6 +37,12 @@ fn item_at(hosts: &[HostLine], event: &EventNo) -> Item
     items[event.index as usize - 1]
 }
 
+fn smaller_of(first: usize, second: usize) -> usize
+    ensures { result ≡ min first second }
+{
+    first.min(second)
+}
+
 /// Says of races in a recording whether they were luck. A contract sees the chart's lines and the recording.
 #[derive(Drop)]
 pub struct Judge<'a> {
@@ -43,6 +52,7 @@ pub struct Judge<'a> {
     taking: Taking<'a>,
     arrivals: Arrivals<'a>,
     lanes: Lanes<'a>,
+    runs: Runs<'a>,
 }
 
 impl<'a> Model for Judge<'a> {
@@ -54,11 +64,13 @@ impl<'a> Model for Judge<'a> {
 
     ghost view = { λ j. j.beginnings };
 
-    ghost invariant = { λ j. IsJudge j.beginnings (recording_view j.recording) j.taking j.arrivals j.lanes j.order };
+    ghost invariant = { λ j. IsJudge j.beginnings (recording_view j.recording) j.taking j.arrivals j.lanes j.order
+        j.runs };
 }
 
 impl<'a> Judge<'a> {
-    /// The judge of a log's recording, with the closure of its chart. It keeps a number for each line and each host.
+    /// The judge of a log's recording, with the closure of its chart. It keeps a number for each line and each host,
+    /// and one for each event.
     ///
     /// F6: it fails only where there is no memory.
     pub fn of(
@@ -77,6 +89,7 @@ impl<'a> Judge<'a> {
         let lanes = Lanes::of(alloc, recording, takers)?;
         let taking = Taking::of(alloc, recording)?;
         let order = Order::of(alloc, hosts, recording.lines)?;
+        let runs = Runs::of(alloc, recording.hosts)?;
         Ok(Judge {
             recording,
             beginnings,
@@ -84,6 +97,7 @@ impl<'a> Judge<'a> {
             taking,
             arrivals,
             lanes,
+            runs,
         })
     }
 
@@ -135,6 +149,57 @@ impl<'a> Judge<'a> {
             return Verdict::EarlierIsSend;
         }
         self.logged_verdict(line, before.message, send)
+    }
+
+    /// Whether a receive's send is invented, or an invented send comes before it.
+    fn is_begun(&self, receive: &EventNo) -> bool
+        requires { (q : ℕ) × IsReceiveFrom (chart_lines self.now.lines) q (place_of receive.now) }
+        ensures begun { IsTrue result ↔ IsBegun self.now.lines self.now.recording (place_of receive.now) }
+        ensures recording { IsRecording self.now.lines self.now.recording }
+    {
+        let item = item_at(self.recording.hosts, receive);
+        match item.message {
+            MessageNo::Begun(_) => true,
+            MessageNo::Sent(_) => self.beginnings.are_before(receive),
+        }
+    }
+
+    /// How many of neighbouring events of a host are of one kind from the first on. Of a receive of the log it is that
+    /// one.
+    fn alike(&self, earlier: &EventRange) -> usize
+        requires range { IsRange earlier.now }
+        requires begun { 1 ≤ earlier.now.first.index }
+        requires within { earlier.now.first.index ≤ length (items_of self.now.recording earlier.now.first.instance) }
+        ensures { AreAlike (items_of self.now.recording earlier.now.first.instance) earlier.now.first.index
+            earlier.now.count result }
+    {
+        let first = item_at(self.recording.hosts, &earlier.first);
+        if Kind::of(&first).is(Kind::Receive) {
+            return 1;
+        }
+        let run = self.runs.count(&earlier.first);
+        smaller_of(run, earlier.count)
+    }
+
+    /// The verdict of a receive and the first of these neighbouring events of its line, and how many of them, from the
+    /// first on, have it. If the receive is begun in the middle, all have. Otherwise it is as many as are invented, or
+    /// as are sends of the log, or one receive of the log. It takes no memory, and as long for many events as for one.
+    pub fn verdict_of_first(&self, receive: EventNo, earlier: EventRange) -> VerdictRun
+        requires receive { (q : ℕ) × IsReceiveFrom (chart_lines self.now.lines) q (place_of receive) }
+        requires range { IsRange earlier }
+        requires earlier { All (λ e. IsEvent (chart_lines self.now.lines) (place_of e)) (events_of earlier) }
+        ensures { IsVerdictRun self.now.lines self.now.recording (place_of receive) earlier result }
+    {
+        if self.is_begun(&receive) {
+            return VerdictRun {
+                verdict: Verdict::BegunInTheMiddle,
+                count: earlier.count,
+            };
+        }
+        VerdictRun {
+            verdict: self.verdict(receive, earlier.first),
+            count: self.alike(&earlier),
+        }
     }
 }
 

@@ -1,4 +1,4 @@
--- The ranges of reports that are told while they are found.
+-- The ranges of reports that are listed while they are found.
 use Rattle.std.proofs.Common.{◌≡◌, ℕ, List, [], ◌∷◌, ◌++◌, All, Contains, Bool, true, false, cond, Result, Ok, Err, get_or, refl}
 use Rattle.std.proofs.lemmas.List.Elements.{All-nil, All-filter, All-contains_itself}
 use Rattle.chart.specs.declared.event.Event.{Event}
@@ -15,7 +15,7 @@ use Rattle.races_text.specs.Judged.Listing.{PartedReport, IsParted, HasBegun, Ha
 use Rattle.races_text.specs.Judged.Listing.AreParted.{none, more}
 use Rattle.races_text.specs.Judged.Listing.HaveParted.{none as none_begun, last as last_begun, more as more_begun}
 
--- the events that are told are among the earlier ones
+-- the events that are listed are among the earlier ones
 selected_if : (P : EventNo → Type 0) (b : Bool) (events : List Event) (only : Bool) (earlier : List EventNo) → All P earlier → All P (cond b (kept_events events only earlier) [])
 selected_if P true events only earlier all = All-filter (is_kept events only) P earlier all
 selected_if P false events only earlier all = All-nil P

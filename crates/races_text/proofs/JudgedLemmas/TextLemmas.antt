@@ -1,6 +1,5 @@
 -- The text of a receive's ranges, by those so far and one more.
 use Rattle.std.proofs.Common.{◌≡◌, ℕ, List, [], ◌∷◌, ◌++◌, Bool, true, false, cond, ◌||◌, Result, Ok, Err, refl, sym, ap, ◌∙◌, subst, append_assoc, append-nil}
-use Rattle.std.specs.Prelude.{IfOk}
 use Rattle.std.specs.Result.{is_err}
 use Rattle.std.specs.List.{flat_map}
 use Rattle.std.proofs.lemmas.List.{flat_map_more}
@@ -20,10 +19,6 @@ use Rattle.races_text.specs.Judged.Listing.{first_text, later_text, begun_text, 
 pub adds_failed : {S T E : Type 0} {sink : S → Sink} {a b : TextBuffer S} {text : List ℕ} (r : Result T E) → is_err r ≡ true → Stops sink a b text → Adds sink a b r text
 adds_failed (Ok x) failed stops = cc
 adds_failed (Err e) failed stops = stops
-
--- what is told where there is a value, by another word for it
-pub told_as : {T E : Type 0} {a b : T} (r : Result T E) → a ≡ b → IfOk r (λ told. told ≡ a) → IfOk r (λ told. told ≡ b)
-told_as r same told = subst (λ x. IfOk r (λ told. told ≡ x)) same told
 
 -- those that are shown, of some and one more
 abbrev shown_if : Bool → Part → List Part

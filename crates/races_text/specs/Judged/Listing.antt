@@ -1,4 +1,4 @@
--- The races of a recording as they are told (this project's profile): as those of its chart, each range with the word of
+-- The races of a recording as they are listed (this project's profile): as those of its chart, each range with the word of
 -- its verdict, or luck alone.
 use Rattle.std.specs.Prelude.{◌≡◌, ℕ, Bool, List, [], ◌∷◌, ◌++◌, Contains, Result, Ok, Err, IfOk, if◌then◌else◌}
 use Rattle.std.specs.List.{flat_map, list_any}
@@ -19,10 +19,10 @@ use Rattle.races_text.specs.declared.named.words.Word.TheVariants.{EndObject}
 use Rattle.races_text.specs.Judged.JsonText.{front_text as json_front, next_text as json_next}
 use Rattle.races_text.specs.Judged.Parts.{AreParts, HaveBegun, is_shown, shown_parts, has_parts}
 use Rattle.races_text.specs.Judged.PlainText.{line_text}
-use Rattle.races_text.specs.Judged.Telling.{claims_parts}
+use Rattle.races_text.specs.Judged.Summaries.{claims_parts}
 use Rattle.races_text.specs.declared.judged.part.Part.{Part}
 use Rattle.races_text.specs.declared.judged.listing.VerdictQuery.{VerdictQuery}
-use Rattle.races_text.specs.declared.judged.told.Told.{Told}
+use Rattle.races_text.specs.declared.judged.summary.RaceSummary.{RaceSummary}
 
 -- The text of the ranges of a receive, in a form.
 
@@ -73,7 +73,7 @@ pub record IsRaceIn (lines : List LineView) (r e : EventNo) : Type 0 where
   pub receive : report.receive ≡ r
   pub among : Contains report.earlier e
 
--- how races are told, and whether luck alone is
+-- how races are listed, and whether luck alone is
 pub record LuckManner : Type 0 where
   pub races : Manner
   pub luck : Bool
@@ -86,7 +86,7 @@ pub record PartedReport : Type 0 where
   pub receive : EventNo
   pub parts : List Part
 
--- the earlier events of a report that are told, each or luck alone
+-- the earlier events of a report that are listed, each or luck alone
 abbrev pub selected_events : Manner → List LineView → ReportView → List EventNo
 selected_events manner lines report =
     if is_asked manner report then kept_events (chart_lines lines report.receive.instance) manner.receives report.earlier
@@ -117,9 +117,9 @@ has_races parted = list_any (λ p. has_parts p.parts) parted
 abbrev pub claims_some : List PartedReport → Bool
 claims_some parted = list_any (λ p. claims_parts p.parts) parted
 
--- what is told of all
-abbrev pub told_of : LuckManner → List PartedReport → Told
-told_of manner parted = record { shown = shows_luck manner parted; any = has_races parted; claimed = claims_some parted }
+-- the summary of all
+abbrev pub summary_of : LuckManner → List PartedReport → RaceSummary
+summary_of manner parted = record { shown = shows_luck manner parted; any = has_races parted; claimed = claims_some parted }
 
 module _ (is : EventNo → EventNo → Verdict → Type 0) (manner : Manner) (lines : List LineView) where
   -- these are the ranges of a report
@@ -157,19 +157,19 @@ module _ (is : EventNo → EventNo → Verdict → Type 0) (manner : Manner) (li
   ArePartedTo reports (Err e) parted = HaveParted reports parted
 
 module _ {S E : Type 0} (sink : S → Sink) where
-  -- the races of the chart with these lines were added to a text, by what is a verdict, and it was told whether one is
+  -- the races of the chart with these lines were added to a text, by what is a verdict, and the summary says whether one is
   -- shown, whether there is one, and whether one is claimed
   abbrev pub HasAdded : TextBuffer S → TextBuffer S → (EventNo → EventNo → Verdict → Type 0) → LuckManner
-      → List (List ℕ) → List LineView → Result Told E → Type 0
+      → List (List ℕ) → List LineView → Result RaceSummary E → Type 0
   HasAdded old new is manner names lines result = (reports : List ReportView) × (parted : List PartedReport)
       × AreSelected manner.races.completed lines reports × ArePartedTo is manner.races lines reports result parted
       × Adds sink old new result (luck_text manner names lines parted)
-      × IfOk result (λ told. told ≡ told_of manner parted)
+      × IfOk result (λ summary. summary ≡ summary_of manner parted)
 
   -- they were written
   abbrev pub HasWritten : S → S → (EventNo → EventNo → Verdict → Type 0) → LuckManner → List (List ℕ)
-      → List LineView → Result Told E → Type 0
+      → List LineView → Result RaceSummary E → Type 0
   HasWritten old new is manner names lines result = (reports : List ReportView) × (parted : List PartedReport)
       × AreSelected manner.races.completed lines reports × ArePartedTo is manner.races lines reports result parted
       × Wrote sink old new result (luck_text manner names lines parted)
-      × IfOk result (λ told. told ≡ told_of manner parted)
+      × IfOk result (λ summary. summary ≡ summary_of manner parted)

@@ -1,5 +1,5 @@
 -- The earlier events of a receive as ranges that have one verdict (this project's profile).
-use Rattle.std.specs.Prelude.{◌≡◌, Bool, true, false, List, [], ◌∷◌, ◌++◌, All, filter, if◌then◌else◌, Result, Ok, Err}
+use Rattle.std.specs.Prelude.{◌≡◌, ◌+◌, Bool, true, false, List, [], ◌∷◌, ◌++◌, All, filter, if◌then◌else◌, Result, Ok, Err}
 use Rattle.std.specs.List.{flat_map}
 use Rattle.chart.specs.declared.instance.EventNo.{EventNo}
 use Rattle.chart.specs.Ranges.{IsRange, events_of, is_followed_by}
@@ -10,6 +10,10 @@ use Rattle.races_text.specs.declared.judged.part.Part.{Part}
 -- the part of one event
 abbrev pub part_of : EventNo → Verdict → Part
 part_of e v = record { range = record { first = e; count = 1 }; verdict = v }
+
+-- two of which the one goes on where the other ends, as one
+abbrev pub joined_part : Part → Part → Part
+joined_part p q = record { range = record { first = p.range.first; count = p.range.count + q.range.count }; verdict = p.verdict }
 
 -- the events of a part
 abbrev pub events_in : Part → List EventNo

@@ -9,13 +9,14 @@ ghost use Rattle.texts.specs.Writing.{Adds};
 ghost use Rattle.races_text.specs.Named.Kept.{later_than};
 ghost use Rattle.races_text.specs.Named.Listing.{manner_of, IsSelectedOf};
 ghost use Rattle.races_text.specs.Judged.Parts.{Judges, is_shown, shown_parts};
-ghost use Rattle.races_text.specs.Judged.Telling.{told_parts, told_more};
+ghost use Rattle.races_text.specs.Judged.Summaries.{summary_of_parts, summary_with};
 ghost use Rattle.races_text.specs.Judged.Listing.{PartedReport, first_text, later_text, ended_text, begun_text, parts_text, added_text};
 ghost use Rattle.races_text.specs.declared.judged.part.Part.{Part};
 ghost use Rattle.races_text.specs.Judged.Listing.{IsRaceIn, HasParted, luck_manner, selected_events, report_text, HasAdded, HasWritten};
 
 use crate::judged::part::Part;
-use crate::judged::told::Told;
+use crate::judged::parts::{next_part, parts_of};
+use crate::judged::summary::RaceSummary;
 use crate::judged::verdicts::{Verdicts, is_luck};
 use crate::judged::{json, plain};
 use crate::named::{Form, KeptEvents, RaceQuery, Word, add_word, is_among, passed_by};
@@ -24,7 +25,7 @@ use chart::{Event, EventNo, EventRange};
 use closure::Reporter;
 use texts::{Out, TextBuffer, WriteError};
 
-/// Whose races are told, and how: each with its word, or luck alone.
+/// Whose races are listed, and how: each with its word, or luck alone.
 pub struct VerdictQuery<'a, V> {
     pub query: RaceQuery<'a>,
     pub verdicts: &'a V,
@@ -98,7 +99,7 @@ fn is_shown(luck: bool, part: &Part) -> bool
     if luck { is_luck(part.verdict) } else { true }
 }
 
-/// Adds a range behind those so far, of which this is told, where it is shown, and answers what is told then.
+/// Adds a range after those so far, of which this is the summary, if it is shown, and answers the summary of all.
 fn add_shown<W: Out>(
     text: &mut TextBuffer<'_, W>,
     query: &RaceQuery<'_>,
@@ -106,92 +107,74 @@ fn add_shown<W: Out>(
     receive: &EventNo,
     events: &[Event],
     part: &Part,
-    told: &Told,
-) -> Result<Told, WriteError>
+    summary: &RaceSummary,
+) -> Result<RaceSummary, WriteError>
     requires { IsRange part.now.range }
     ensures added { Adds W.sink text.old text.new result
-        (added_text query.now.form query.now.names.now events.now receive.now luck told.now.shown part.now) }
-    ensures told { IfOk result (λ more. more ≡ told_more told.now (is_shown luck part.now) part.now.verdict) }
+        (added_text query.now.form query.now.names.now events.now receive.now luck summary.now.shown part.now) }
+    ensures summary { IfOk result (λ more. more ≡ summary_with summary.now (is_shown luck part.now) part.now.verdict) }
 {
     if !is_shown(luck, part) {
-        return Ok(told.more(false, part.verdict));
+        return Ok(summary.more(false, part.verdict));
     }
-    if told.shown {
+    if summary.shown {
         add_later(text, query, receive, events, part)?;
     } else {
         add_first(text, query, receive, events, part)?;
     }
-    Ok(told.more(true, part.verdict))
+    Ok(summary.more(true, part.verdict))
 }
 
-/// Adds the ranges of these events that are shown, without the end, and answers what is told of all.
+/// Adds the ranges of these events that are shown, without the end, and answers the summary of all.
 fn add_begun<W: Out, V: Verdicts>(
     text: &mut TextBuffer<'_, W>,
     query: &VerdictQuery<'_, V>,
     receive: &EventNo,
     events: &[Event],
     kept: KeptEvents<'_>,
-) -> Result<Told, WriteError>
+) -> Result<RaceSummary, WriteError>
     requires { All (V.is_race query.now.verdicts.now receive.now) kept }
     ensures { (parts : List Part) × Judges (V.is_verdict query.now.verdicts.now receive.now) kept.entry result parts
         × Adds W.sink text.old text.new result (begun_text query.now.query.form query.now.query.names.now
         events.now receive.now (shown_parts query.now.luck parts))
-        × IfOk result (λ told. told ≡ told_parts query.now.luck parts) }
+        × IfOk result (λ summary. summary ≡ summary_of_parts query.now.luck parts) }
 {
-    let mut kept = kept;
-    let Some(first) = kept.next_event() else {
-        return Ok(Told::none());
-    };
-    let mut part = Part::of(&first, query.verdicts.verdict(receive, &first));
-    let mut told = Told::none();
-    while let Some(event) = kept.next_event() {
-        let verdict = query.verdicts.verdict(receive, &event);
-        if part.goes_on(&event, verdict) {
-            part.range.count += 1;
-        } else {
-            told = add_shown(
-                text,
-                &query.query,
-                query.luck,
-                receive,
-                events,
-                &part,
-                &told,
-            )?;
-            part = Part::of(&event, verdict);
-        }
+    let mut left = parts_of(query.verdicts, receive, kept);
+    let mut summary = RaceSummary::none();
+    while let Some(part) = next_part(query.verdicts, receive, &mut left) {
+        summary = add_shown(
+            text,
+            &query.query,
+            query.luck,
+            receive,
+            events,
+            &part,
+            &summary,
+        )?;
     }
-    add_shown(
-        text,
-        &query.query,
-        query.luck,
-        receive,
-        events,
-        &part,
-        &told,
-    )
+    Ok(summary)
 }
 
-/// Adds the ranges of these events that are shown, and answers what is told of all.
+/// Adds the ranges of these events that are shown, and answers the summary of all.
 fn add_parts<W: Out, V: Verdicts>(
     text: &mut TextBuffer<'_, W>,
     query: &VerdictQuery<'_, V>,
     receive: &EventNo,
     events: &[Event],
     kept: KeptEvents<'_>,
-) -> Result<Told, WriteError>
+) -> Result<RaceSummary, WriteError>
     requires { All (V.is_race query.now.verdicts.now receive.now) kept }
     ensures { (parts : List Part) × Judges (V.is_verdict query.now.verdicts.now receive.now) kept.entry result parts
         × Adds W.sink text.old text.new result (parts_text query.now.query.form query.now.query.names.now
         events.now receive.now (shown_parts query.now.luck parts))
-        × IfOk result (λ told. told ≡ told_parts query.now.luck parts) }
+        × IfOk result (λ summary. summary ≡ summary_of_parts query.now.luck parts) }
 {
-    let told = add_begun(text, query, receive, events, kept)?;
-    add_end(text, query.query.form, told.shown)?;
-    Ok(told)
+    let summary = add_begun(text, query, receive, events, kept)?;
+    add_end(text, query.query.form, summary.shown)?;
+    Ok(summary)
 }
 
-/// The earlier events of a receive that are told, of those of these ranges that are later than so many first ones.
+/// The earlier events of a receive that are listed, of those of these ranges that are later than so many first ones.
 fn selected_events<'a>(
     query: &RaceQuery<'a>,
     receive: &EventNo,
@@ -211,34 +194,34 @@ fn selected_events<'a>(
 }
 
 /// Adds the ranges of a receive's races, of the events of these ranges that are later than so many first ones, and
-/// answers what is told of them.
+/// answers their summary.
 fn add_selected<W: Out, V: Verdicts>(
     text: &mut TextBuffer<'_, W>,
     query: &VerdictQuery<'_, V>,
     receive: &EventNo,
     passed: u32,
     earlier: &[EventRange],
-) -> Result<Told, WriteError>
+) -> Result<RaceSummary, WriteError>
     requires ranges { All IsRange earlier.now }
     requires races { All (V.is_race query.now.verdicts.now receive.now) (events_in earlier.now) }
     ensures { (parted : PartedReport) × HasParted (V.is_verdict query.now.verdicts.now) (manner_of query.now.query)
         query.now.query.lines.now (record { receive = receive.now; earlier = later_than passed (events_in earlier.now) }) result parted
         × Adds W.sink text.old text.new result
         (report_text (luck_manner query.now) query.now.query.names.now query.now.query.lines.now parted)
-        × IfOk result (λ told. told ≡ told_parts query.now.luck parted.parts) }
+        × IfOk result (λ summary. summary ≡ summary_of_parts query.now.luck parted.parts) }
 {
     let kept = selected_events(&query.query, receive, passed, earlier);
     let events = events_of(query.query.lines, receive.instance);
     add_parts(text, query, receive, events, kept)
 }
 
-/// Adds the text of what is told of a receive's report, and answers what is told of its races.
+/// Adds the text of what is listed of a receive's report, and answers the summary of its races.
 fn add_report<W: Out, V: Verdicts>(
     text: &mut TextBuffer<'_, W>,
     query: &VerdictQuery<'_, V>,
     receive: EventNo,
     earlier: &[EventRange],
-) -> Result<Told, WriteError>
+) -> Result<RaceSummary, WriteError>
     requires report { IsReportIn (chart_lines query.now.query.lines.now)
         (record { receive = receive; earlier = events_in earlier.now }) }
     requires ranges { All IsRange earlier.now }
@@ -250,18 +233,18 @@ fn add_report<W: Out, V: Verdicts>(
         query.now.query.lines.now shown result parted
         × Adds W.sink text.old text.new result
         (report_text (luck_manner query.now) query.now.query.names.now query.now.query.lines.now parted)
-        × IfOk result (λ told. told ≡ told_parts query.now.luck parted.parts) }
+        × IfOk result (λ summary. summary ≡ summary_of_parts query.now.luck parted.parts) }
 {
     let passed = passed_by(&query.query, &receive, earlier);
     add_selected(text, query, &receive, passed, earlier)
 }
 
-/// Adds the text of each receive's races as they are found, and answers what is told of all.
+/// Adds the text of each receive's races as they are found, and answers the summary of all.
 fn add_found<W: Out, V: Verdicts>(
     text: &mut TextBuffer<'_, W>,
     query: &VerdictQuery<'_, V>,
     reporter: Reporter<'_>,
-) -> Result<Told, WriteError>
+) -> Result<RaceSummary, WriteError>
     requires reporter { HaveReported reporter.lines reporter.line reporter.place [] }
     requires lines { query.now.query.lines.now ≡ reporter.lines }
     requires possible { IsPossible (length query.now.query.lines.now) (chart_lines query.now.query.lines.now) }
@@ -272,23 +255,23 @@ fn add_found<W: Out, V: Verdicts>(
         query.now.query.names.now query.now.query.lines.now result }
 {
     let mut reporter = reporter;
-    let mut told = Told::none();
+    let mut summary = RaceSummary::none();
     while let Some(receive) = reporter.next() {
         let more = add_report(text, query, receive, reporter.earlier())?;
-        told = told.either(&more);
+        summary = summary.either(&more);
     }
-    Ok(told)
+    Ok(summary)
 }
 
 /// Writes the races that a reporter finds in the chart with these lines, each range with its word, or luck alone, and
-/// answers what is told of them: whether one is shown, whether there is one, and whether one isn't begun in the middle.
+/// answers their summary: whether one is shown, whether there is one, and whether one isn't begun in the middle.
 /// It takes no memory. F24: a put failed.
 #[tactic(auto, using(texts::proofs::Writes::joining, crate::proofs::NamedLemmas::FoundRaces::wrote_less, crate::proofs::NamedLemmas::FoundRaces::vacuous))]
 pub fn write_luck<W: Out, V: Verdicts>(
     query: &VerdictQuery<'_, V>,
     reporter: Reporter<'_>,
     out: &mut W,
-) -> Result<Told, WriteError>
+) -> Result<RaceSummary, WriteError>
     requires reporter { HaveReported reporter.lines reporter.line reporter.place [] }
     requires lines { query.now.query.lines.now ≡ reporter.lines }
     requires possible { IsPossible (length query.now.query.lines.now) (chart_lines query.now.query.lines.now) }
@@ -299,7 +282,7 @@ pub fn write_luck<W: Out, V: Verdicts>(
         query.now.query.names.now query.now.query.lines.now result }
 {
     let mut text = TextBuffer::new(out);
-    let told = add_found(&mut text, query, reporter)?;
+    let summary = add_found(&mut text, query, reporter)?;
     text.finish()?;
-    Ok(told)
+    Ok(summary)
 }

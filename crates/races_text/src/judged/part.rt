@@ -1,7 +1,7 @@
 //! Neighbouring events of a line that have one verdict.
 ghost use Rattle.std.specs.Prelude.{◌≡◌, true, false};
 ghost use Rattle.chart.specs.Ranges.{IsRange, is_followed_by};
-ghost use Rattle.races_text.specs.Judged.Parts.{part_of, AreApart};
+ghost use Rattle.races_text.specs.Judged.Parts.{part_of, joined_part, AreApart};
 
 use crate::named::goes_on;
 use chart::{EventNo, EventRange};
@@ -16,7 +16,7 @@ pub struct Part {
 
 impl Part {
     /// The part of one event.
-    pub(crate) fn of(event: &EventNo, verdict: Verdict) -> Part
+    pub fn of(event: &EventNo, verdict: Verdict) -> Part
         ensures { result ≡ part_of event.now verdict }
     {
         Part {
@@ -25,17 +25,33 @@ impl Part {
         }
     }
 
-    /// Whether an event with this verdict belongs to it, as the next one.
-    pub(crate) fn goes_on(&self, event: &EventNo, verdict: Verdict) -> bool
+    /// Whether another part goes on where it ends, with its verdict.
+    pub(crate) fn goes_on(&self, next: &Part) -> bool
         requires { IsRange self.now.range }
-        ensures joins { result ≡ true → (self.now.verdict ≡ verdict)
-            × (is_followed_by self.now.range (record { first = event.now; count = 1 }) ≡ true) }
-        ensures apart { result ≡ false → AreApart self.now (part_of event.now verdict) }
+        ensures joins { result ≡ true → (self.now.verdict ≡ next.now.verdict)
+            × (is_followed_by self.now.range next.now.range ≡ true) }
+        ensures apart { result ≡ false → AreApart self.now next.now }
     {
-        if self.verdict == verdict {
-            goes_on(&self.range, *event)
+        if self.verdict == next.verdict {
+            goes_on(&self.range, next.range.first)
         } else {
             false
+        }
+    }
+
+    /// Both as one.
+    pub(crate) fn with(&self, next: &Part) -> Part
+        requires range { IsRange self.now.range }
+        requires next { IsRange next.now.range }
+        requires follows { is_followed_by self.now.range next.now.range ≡ true }
+        ensures { result ≡ joined_part self.now next.now }
+    {
+        Part {
+            range: EventRange {
+                first: self.range.first,
+                count: self.range.count + next.range.count,
+            },
+            verdict: self.verdict,
         }
     }
 }

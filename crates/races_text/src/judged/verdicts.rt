@@ -1,13 +1,16 @@
-//! What is said of a race, and in which words.
-ghost use Rattle.std.specs.Prelude.{◌≡◌};
+//! The verdicts on races, and their words.
+ghost use Rattle.std.specs.Prelude.{◌≡◌, All};
 ghost use Rattle.chart.specs.declared.instance.EventNo.{EventNo};
+ghost use Rattle.chart.specs.Ranges.{IsRange, events_of};
 ghost use Rattle.race_verdicts.specs.declared.verdict.Verdict.{Verdict};
+ghost use Rattle.races_text.specs.Judged.PartsLeft.{IsFirstPart};
 ghost use Rattle.races_text.specs.Judged.Words.{verdict_text, is_luck};
 
-use chart::EventNo;
+use crate::judged::part::Part;
+use chart::{EventNo, EventRange};
 use race_verdicts::Verdict;
 
-/// What tells of each race whether it was luck.
+/// What gives each race its verdict.
 pub trait Verdicts {
     /// A receive and an earlier event of its line are a race.
     ghost is_race: { Self → EventNo → EventNo → Type 0 };
@@ -15,10 +18,12 @@ pub trait Verdicts {
     /// This is its verdict.
     ghost is_verdict: { Self → EventNo → EventNo → Verdict → Type 0 };
 
-    /// The verdict of the race of the receive and this earlier event. It takes no memory.
-    fn verdict(&self, receive: &EventNo, earlier: &EventNo) -> Verdict
-        requires { is_race self.now receive.now earlier.now }
-        ensures { is_verdict self.now receive.now earlier.now result };
+    /// The verdict of the races of the receive and the first of these neighbouring events of its line, with the events
+    /// from the first on that are known to have it. It takes no memory.
+    fn verdict_of_first(&self, receive: &EventNo, earlier: &EventRange) -> Part
+        requires range { IsRange earlier.now }
+        requires races { All (is_race self.now receive.now) (events_of earlier.now) }
+        ensures { IsFirstPart (is_verdict self.now receive.now) earlier.now result };
 }
 
 /// The word of a verdict.

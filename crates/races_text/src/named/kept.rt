@@ -2,7 +2,7 @@
 ghost use Rattle.std.specs.Prelude.{◌≡◌, ◌∷◌, [], length, filter, drop, All, IfSome, MatchOption};
 ghost use Rattle.chart.specs.Events.{ith};
 ghost use Rattle.chart.specs.Ranges.{IsRange, events_in, is_followed_by, ranges_of, range_before};
-ghost use Rattle.races_text.specs.Named.Kept.{is_kept_after, kept_after, kept_events, kept_ranges, later_than, receives};
+ghost use Rattle.races_text.specs.Named.Kept.{is_kept_after, kept_after, kept_ranges, later_than, receives};
 
 use chart::{Event, EventNo, EventRange};
 use std::marker::Model;
@@ -25,7 +25,7 @@ fn receives(event: Option<Event>) -> bool
 }
 
 /// Whether an earlier event of the line is shown, where those up to a number aren't: each, or receives alone.
-fn is_kept(events: &[Event], only: bool, passed: u32, event: &EventNo) -> bool
+pub(crate) fn is_kept(events: &[Event], only: bool, passed: u32, event: &EventNo) -> bool
     ensures { result ≡ is_kept_after events.now only passed event.now }
 {
     if event.index <= passed {
@@ -187,53 +187,5 @@ impl<'a> KeptRanges<'a> {
     {
         let first = next_kept(self.events, self.only, self.passed, &mut self.coming)?;
         Some(joined(self.events, self.only, self.passed, first, &mut self.coming))
-    }
-}
-
-/// The earlier events of a receive that are shown. A contract sees those still to come.
-#[derive(Drop)]
-pub struct KeptEvents<'a> {
-    events: &'a [Event],
-    only: bool,
-    passed: u32,
-    coming: Coming<'a>,
-}
-
-impl<'a> Model for KeptEvents<'a> {
-    ghost use Rattle.std.specs.Prelude.{List, filter};
-    ghost use Rattle.chart.specs.declared.instance.EventNo.{EventNo};
-    ghost use Rattle.races_text.specs.Named.Kept.{is_kept_after};
-
-    ghost Value = { List EventNo };
-
-    ghost view = { λ k. filter (is_kept_after k.events.now k.only k.passed) k.coming };
-}
-
-impl<'a> KeptEvents<'a> {
-    /// Those of the events of these ranges that are later than so many first ones, of the line with these events: all,
-    /// or receives alone.
-    #[tactic(auto, using(crate::proofs::NamedLemmas::LaterRaces::kept_events_later))]
-    pub fn of(
-        events: &'a [Event],
-        only: bool,
-        passed: u32,
-        earlier: &'a [EventRange],
-    ) -> KeptEvents<'a>
-        requires { All IsRange earlier.now }
-        ensures { result ≡ kept_events events.now only (later_than passed (events_in earlier.now)) }
-    {
-        KeptEvents {
-            events,
-            only,
-            passed,
-            coming: Coming::of(earlier),
-        }
-    }
-
-    /// The next one.
-    pub fn next_event(&mut self) -> Option<EventNo>
-        ensures { MatchOption result (self.old ≡ []) (λ event. self.old ≡ event ∷ self.new) }
-    {
-        next_kept(self.events, self.only, self.passed, &mut self.coming)
     }
 }

@@ -1,5 +1,5 @@
 use Rattle.cmd_races.specs.Logs.Showing.{unclaimed_text}
-use Rattle.cmd_races.proofs.LogsLemmas.TellingLemmas.{wrote_both, wrote_first}
+use Rattle.cmd_races.proofs.LogsLemmas.WritingLemmas.{wrote_both, wrote_first}
 use Rattle.cmd_races.proofs.logs.showing.write_shown.Goals as goal
 
 pub returns-in_err-write_diagnostics : goal.returns-in_err-write_diagnostics

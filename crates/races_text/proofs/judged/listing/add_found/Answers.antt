@@ -11,15 +11,15 @@ use Rattle.texts.specs.Writing.{Adds}
 use Rattle.texts.proofs.Writes.{buffers_nothing}
 use Rattle.races_text.proofs.NamedLemmas.FoundRaces.{adds_next, stops_at_next, vacuous}
 use Rattle.races_text.proofs.NamedLemmas.LaterRaces.{selected_exist, selected_append, selected_push, selected_are, last_of_all}
-use Rattle.races_text.specs.Judged.Listing.{PartedReport, luck_manner, report_text, luck_text, told_of}
-use Rattle.races_text.specs.declared.judged.told.Told.{Told}
+use Rattle.races_text.specs.Judged.Listing.{PartedReport, luck_manner, report_text, luck_text, summary_of}
+use Rattle.races_text.specs.declared.judged.summary.RaceSummary.{RaceSummary}
 use Rattle.races_text.specs.Judged.Listing.AreParted.{none as none_parted}
 use Rattle.races_text.proofs.JudgedLemmas.FoundParts.{parted_push, parted_last, parted_early, are_races}
-use Rattle.races_text.proofs.JudgedLemmas.ToldLemmas.{told_next}
+use Rattle.races_text.proofs.JudgedLemmas.SummaryLemmas.{summary_next}
 use Rattle.races_text.proofs.judged.listing.add_found.Goals as goal
 
 pub loop-receive-init : goal.loop-receive-init
-loop-receive-init g c = (refl, ([], [], [], c.requires.reporter, none, none_parted, buffers_nothing c.args.text.now, c.none-told.ensures))
+loop-receive-init g c = (refl, ([], [], [], c.requires.reporter, none, none_parted, buffers_nothing c.args.text.now, c.none-summary.ensures))
 
 pub add_report-requires-clause-report : goal.add_report-requires-clause-report
 add_report-requires-clause-report g c =
@@ -73,7 +73,7 @@ loop-receive-preserved g c =
         selected_push chart found added.0 so_far.4 its,
         parted_push verdict manner.races query.lines.now added.0 added.2 so_far.5 added.3,
         adds_next text so_far.2 added.2 so_far.6 added.4,
-        c.either-told.ensures ∙ told_next manner so_far.2 added.2 c.loop-receive.told c.in_ok-more.more so_far.7 added.5,
+        c.either-summary.ensures ∙ summary_next manner so_far.2 added.2 c.loop-receive.summary c.in_ok-more.more so_far.7 added.5,
       ),
     )
 
@@ -105,7 +105,7 @@ returns-in_err-more g c =
       parted_early verdict manner.races lines c.from_residual.result failed (parted_last verdict manner.races lines added.0 added.2 rest.0 so_far.5 added.3),
       subst (λ (ps : List PartedReport). Adds g.W.Out.sink c.args.text.now c.add_report.new.text c.from_residual.result (luck_text manner query.names.now lines ps)) (append-nil parted)
           (stops_at_next text c.from_residual.result so_far.2 added.2 [] failed so_far.6 added.4),
-      vacuous (λ (told : Told). told ≡ told_of manner parted) c.from_residual.result failed,
+      vacuous (λ (summary : RaceSummary). summary ≡ summary_of manner parted) c.from_residual.result failed,
     )
 
 pub returns : goal.returns

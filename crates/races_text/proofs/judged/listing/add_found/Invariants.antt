@@ -4,7 +4,7 @@ use Rattle.chart.specs.Reports.{ReportView}
 use Rattle.closure.specs.Reported.{HaveReported, reports_left}
 use Rattle.texts.specs.Writing.{Buffers}
 use Rattle.races_text.specs.Named.Listing.{manner_of, AreSelectedOf}
-use Rattle.races_text.specs.Judged.Listing.{PartedReport, AreParted, luck_manner, luck_text, told_of}
+use Rattle.races_text.specs.Judged.Listing.{PartedReport, AreParted, luck_manner, luck_text, summary_of}
 use Rattle.races_text.proofs.judged.listing.add_found.Given as goal
 
 -- the ranges of what is told of the reports so far were added
@@ -15,7 +15,7 @@ invariant-loop-receive g l =
     × AreSelectedOf (manner_of l.query.query).completed (chart_lines l.query.query.lines.now) reports shown
     × AreParted (g.V.Verdicts.is_verdict l.query.verdicts.now) (manner_of l.query.query) l.query.query.lines.now shown parted
     × Buffers g.W.Out.sink l.initial.text l.text (luck_text (luck_manner l.query) l.query.query.names.now l.query.query.lines.now parted)
-    × (l.told ≡ told_of (luck_manner l.query) parted))
+    × (l.summary ≡ summary_of (luck_manner l.query) parted))
 
 abbrev pub decreases-loop-receive : goal.decreases-loop-receive
 decreases-loop-receive g l = reports_left l.reporter

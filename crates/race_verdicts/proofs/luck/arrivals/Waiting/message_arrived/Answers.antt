@@ -1,6 +1,6 @@
 use Rattle.std.proofs.Common.{◌∙◌, true, false, sym}
 use Rattle.std.proofs.lemmas.Option.{slice_get-get_or}
-use Rattle.race_verdicts.proofs.LuckLemmas.ArrivalLemmas.{number_in, arrived_received, arrived_left, arrived_nothing, message_told}
+use Rattle.race_verdicts.proofs.LuckLemmas.ArrivalLemmas.{number_in, arrived_received, arrived_left, arrived_nothing, arrival_message}
 use Rattle.race_verdicts.proofs.luck.arrivals.Waiting.message_arrived.Goals as goal
 
 pub message_at-requires : goal.message_at-requires
@@ -39,7 +39,7 @@ returns-in-Some-clause-message c =
     let first = c.take_first.ensures.first lines false _ opened in
     let taken = c.take_first.ensures.taken lines false _ opened in
     let both = arrived_received lines arrivals i _ here _ _ _ _ w _ _ _ _ opened taken c.in-Some.number (sym c.in-Some.is ∙ first) in
-    message_told lines arrivals i _ here _ _ _ _ w c.requires.log c.in-Some.number both.1 _ c.message_at.ensures
+    arrival_message lines arrivals i _ here _ _ _ _ w c.requires.log c.in-Some.number both.1 _ c.message_at.ensures
 
 pub message_at-requires-in-Some-take_first : goal.message_at-requires-in-Some-take_first
 message_at-requires-in-Some-take_first c =
@@ -86,7 +86,7 @@ returns-in-Some-take_first-clause-message c =
     let left_first = c.take_first-2.ensures.first lines true w.left_lists w.left_are in
     let left_taken = c.take_first-2.ensures.taken lines true w.left_lists w.left_are in
     let both = arrived_left lines arrivals i _ here _ _ _ _ w _ _ _ _ taken left_taken none c.in-Some-take_first.number (sym c.in-Some-take_first.is ∙ left_first) in
-    message_told lines arrivals i _ here _ _ _ _ w c.requires.log c.in-Some-take_first.number both.1 _ c.message_at-in-Some-take_first.ensures
+    arrival_message lines arrivals i _ here _ _ _ _ w c.requires.log c.in-Some-take_first.number both.1 _ c.message_at-in-Some-take_first.ensures
 
 pub returns-in-None-clause-waiting : goal.returns-in-None-clause-waiting
 returns-in-None-clause-waiting c =

@@ -17,7 +17,7 @@ pub returns-then-not-would_take : goal.returns-then-not-would_take
 returns-then-not-would_take c =
     let now = c.args.self.now in
     let inside = c.self.inside in
-    let judge = subst (λ (v : JudgeView). IsJudge v (recording_view inside.recording) inside.taking inside.arrivals inside.lanes inside.order) c.self.view_is c.self.invariant in
+    let judge = subst (λ (v : JudgeView). IsJudge v (recording_view inside.recording) inside.taking inside.arrivals inside.lanes inside.order inside.runs) c.self.view_is c.self.invariant in
     let ahead = subst (λ (l : List LogLine). IsTrue c.is_ahead.result ↔ IsAhead l c.args.line c.args.send) judge.order_is c.is_ahead.ensures in
     let takes = subst (λ (r : RecordingView). IsTrue c.would_take.result ↔ WouldTake r c.args.line c.args.send) judge.taking_is c.would_take.ensures in
     logged_would_not now.recording c.args.line c.args.own c.args.send (false_not c.is_ahead.result ahead c.if-is_ahead.false) (false_not c.would_take.result takes c.if-not-would_take.true)
@@ -26,7 +26,7 @@ pub came_first-requires-clause-message : goal.came_first-requires-clause-message
 came_first-requires-clause-message c =
     let now = c.args.self.now in
     let inside = c.self.inside in
-    let judge = subst (λ (v : JudgeView). IsJudge v (recording_view inside.recording) inside.taking inside.arrivals inside.lanes inside.order) c.self.view_is c.self.invariant in
+    let judge = subst (λ (v : JudgeView). IsJudge v (recording_view inside.recording) inside.taking inside.arrivals inside.lanes inside.order inside.runs) c.self.view_is c.self.invariant in
     let send = c.requires.send in
     subst (λ (r : RecordingView). c.args.send < length r.lines) (sym judge.arrivals_are) (slice_get_within now.recording.lines c.args.send send.line send.is)
 
@@ -34,7 +34,7 @@ pub returns-then-came_first : goal.returns-then-came_first
 returns-then-came_first c =
     let now = c.args.self.now in
     let inside = c.self.inside in
-    let judge = subst (λ (v : JudgeView). IsJudge v (recording_view inside.recording) inside.taking inside.arrivals inside.lanes inside.order) c.self.view_is c.self.invariant in
+    let judge = subst (λ (v : JudgeView). IsJudge v (recording_view inside.recording) inside.taking inside.arrivals inside.lanes inside.order inside.runs) c.self.view_is c.self.invariant in
     let ahead = subst (λ (l : List LogLine). IsTrue c.is_ahead.result ↔ IsAhead l c.args.line c.args.send) judge.order_is c.is_ahead.ensures in
     let takes = subst (λ (r : RecordingView). IsTrue c.would_take.result ↔ WouldTake r c.args.line c.args.send) judge.taking_is c.would_take.ensures in
     let came = subst (λ (r : RecordingView). IsTrue c.came_first.result ↔ CameFirst r (messages.Sent c.args.send) c.args.own) judge.arrivals_are c.came_first.ensures in
@@ -44,7 +44,7 @@ pub returns-then-is_behind : goal.returns-then-is_behind
 returns-then-is_behind c =
     let now = c.args.self.now in
     let inside = c.self.inside in
-    let judge = subst (λ (v : JudgeView). IsJudge v (recording_view inside.recording) inside.taking inside.arrivals inside.lanes inside.order) c.self.view_is c.self.invariant in
+    let judge = subst (λ (v : JudgeView). IsJudge v (recording_view inside.recording) inside.taking inside.arrivals inside.lanes inside.order inside.runs) c.self.view_is c.self.invariant in
     let ahead = subst (λ (l : List LogLine). IsTrue c.is_ahead.result ↔ IsAhead l c.args.line c.args.send) judge.order_is c.is_ahead.ensures in
     let takes = subst (λ (r : RecordingView). IsTrue c.would_take.result ↔ WouldTake r c.args.line c.args.send) judge.taking_is c.would_take.ensures in
     let came = subst (λ (r : RecordingView). IsTrue c.came_first.result ↔ CameFirst r (messages.Sent c.args.send) c.args.own) judge.arrivals_are c.came_first.ensures in
@@ -55,7 +55,7 @@ pub returns : goal.returns
 returns c =
     let now = c.args.self.now in
     let inside = c.self.inside in
-    let judge = subst (λ (v : JudgeView). IsJudge v (recording_view inside.recording) inside.taking inside.arrivals inside.lanes inside.order) c.self.view_is c.self.invariant in
+    let judge = subst (λ (v : JudgeView). IsJudge v (recording_view inside.recording) inside.taking inside.arrivals inside.lanes inside.order inside.runs) c.self.view_is c.self.invariant in
     let ahead = subst (λ (l : List LogLine). IsTrue c.is_ahead.result ↔ IsAhead l c.args.line c.args.send) judge.order_is c.is_ahead.ensures in
     let takes = subst (λ (r : RecordingView). IsTrue c.would_take.result ↔ WouldTake r c.args.line c.args.send) judge.taking_is c.would_take.ensures in
     let came = subst (λ (r : RecordingView). IsTrue c.came_first.result ↔ CameFirst r (messages.Sent c.args.send) c.args.own) judge.arrivals_are c.came_first.ensures in

@@ -18,7 +18,7 @@ pub returns-in_default : goal.returns-in_default
 returns-in_default c =
     let now = c.args.self.now in
     let inside = c.self.inside in
-    let judge = subst (λ (v : JudgeView). IsJudge v (recording_view inside.recording) inside.taking inside.arrivals inside.lanes inside.order) c.self.view_is c.self.invariant in
+    let judge = subst (λ (v : JudgeView). IsJudge v (recording_view inside.recording) inside.taking inside.arrivals inside.lanes inside.order inside.runs) c.self.view_is c.self.invariant in
     let receive = subst (λ (r : RecordingView). item_at r (place_of c.args.receive) ≡ Some c.item_at-item.result) judge.same c.item_at-item.ensures in
     let earlier = subst (λ (r : RecordingView). item_at r (place_of c.args.earlier) ≡ Some c.item_at-before.result) judge.same c.item_at-before.ensures in
     verdict_begun now.lines now.recording (place_of c.args.receive) (place_of c.args.earlier) c.item_at-item.result c.item_at-before.result receive earlier (unlogged c.in_default.is)
@@ -27,7 +27,7 @@ pub returns-in_default-message : goal.returns-in_default-message
 returns-in_default-message c =
     let now = c.args.self.now in
     let inside = c.self.inside in
-    let judge = subst (λ (v : JudgeView). IsJudge v (recording_view inside.recording) inside.taking inside.arrivals inside.lanes inside.order) c.self.view_is c.self.invariant in
+    let judge = subst (λ (v : JudgeView). IsJudge v (recording_view inside.recording) inside.taking inside.arrivals inside.lanes inside.order inside.runs) c.self.view_is c.self.invariant in
     let receive = subst (λ (r : RecordingView). item_at r (place_of c.args.receive) ≡ Some c.item_at-item.result) judge.same c.item_at-item.ensures in
     let earlier = subst (λ (r : RecordingView). item_at r (place_of c.args.earlier) ≡ Some c.item_at-before.result) judge.same c.item_at-before.ensures in
     let begun = begun_of c.item_at-item.result.message c.in_default-message.not-Sent in
@@ -37,7 +37,7 @@ pub returns-then-are_before : goal.returns-then-are_before
 returns-then-are_before c =
     let now = c.args.self.now in
     let inside = c.self.inside in
-    let judge = subst (λ (v : JudgeView). IsJudge v (recording_view inside.recording) inside.taking inside.arrivals inside.lanes inside.order) c.self.view_is c.self.invariant in
+    let judge = subst (λ (v : JudgeView). IsJudge v (recording_view inside.recording) inside.taking inside.arrivals inside.lanes inside.order inside.runs) c.self.view_is c.self.invariant in
     let receive = subst (λ (r : RecordingView). item_at r (place_of c.args.receive) ≡ Some c.item_at-item.result) judge.same c.item_at-item.ensures in
     let earlier = subst (λ (r : RecordingView). item_at r (place_of c.args.earlier) ≡ Some c.item_at-before.result) judge.same c.item_at-before.ensures in
     let before = subst (λ (v : JudgeView). IsTrue c.are_before.result ↔ ((e : Place) × IsInvented v.recording e × Before (chart_lines v.lines) e (place_of c.args.receive))) c.self.view_is c.are_before.ensures in
@@ -48,7 +48,7 @@ pub returns-then-before : goal.returns-then-before
 returns-then-before c =
     let now = c.args.self.now in
     let inside = c.self.inside in
-    let judge = subst (λ (v : JudgeView). IsJudge v (recording_view inside.recording) inside.taking inside.arrivals inside.lanes inside.order) c.self.view_is c.self.invariant in
+    let judge = subst (λ (v : JudgeView). IsJudge v (recording_view inside.recording) inside.taking inside.arrivals inside.lanes inside.order inside.runs) c.self.view_is c.self.invariant in
     let receive = subst (λ (r : RecordingView). item_at r (place_of c.args.receive) ≡ Some c.item_at-item.result) judge.same c.item_at-item.ensures in
     let earlier = subst (λ (r : RecordingView). item_at r (place_of c.args.earlier) ≡ Some c.item_at-before.result) judge.same c.item_at-before.ensures in
     let before = subst (λ (v : JudgeView). IsTrue c.are_before.result ↔ ((e : Place) × IsInvented v.recording e × Before (chart_lines v.lines) e (place_of c.args.receive))) c.self.view_is c.are_before.ensures in
@@ -61,7 +61,7 @@ pub logged_verdict-requires-clause-line : goal.logged_verdict-requires-clause-li
 logged_verdict-requires-clause-line c =
     let now = c.args.self.now in
     let inside = c.self.inside in
-    let judge = subst (λ (v : JudgeView). IsJudge v (recording_view inside.recording) inside.taking inside.arrivals inside.lanes inside.order) c.self.view_is c.self.invariant in
+    let judge = subst (λ (v : JudgeView). IsJudge v (recording_view inside.recording) inside.taking inside.arrivals inside.lanes inside.order inside.runs) c.self.view_is c.self.invariant in
     let receive = subst (λ (r : RecordingView). item_at r (place_of c.args.receive) ≡ Some c.item_at-item.result) judge.same c.item_at-item.ensures in
     let earlier = subst (λ (r : RecordingView). item_at r (place_of c.args.earlier) ≡ Some c.item_at-before.result) judge.same c.item_at-before.ensures in
     let log = of_log now.lines now.recording judge.recording (place_of c.args.earlier) c.item_at-before.result earlier in
@@ -71,7 +71,7 @@ pub logged_verdict-requires-clause-own : goal.logged_verdict-requires-clause-own
 logged_verdict-requires-clause-own c =
     let now = c.args.self.now in
     let inside = c.self.inside in
-    let judge = subst (λ (v : JudgeView). IsJudge v (recording_view inside.recording) inside.taking inside.arrivals inside.lanes inside.order) c.self.view_is c.self.invariant in
+    let judge = subst (λ (v : JudgeView). IsJudge v (recording_view inside.recording) inside.taking inside.arrivals inside.lanes inside.order inside.runs) c.self.view_is c.self.invariant in
     let receive = subst (λ (r : RecordingView). item_at r (place_of c.args.receive) ≡ Some c.item_at-item.result) judge.same c.item_at-item.ensures in
     let earlier = subst (λ (r : RecordingView). item_at r (place_of c.args.earlier) ≡ Some c.item_at-before.result) judge.same c.item_at-before.ensures in
     let log = of_log now.lines now.recording judge.recording (place_of c.args.earlier) c.item_at-before.result earlier in
@@ -81,7 +81,7 @@ pub logged_verdict-requires-clause-send : goal.logged_verdict-requires-clause-se
 logged_verdict-requires-clause-send c =
     let now = c.args.self.now in
     let inside = c.self.inside in
-    let judge = subst (λ (v : JudgeView). IsJudge v (recording_view inside.recording) inside.taking inside.arrivals inside.lanes inside.order) c.self.view_is c.self.invariant in
+    let judge = subst (λ (v : JudgeView). IsJudge v (recording_view inside.recording) inside.taking inside.arrivals inside.lanes inside.order inside.runs) c.self.view_is c.self.invariant in
     let receive = subst (λ (r : RecordingView). item_at r (place_of c.args.receive) ≡ Some c.item_at-item.result) judge.same c.item_at-item.ensures in
     let earlier = subst (λ (r : RecordingView). item_at r (place_of c.args.earlier) ≡ Some c.item_at-before.result) judge.same c.item_at-before.ensures in
     let log = of_log now.lines now.recording judge.recording (place_of c.args.receive) c.item_at-item.result receive in
@@ -91,7 +91,7 @@ pub returns : goal.returns
 returns c =
     let now = c.args.self.now in
     let inside = c.self.inside in
-    let judge = subst (λ (v : JudgeView). IsJudge v (recording_view inside.recording) inside.taking inside.arrivals inside.lanes inside.order) c.self.view_is c.self.invariant in
+    let judge = subst (λ (v : JudgeView). IsJudge v (recording_view inside.recording) inside.taking inside.arrivals inside.lanes inside.order inside.runs) c.self.view_is c.self.invariant in
     let receive = subst (λ (r : RecordingView). item_at r (place_of c.args.receive) ≡ Some c.item_at-item.result) judge.same c.item_at-item.ensures in
     let earlier = subst (λ (r : RecordingView). item_at r (place_of c.args.earlier) ≡ Some c.item_at-before.result) judge.same c.item_at-before.ensures in
     let before = subst (λ (v : JudgeView). IsTrue c.are_before.result ↔ ((e : Place) × IsInvented v.recording e × Before (chart_lines v.lines) e (place_of c.args.receive))) c.self.view_is c.are_before.ensures in

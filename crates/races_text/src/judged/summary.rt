@@ -1,13 +1,13 @@
-//! What is told beside the text of races that are asked for.
+//! What is reported beside the text of races that are asked for.
 ghost use Rattle.std.specs.Prelude.{◌≡◌};
-ghost use Rattle.races_text.specs.Judged.Telling.{is_claimed, told_none, told_more, told_either, claims_none};
+ghost use Rattle.races_text.specs.Judged.Summaries.{is_claimed, summary_of_none, summary_with, summary_of_both, claims_none};
 
 use crate::named::either;
 use race_verdicts::Verdict;
 
-/// What is told of the races that are asked for.
+/// What is reported of the races that are asked for.
 #[derive(Clone, Copy, Debug, PartialEq, Eq)]
-pub struct Told {
+pub struct RaceSummary {
     /// Whether one is shown.
     pub shown: bool,
     /// Whether there is one, shown or not.
@@ -23,34 +23,34 @@ fn is_claimed(verdict: Verdict) -> bool
     !matches!(verdict, Verdict::BegunInTheMiddle)
 }
 
-impl Told {
-    /// What is told of no race.
-    pub(crate) fn none() -> Told
-        ensures { result ≡ told_none }
+impl RaceSummary {
+    /// The summary of no race.
+    pub(crate) fn none() -> RaceSummary
+        ensures { result ≡ summary_of_none }
     {
-        Told {
+        RaceSummary {
             shown: false,
             any: false,
             claimed: false,
         }
     }
 
-    /// What is told where one more range of this verdict comes behind, which is shown or isn't.
-    pub(crate) fn more(&self, shows: bool, verdict: Verdict) -> Told
-        ensures { result ≡ told_more self.now shows verdict }
+    /// The summary with one more range of this verdict, which is shown or isn't.
+    pub(crate) fn more(&self, shows: bool, verdict: Verdict) -> RaceSummary
+        ensures { result ≡ summary_with self.now shows verdict }
     {
-        Told {
+        RaceSummary {
             shown: either(self.shown, shows),
             any: true,
             claimed: either(self.claimed, is_claimed(verdict)),
         }
     }
 
-    /// What is told of the races of both.
-    pub(crate) fn either(&self, other: &Told) -> Told
-        ensures { result ≡ told_either self.now other.now }
+    /// The summary of the races of both.
+    pub(crate) fn either(&self, other: &RaceSummary) -> RaceSummary
+        ensures { result ≡ summary_of_both self.now other.now }
     {
-        Told {
+        RaceSummary {
             shown: either(self.shown, other.shown),
             any: either(self.any, other.any),
             claimed: either(self.claimed, other.claimed),

@@ -12,7 +12,7 @@ use Rattle.races_text.proofs.JudgedLemmas.RaceLemmas.{race_is}
 use Rattle.schedule.specs.Meaning.{meaning}
 use Rattle.cmd_races.specs.Schedules.Makers.{RunView}
 use Rattle.cmd_races.specs.Schedules.Showing.{run_of, verdict_in, luck_alone}
-use Rattle.cmd_races.proofs.schedules.showing.show_told.Goals as goal
+use Rattle.cmd_races.proofs.schedules.showing.show_lucky.Goals as goal
 
 pub returns-in_err-closure : goal.returns-in_err-closure
 returns-in_err-closure g c =

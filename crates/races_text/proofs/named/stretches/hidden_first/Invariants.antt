@@ -1,0 +1,7 @@
+use Rattle.std.proofs.Common.{◌≡◌, ℕ, ◌<◌, false}
+use Rattle.races_text.specs.Named.Kept.{is_kept_after}
+use Rattle.races_text.specs.Named.Stretches.{event_in}
+use Rattle.races_text.proofs.named.stretches.hidden_first.Given as goal
+
+abbrev pub invariant-loop-number : goal.invariant-loop-number
+invariant-loop-number l = (k : ℕ) → k < l.number → is_kept_after l.events l.only l.passed (event_in l.range k) ≡ false
