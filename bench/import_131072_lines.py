@@ -4,9 +4,11 @@ lines of the chart are full. Each time is the median of five runs, with what is 
 A token is passed round the hosts. The log says it in plain words, with an id for each message; by an expression; in the
 words of a log for ShiViz, with a clock of three hosts in each line; and in a file for each host. In the log that begins
 in the middle, of four rounds less, the first host begins later than the others: there are cycles, and sends are invented.
-Last comes a log for ShiViz of 8,192 lines whose clocks alone tell what is a message."""
+Last come logs for ShiViz whose clocks alone tell what is a message: 8,192 lines of the token, and drawn ones of five
+hosts, in which 5,000 events of 10,000, or 8,000 of 100,000, send to another host."""
 
 import os
+import random
 import sys
 import tempfile
 
@@ -47,6 +49,24 @@ def timed_lines(rounds):
         yield f"host{host} {{{shown}}} {'token ' + str(turn) if is_send else 'takes it'}\n"
 
 
+def drawn_lines(count, hosts, messages):
+    """So many events of these hosts, by clocks: so many of them send to another host, which takes the message later."""
+    draw = random.Random(1)
+    known = [{} for _ in range(hosts)]
+    waiting = [[] for _ in range(hosts)]
+    sends = set(draw.sample(range(count), messages))
+    for number in range(count):
+        host = draw.randrange(hosts)
+        clock = known[host]
+        if waiting[host] and number not in sends:
+            clock |= {p: max(n, clock.get(p, 0)) for p, n in waiting[host].pop(0).items()}
+        clock[host] = clock.get(host, 0) + 1
+        if number in sends:
+            waiting[(host + draw.randrange(1, hosts)) % hosts].append(dict(clock))
+        shown = ", ".join(f'"host{p}":{n}' for p, n in clock.items())
+        yield f"host{host} {{{shown}}} step {number}\n"
+
+
 def clocked_line(host, is_send, peer, turn):
     words = f"out token to host{peer}" if is_send else f"in token from host{peer}"
     clock = ", ".join(f'"host{(host - k) % HOSTS}":{2 * (turn // HOSTS) + 1}' for k in range(3))
@@ -60,11 +80,15 @@ def in_one(folder, name, line):
     return [path]
 
 
-def in_clocks(folder, name, rounds):
+def in_clocks(folder, name, lines):
     path = os.path.join(folder, name)
     with open(path, "w", encoding="ascii") as file:
-        file.writelines(timed_lines(rounds))
+        file.writelines(lines)
     return [path]
+
+
+def by_clocks(folder, count, messages):
+    return ["--from", "shiviz"], in_clocks(folder, f"drawn{count}", drawn_lines(count, 5, messages))
 
 
 def by_host(folder, name, rounds, missing):
@@ -88,7 +112,9 @@ def main(mscview):
             "for ShiViz": (["--from", "shiviz"], in_one(folder, "clocked", clocked_line)),
             "a file for each host": (["--from", "log"], by_host(folder, "host", ROUNDS, 0)),
             "begun in the middle": (["--from", "log"], by_host(folder, "later", ROUNDS - 4, 3)),
-            "8,192 lines by clocks": (["--from", "shiviz"], in_clocks(folder, "timed", 128)),
+            "8,192 lines by clocks": (["--from", "shiviz"], in_clocks(folder, "timed", timed_lines(128))),
+            "10,000 lines by clocks": by_clocks(folder, 10_000, 5_000),
+            "100,000 lines by clocks": by_clocks(folder, 100_000, 8_000),
         }
         for name, (words, paths) in logs.items():
             seen = timed(mscview, "import", *words, *paths)

@@ -21,6 +21,8 @@ from mended_charts import is_before, is_mended, mended, moved, race_pairs, searc
 
 FEW = 20
 FEW_PAIRS = 60
+SHOWN = 10
+TRIED_EVENTS = 20_000_000
 
 
 def run(*words):
@@ -89,26 +91,28 @@ def message_words(chart, name, message):
     )
 
 
-def change_lines(chart, races, name, message):
+def change_lines(chart, races, name, message, verbose):
     """What is told of a message: where it is, and which races go, stay and come."""
     new = with_message(chart, *message, name=name)
     news = race_pairs(new, events_before(new))
     there = {(moved(e, *message), moved(r, *message)): (e, r) for e, r in races}
     gone = {pair for place, pair in there.items() if place not in news}
-    return (
-        message_words(chart, name, message)
-        + race_lines(chart, gone, b"goes")
-        + race_lines(new, {pair for pair in news if pair in there}, b"stays")
-        + race_lines(new, {pair for pair in news if pair not in there}, b"comes")
-    )
+    stay, come = {pair for pair in news if pair in there}, {pair for pair in news if pair not in there}
+    place = message_words(chart, name, message)
+    goes, comes = race_lines(chart, gone, b"goes"), race_lines(new, come, b"comes")
+    if verbose:
+        return place + goes + race_lines(new, stay, b"stays") + comes
+    shown = (goes + comes).splitlines(keepends=True)[:SHOWN]
+    return place + b"".join(shown) + b"race pairs: %d go, %d stay, %d come\n" % (len(gone), len(stay), len(come))
 
 
-def wanted(chart, races, found, sends, e, r):
+def wanted(chart, races, found, sends, e, r, verbose):
     """Of a race what is answered: the status, the output, and what is told; with the word for it."""
     word, what = mended(chart, found, sends, e, r)
     if word == "message":
         name = free_name(chart)
-        return word, (0, chart_text(with_message(chart, *what, name=name)), change_lines(chart, races, name, what))
+        new = chart_text(with_message(chart, *what, name=name))
+        return word, (0, new, change_lines(chart, races, name, what, verbose))
     way = b" comes behind the receive's send\n" if word == "crossed" else b" is on its way\n"
     ends = chart.names[e[0]], chart.names[sends[r][0]]
     told = b"no message from %s to %s does: " % ends + event_words(chart, chart.lines[e[0]], what) + way
@@ -123,10 +127,11 @@ def fault_of_race(programs, file, chart, races, found, sends, pair, seen):
     """What is wrong with the answer of a race, or nothing."""
     mscrun, mscview, room = programs
     e, r = pair
-    word, answer = wanted(chart, races, found, sends, e, r)
+    for options in ([], ["--verbose"]):
+        word, answer = wanted(chart, races, found, sends, e, r, bool(options))
+        if run(mscview, "mend", *options, file, *words_of(chart, e, r)) != answer:
+            return f"the answer {options}"
     seen[word] += 1
-    if run(mscview, "mend", file, *words_of(chart, e, r)) != answer:
-        return "the answer"
     if word == "message":
         new = room / "mended"
         new.write_bytes(answer[1])
@@ -166,13 +171,19 @@ def best(chart):
     return chosen, len(races)
 
 
-def all_mended(chart):
-    """What `mend --all` answers, and how many messages it adds."""
-    told, added = b"", 0
+def all_mended(chart, limit=None):
+    """What `mend --all` answers with such a limit, how many messages it adds, and how many pairs it tries."""
+    if limit is None:
+        limit = TRIED_EVENTS // (sum(map(len, chart.lines)) + 1)
+    told, added, tried = b"", 0, 0
     while True:
         chosen, left = best(chart)
+        if left > limit - tried:
+            told += b"stopped after %d: %d races are left\n" % (tried, left)
+            return (1, chart_text(chart), told), added, tried
+        tried += left
         if chosen is None:
-            return (int(left > 0), chart_text(chart), told), added
+            return (int(left > 0), chart_text(chart), told), added, tried
         e, r, what, new = chosen
         told += b"race %s %s %s: " % words_of(chart, e, r) + message_words(chart, free_name(chart), what)
         chart, added = new, added + 1
@@ -201,12 +212,15 @@ def try_file(programs, name, file, seen):
                 if fault:
                     return f"{fault} of {words_of(chart, (p, j), (p, i))}"
     if len(races) <= FEW_PAIRS:
-        answer, added = all_mended(chart)
+        answer, added, tried = all_mended(chart)
         seen["mended whole"] += answer[0] == 0
         seen["races left"] += answer[0] == 1
         seen["most messages"] = max(seen["most messages"], added)
         if run(mscview, "mend", "--all", file) != answer:
             return "mend --all"
+        for limit in {0, tried // 2, max(tried - 1, 0), tried}:
+            if run(mscview, "mend", "--all", "--limit", str(limit), file) != all_mended(chart, limit)[0]:
+                return f"mend --all --limit {limit}"
     return ""
 
 

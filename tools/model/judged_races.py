@@ -121,7 +121,7 @@ def is_unclaimed(made: LogChart, shown: Shown) -> bool:
 
 def diagnostics_of(made: LogChart, shown: Shown) -> bytes:
     """What standard error has."""
-    lines = diagnostics(made) + [UNCLAIMED] * is_unclaimed(made, shown)
+    lines = diagnostics(made, takes=True) + [UNCLAIMED] * is_unclaimed(made, shown)
     return "".join(line + "\n" for line in lines).encode("utf-8", "surrogateescape")
 
 

@@ -7,7 +7,7 @@ touches.
 import re
 from collections.abc import Callable
 
-from logs import Log, LoggedEvent, kind_of
+from logs import Log, LoggedEvent, Pattern, kind_of
 from names import Refused
 from shiviz_logs import Clocked
 
@@ -16,9 +16,20 @@ def identity_of(found: re.Match) -> str | None:
     return found.groupdict().get("id") or None
 
 
+def takes_of(text: str) -> tuple[Pattern, ...]:
+    """What a receive would have taken: words PEER:NAMES, before which `takes=` may stand."""
+    parted = [word.removeprefix("takes=").partition(":") for word in text.split()]
+    return tuple(Pattern(peer, names) for peer, _, names in parted if peer and names)
+
+
+def is_arrival(found: re.Match) -> bool:
+    return found.groupdict().get("arrive") is not None
+
+
 def logged_event(found: re.Match) -> list[LoggedEvent] | None:
-    kind = kind_of(found["dir"])
-    return [LoggedEvent(found["host"], kind, found["peer"], found["name"], identity_of(found))] if kind else None
+    kind = "arrive" if is_arrival(found) else kind_of(found["dir"])
+    takes = takes_of(found.groupdict().get("takes") or "")
+    return [LoggedEvent(found["host"], kind, found["peer"], found["name"], identity_of(found), takes)] if kind else None
 
 
 def logged_capture(found: re.Match) -> list[LoggedEvent] | None:
@@ -50,13 +61,21 @@ def feeds_of(text: str) -> int:
     return count
 
 
+ORDERED = {
+    "clock": ("host", "clock", "event"),
+    "capture": ("src", "dst", "name"),
+    "event": ("host", "dir", "peer", "name"),
+}
+
+
 def lacks(there: set[str]) -> str:
-    """The first group that isn't there of the set that is meant."""
+    """The first group that isn't there of the set that is meant, or one of each of two sets."""
+    first = {kind: next((name for name in names if name not in there), "") for kind, names in ORDERED.items()}
     if there & {"clock", "event"}:
-        meant = ["host", "clock", "event"]
-    else:
-        meant = ["src", "dst", "name"] if there & {"src", "dst"} else ["host", "dir", "peer", "name"]
-    return next(name for name in meant if name not in there)
+        return first["clock"]
+    if there & {"src", "dst"} and there & {"host", "dir", "peer"} and "name" in there:
+        return f"{first['capture']} (for src, dst, name) or {first['event']} (for host, dir, peer, name)"
+    return first["capture"] if there & {"src", "dst"} else first["event"]
 
 
 class Expression:
@@ -81,7 +100,8 @@ class Expression:
         found = self.found.search(lines)
         if not found or "\n" in lines[: found.start()]:
             return None
-        return found if all(found[name] is not None for name in self.groups) else None
+        needed = self.groups - {"dir"} if is_arrival(found) else self.groups
+        return found if all(found[name] is not None for name in needed) else None
 
 
 def touched(found: re.Match) -> int:

@@ -14,6 +14,7 @@ LINE = re.compile(
 SENDS = ("send", "sent", "tx", "out", "->", ">")
 RECEIVES = ("recv", "receive", "received", "rx", "in", "<-", "<")
 TAKES = re.compile(r"(?:^|\s)takes=([^\s:]+):(\S+)")
+MISSPELLED = re.compile(r"(?:^|\s)takes=(?![^\s:]+:\S)")
 
 
 class Pattern(NamedTuple):
@@ -83,12 +84,14 @@ class LoggedEvent(NamedTuple):
 @dataclass
 class Log:
     """
-    The lines that match, in order, the places of those that didn't, how many lines there are, hosts that come first, the
-    hosts that words of the log stand for, whether messages were captured, and whether clocks told of some.
+    The lines that match, in order, the places of those that didn't, and of receives with words `takes=` that are
+    spelled otherwise, how many lines there are, hosts that come first, the hosts that words of the log stand for,
+    whether messages were captured, and whether clocks told of some.
     """
 
     entries: list[Entry] = field(default_factory=list)
     unmatched: list[str] = field(default_factory=list)
+    misspelled: list[str] = field(default_factory=list)
     line_count: int = 0
     hosts: list[str] = field(default_factory=list)
     peers: dict[str, str] = field(default_factory=dict)
@@ -106,6 +109,7 @@ class Log:
             return
         host, _, peer, name, identity, rest = said.groups()
         takes = tuple(Pattern(*two) for two in TAKES.findall(rest or ""))
+        self.misspelled += [place] if kind == "receive" and MISSPELLED.search(rest or "") else []
         self.add_logged(LoggedEvent(host, kind, peer, name, identity, takes), place)
 
     def add_logged(self, event: LoggedEvent, place: str) -> None:

@@ -1,24 +1,29 @@
 -- The recording of what texts say, by that of its lines by names, and what it keeps.
-use Rattle.std.proofs.Common.{◌≡◌, ℕ, ◌≤◌, List, length, map, refl, sym, ap, ◌∙◌, subst, subst₂, arith, Ok, Err}
+use Rattle.std.proofs.Common.{◌≡◌, ℕ, ◌≤◌, List, Option, Some, length, map, refl, sym, ap, ◌∙◌, subst, subst₂, arith, Ok, Err}
 use Rattle.std.specs.Prelude.{Result, AllPairs, IfOk, vec_len}
 use Rattle.std.proofs.lemmas.List.{length-map}
 use Rattle.log_chart.specs.Cycles.Freeing.{Settles, done, turn, freed}
 use Rattle.log_chart.proofs.CyclesLemmas.SettleLemmas.{freed_length}
 use Rattle.log_chart.proofs.NamedLemmas.EntryLemmas.{entries_whole}
 use Rattle.log_chart.specs.Named.Logs.{begun}
+use Rattle.regex.specs.Bytes.{regex_pattern}
+use Rattle.log_formats.proofs.PatternsLemmas.ObservingLemmas as patterns
+use Rattle.log_formats.specs.Patterns.Observing.{pattern_observed}
+use Rattle.log_formats.specs.declared.patterns.expression.Expression.{Expression}
 use Rattle.log_lines.specs.Events.{LoggedEventView}
 use Rattle.log_lines.specs.Names.Naming.{NamedView}
 use Rattle.log_lines.proofs.TakesLemmas.CountLemmas.{words_whole}
 use Rattle.log_lines.proofs.TakesLemmas.ObservationLemmas.{observed_pairs}
-use Rattle.log_lines.specs.Takes.Observations.{ObservationsView}
+use Rattle.log_lines.specs.Takes.Observations.{ObservationsView, observations_view}
+use Rattle.log_lines.specs.declared.takes.observations.Observations.{Observations}
 use Rattle.log_chart.proofs.OrderLemmas.{matched_length}
 use Rattle.log_chart.specs.declared.entry.Entry.{Entry}
 use Rattle.race_verdicts.specs.Recordings.{TakenView, words_view}
-use Rattle.cmd_import_log.specs.Drawing.{beside, named_in, IsNamedDrawing, IsLog, IsRefused}
+use Rattle.cmd_import_log.specs.Drawing.{beside_with, named_in, IsNamedDrawing, IsLog, IsRefused}
 use Rattle.cmd_import_log.specs.Entries.{host_event_of, entries_in}
 use Rattle.cmd_import_log.specs.Options.{FormView, Plain, Pattern, ShiViz, OptionsView}
-use Rattle.cmd_import_log.specs.Reading.{LogView}
-use Rattle.cmd_import_log.specs.Recording.{is_known, observed_of, lent_of, IsRecorded, IsNamedRecording, RecordsNamed, IsRecordingOf, Records}
+use Rattle.cmd_import_log.specs.Reading.{LogView, IsKept}
+use Rattle.cmd_import_log.specs.Recording.{is_known, Observes, lent_of, IsRecorded, IsNamedRecording, RecordsNamed, IsRecordingOf, Records}
 use Rattle.cmd_import_log.specs.declared.drawing.Beside.{Beside}
 use Rattle.cmd_import_log.specs.declared.drawing.LogDrawing.{LogDrawing}
 use Rattle.cmd_import_log.specs.declared.error.LogImportError.{LogImportError}
@@ -36,15 +41,17 @@ named_as b n o logged observed r settled d same its recorded known =
     let built = subst (IsOfEntries settled b n) (sym same) its in
     record { drawing = built.0; recorded = subst (λ (e : List Entry). IsRecorded o logged e observed r) (sym built.1) recorded; known = known }
 
-module _ (o : OptionsView) (texts : List (List ℕ)) (log : LogView) (is_log : IsLog o texts log) where
-  pub records_as : (result : Result LogRecording LogImportError) (b : Beside) (n : NamedView) (logged : List LoggedEventView) → b ≡ beside log → n ≡ named_in o log → logged ≡ log.read.logged
-      → RecordsNamed result b n o logged (observed_of o.form o texts) → Records result o texts
+module _ (o : OptionsView) (texts : List (List ℕ)) (log : LogView) (is_log : IsLog o texts log) (observed : ObservationsView) (observes : Observes o.form o texts observed) where
+  pub records_as : (result : Result LogRecording LogImportError) (b : Beside) (n : NamedView) (logged : List LoggedEventView) → b ≡ beside_with observed.misspelled log → n ≡ named_in o log → logged ≡ log.read.logged
+      → RecordsNamed result b n o logged observed → Records result o texts
   records_as (Ok r) b n logged be ne se recording = record {
     log = log;
     is_log = is_log;
+    observed = observed;
+    observes = observes;
     recording =
-        subst (λ (l : List LoggedEventView). IsNamedRecording (beside log) (named_in o log) o l (observed_of o.form o texts) r) se
-        (subst₂ (λ (x : Beside) (y : NamedView). IsNamedRecording x y o logged (observed_of o.form o texts) r) be ne recording);
+        subst (λ (l : List LoggedEventView). IsNamedRecording (beside_with observed.misspelled log) (named_in o log) o l observed r) se
+        (subst₂ (λ (x : Beside) (y : NamedView). IsNamedRecording x y o logged observed r) be ne recording);
   }
   records_as (Err Memory) b n logged be ne se refused = tt
   records_as (Err (BadPattern place fault)) b n logged be ne se refused = absurd refused
@@ -53,6 +60,13 @@ module _ (o : OptionsView) (texts : List (List ℕ)) (log : LogView) (is_log : I
   records_as (Err Instances) b n logged be ne se refused = record { log = log; is_log = is_log; refused = subst (λ (y : NamedView). IsRefused y Instances) ne refused }
   records_as (Err (ToItself place)) b n logged be ne se refused = record { log = log; is_log = is_log; refused = subst (λ (y : NamedView). IsRefused y (ToItself place)) ne refused }
   records_as (Err (LineFull name)) b n logged be ne se refused = record { log = log; is_log = is_log; refused = subst (λ (y : NamedView). IsRefused y (LineFull name)) ne refused }
+
+-- what is told of the matches of the expression that is kept is what the texts tell
+pub observes_as : {E : Type 0} (text : List ℕ) (o : OptionsView) (texts : List (List ℕ)) (kept : Option Expression) (e : Expression) (result : Result Observations E) → kept ≡ Some e → IsKept (Pattern text) kept
+    → IfOk result (λ observed. observations_view observed ≡ pattern_observed e.groups e.more (regex_pattern e.regex) o.peers o.range texts)
+    → IfOk result (λ observed. Observes (Pattern text) o texts (observations_view observed))
+observes_as text o texts kept e (Ok observed) is its same = (e, subst (IsKept (Pattern text)) is its, same)
+observes_as text o texts kept e (Err failed) is its same = tt
 
 -- there are words for each line
 settled_length : (log out : List Entry) → Settles log out → length out ≡ length log
@@ -75,14 +89,17 @@ words_for_all o texts r its =
     ∙ sym (ap length recorded.lines)
 
 -- what receives would have taken stands by their lines
-observed_rises : (form : FormView) (o : OptionsView) (texts : List (List ℕ)) → AllPairs (λ a b. a.line ≤ b.line) (observed_of form o texts).taken
-observed_rises Plain o texts = observed_pairs o.peers o.range texts
-observed_rises (Pattern text) o texts = λ i j d before within. absurd (omega (arith, within))
-observed_rises ShiViz o texts = λ i j d before within. absurd (omega (arith, within))
+abbrev AreRising : ObservationsView → Type 0
+AreRising t = AllPairs (λ a b. a.line ≤ b.line) t.taken
+
+observed_rises : (form : FormView) (o : OptionsView) (texts : List (List ℕ)) (observed : ObservationsView) → Observes form o texts observed → AreRising observed
+observed_rises Plain o texts observed is = subst AreRising (sym is) (observed_pairs o.peers o.range texts)
+observed_rises (Pattern text) o texts observed (e, its, is) = subst AreRising (sym is) (patterns.observed_pairs e.groups e.more (regex_pattern e.regex) o.peers o.range texts)
+observed_rises ShiViz o texts observed is = subst AreRising (sym is) (λ i j d before within. absurd (omega (arith, within)))
 
 pub taken_rises : (o : OptionsView) (texts : List (List ℕ)) (r : LogRecording) → IsRecordingOf o texts r → AllPairs (λ a b. a.line ≤ b.line) (lent_of r).taken
 taken_rises o texts r its =
-    subst (λ (l : List TakenView). AllPairs (λ a b. a.line ≤ b.line) l) (sym its.recording.recorded.taken) (observed_rises o.form o texts)
+    subst (λ (l : List TakenView). AllPairs (λ a b. a.line ≤ b.line) l) (sym its.recording.recorded.taken) (observed_rises o.form o texts its.observed its.observes)
 
 -- the same of what was answered
 pub records_words : (o : OptionsView) (texts : List (List ℕ)) (result : Result LogRecording LogImportError) → Records result o texts → IfOk result (λ r. vec_len r.words ≡ vec_len r.lines)

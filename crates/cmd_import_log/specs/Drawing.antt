@@ -1,6 +1,5 @@
 -- The chart of a log, and what is told of it.
-use Rattle.std.specs.Prelude.{◌≡◌, ℕ, Bool, true, false, ◌<◌, ◌≤◌, ◌⊎◌, List, [], ◌∷◌, ◌++◌, length, map, Option, None, Some, bytes_eq, Result, Ok, Err, if◌then◌else◌}
-use Rattle.std.specs.List.{list_any}
+use Rattle.std.specs.Prelude.{◌≡◌, ℕ, true, false, ◌<◌, ◌≤◌, ◌⊎◌, List, [], ◌∷◌, ◌++◌, length, map, Option, None, Some, Result, Ok, Err, if◌then◌else◌}
 use Rattle.chart.specs.Charts.{chart_lines, IsPossible}
 use Rattle.diagram_labels.specs.Renaming.{renamed_view, renamed_from}
 use Rattle.diagram_labels.specs.Labels.{Labelling}
@@ -22,6 +21,7 @@ use Rattle.log_chart.specs.HostLines.{host_lines}
 use Rattle.log_chart.specs.declared.entry.Entry.{Entry}
 use Rattle.log_chart.specs.declared.entry.Place.{Place as EntryPlace}
 use Rattle.texts.specs.Instances.{name_at}
+use Rattle.cmd_import_log.specs.Alike.{has_line, with_alike}
 use Rattle.cmd_import_log.specs.Entries.{entries_in, names_in, fault_in}
 use Rattle.cmd_import_log.specs.Options.{OptionsView}
 use Rattle.cmd_import_log.specs.Reading.{LogView, has_receive, Says, IsBadForm}
@@ -42,13 +42,20 @@ log_overtaking o = record { line = log_place o.line; overtaken = log_place o.ove
 abbrev pub renames_of : Labelling → List (List ℕ × List ℕ)
 renames_of l = renamed_from [] l.labels l.names
 
--- what was read of a log beside its events
-abbrev pub beside : LogView → Beside
-beside log = record { lines = log.lines; others = log.read.others; is_captured = log.is_captured; is_timed = log.is_timed }
+-- what was read of a log beside its events, where these receives have words for what they would have taken that are
+-- spelled otherwise
+abbrev pub beside_with : Option Others → LogView → Beside
+beside_with misspelled log = record {
+  lines = log.lines;
+  others = log.read.others;
+  is_captured = log.is_captured;
+  is_timed = log.is_timed;
+  misspelled = misspelled;
+}
 
--- a host has a line of its own
-abbrev pub has_line : List NamedLine → List ℕ → Bool
-has_line lines name = list_any (λ line. bytes_eq line.host name) lines
+-- the same, where such words don't count
+abbrev pub beside : LogView → Beside
+beside log = beside_with None log
 
 -- with those of these hosts that have none
 abbrev pub with_lineless : List NamedLine → List (List ℕ) → List (List ℕ) → List (List ℕ)
@@ -62,8 +69,10 @@ pub record AreDiagnosticsOf (b : Beside) (n : NamedView) (called : List (List �
   pub lines : diagnostics.lines ≡ b.lines
   pub events : diagnostics.events ≡ length n.lines
   pub lineless : diagnostics.lineless.items ≡ with_lineless n.lines [] n.hosts.names
+  pub alike : diagnostics.alike.items ≡ with_alike n.lines n.hosts.names [] (with_lineless n.lines [] n.hosts.names)
   pub others : diagnostics.others ≡ b.others
   pub own : diagnostics.own ≡ n.own
+  pub misspelled : diagnostics.misspelled ≡ b.misspelled
   pub captured : diagnostics.is_captured ≡ b.is_captured
   pub timed : diagnostics.is_timed ≡ b.is_timed
   pub lost : diagnostics.lost.items ≡ map log_place built.lost.items

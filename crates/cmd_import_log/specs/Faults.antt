@@ -1,5 +1,5 @@
 -- What is told behind F39: why an expression isn't read, in the words of Rust's regex crate, or which group it lacks.
-use Rattle.std.specs.Prelude.{ℕ, ◌++◌, List, codes}
+use Rattle.std.specs.Prelude.{ℕ, ◌++◌, List, None, Some, codes}
 use Rattle.log_formats.specs.declared.patterns.expression.Fault.{Fault}
 use Rattle.log_formats.specs.declared.patterns.expression.Fault.TheVariants.{Unreadable, TooLarge, Lacks}
 use Rattle.log_formats.specs.declared.patterns.missing.Group.{Group}
@@ -67,8 +67,14 @@ group_word groups.Event = codes "event"
 unfoldable pub lacks_text : List ℕ → List ℕ
 lacks_text word = codes "no group is named " ++ (word ++ codes "\n")
 
+-- that no group has one of these names, one for each of two sets that may be meant
+unfoldable pub lacks_either_text : List ℕ → List ℕ → List ℕ
+lacks_either_text word besides =
+    codes "no group is named " ++ (word ++ (codes " (for src, dst, name) or " ++ (besides ++ codes " (for host, dir, peer, name)\n")))
+
 -- what is wrong with an expression
 unfoldable pub fault_text : Fault → List ℕ
 fault_text (Unreadable kind) = message_of kind ++ codes "\n"
 fault_text TooLarge = codes "the expression is too large\n"
-fault_text (Lacks group) = lacks_text (group_word group)
+fault_text (Lacks group None) = lacks_text (group_word group)
+fault_text (Lacks group (Some besides)) = lacks_either_text (group_word group) (group_word besides)

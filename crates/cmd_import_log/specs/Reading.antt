@@ -81,6 +81,13 @@ Says Plain range texts log = log ≡ plain_log range texts
 Says (Pattern text) range texts log = IsReadBy text range texts log
 Says ShiViz range texts log = log ≡ clocked_log range texts
 
+-- the expression is kept by which the texts are read, if they are read by one
+abbrev pub IsKept : FormView → Option Expression → Type 0
+IsKept Plain e = Unit {0}
+IsKept (Pattern text) None = ⊥
+IsKept (Pattern text) (Some e) = IsExpression text e
+IsKept ShiViz e = Unit {0}
+
 -- a text is no expression, since it has this fault at this place; or memory ran out
 abbrev pub IsBadExpression : List ℕ → LogImportError → Type 0
 IsBadExpression text errors.Memory = Unit {0}

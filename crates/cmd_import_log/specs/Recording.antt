@@ -1,5 +1,9 @@
 -- The recording of a log: its lines as its chart has them, and what it tells beside them (this project's profile of logs).
 use Rattle.std.specs.Prelude.{◌≡◌, ℕ, ◌&&◌, Bool, false, not, List, length, map, Result, Ok, Err}
+use Rattle.regex.specs.Bytes.{regex_pattern}
+use Rattle.log_formats.specs.Patterns.Expressions.{IsExpression}
+use Rattle.log_formats.specs.Patterns.Observing.{pattern_observed}
+use Rattle.log_formats.specs.declared.patterns.expression.Expression.{Expression}
 use Rattle.log_lines.specs.Events.{LoggedEventView}
 use Rattle.log_lines.specs.Names.Naming.{NamedView}
 use Rattle.log_lines.specs.Takes.Arrivals.{arrivals_in}
@@ -10,7 +14,7 @@ use Rattle.log_chart.specs.Matching.{matched}
 use Rattle.log_chart.specs.declared.entry.Entry.{Entry}
 use Rattle.race_verdicts.specs.Recordings.{RecordingView, words_view, taken_view}
 use Rattle.race_verdicts.specs.declared.recording.Arrival.{Arrival}
-use Rattle.cmd_import_log.specs.Drawing.{beside, named_in, IsNamedDrawing, IsLog, IsRefused, IsRefusalOf}
+use Rattle.cmd_import_log.specs.Drawing.{beside_with, named_in, IsNamedDrawing, IsLog, IsRefused, IsRefusalOf}
 use Rattle.cmd_import_log.specs.Options.{FormView, Plain, Pattern, ShiViz, OptionsView}
 use Rattle.cmd_import_log.specs.Reading.{LogView}
 use Rattle.cmd_import_log.specs.declared.drawing.Beside.{Beside}
@@ -32,11 +36,12 @@ abbrev pub is_known : FormView → Beside → Bool
 is_known ShiViz b = false
 is_known form b = not b.is_captured && not b.is_timed
 
--- what the texts tell beside messages: only those in plain words do
-abbrev pub observed_of : FormView → OptionsView → List (List ℕ) → ObservationsView
-observed_of Plain o texts = observed_in o.peers o.range texts
-observed_of (Pattern text) o texts = no_observations
-observed_of ShiViz o texts = no_observations
+-- this is what the texts tell beside messages: in plain words, or by an expression
+abbrev pub Observes : FormView → OptionsView → List (List ℕ) → ObservationsView → Type 0
+Observes Plain o texts observed = observed ≡ observed_in o.peers o.range texts
+Observes (Pattern text) o texts observed =
+    (e : Expression) × IsExpression text e × (observed ≡ pattern_observed e.groups e.more (regex_pattern e.regex) o.peers o.range texts)
+Observes ShiViz o texts observed = observed ≡ no_observations
 
 -- the arrivals that are told, where the log's entries are these
 abbrev pub arrivals_of : OptionsView → List LoggedEventView → List Entry → ObservationsView → List Arrival
@@ -64,7 +69,9 @@ RecordsNamed (Err e) b n o logged observed = IsRefused n e
 pub record IsRecordingOf (o : OptionsView) (texts : List (List ℕ)) (r : LogRecording) : Type 0 where
   pub log : LogView
   pub is_log : IsLog o texts log
-  pub recording : IsNamedRecording (beside log) (named_in o log) o log.read.logged (observed_of o.form o texts) r
+  pub observed : ObservationsView
+  pub observes : Observes o.form o texts observed
+  pub recording : IsNamedRecording (beside_with observed.misspelled log) (named_in o log) o log.read.logged observed r
 
 -- texts without a recording are those without a chart
 abbrev pub Records : Result LogRecording LogImportError → OptionsView → List (List ℕ) → Type 0

@@ -5,12 +5,14 @@
 //! invented, and each name that isn't its word. A line is told by its number, and by its file's name too where
 //! there are several.
 
+mod alike;
 mod diagnostic_lines;
 mod diagnostics;
 mod events_read;
 mod overtaking;
 mod spot;
 
+pub use alike::Alike;
 pub(crate) use diagnostic_lines::add_others_of;
 pub(crate) use diagnostics::add_one_ended_note;
 pub use diagnostics::{Diagnostics, write_diagnostics};

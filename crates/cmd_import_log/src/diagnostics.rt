@@ -1,7 +1,8 @@
 //! What is told of a log's chart.
 ghost use Rattle.std.specs.Prelude.{◌≡◌, [], map, IfOk};
 ghost use Rattle.diagram_labels.specs.Renaming.{renamed_view};
-ghost use Rattle.cmd_import_log.specs.Drawing.{log_place, log_overtaking, has_line, with_lineless, renames_of};
+ghost use Rattle.cmd_import_log.specs.Alike.{has_line};
+ghost use Rattle.cmd_import_log.specs.Drawing.{log_place, log_overtaking, with_lineless, renames_of};
 
 use crate::answers::Overtaking;
 use chart::Name;
@@ -53,7 +54,7 @@ pub(crate) fn overtakings_of(
 }
 
 /// Whether a host has a line of its own.
-fn has_line(lines: &[NamedLine], name: &Name) -> bool
+pub(crate) fn has_line(lines: &[NamedLine], name: &Name) -> bool
     ensures { result ≡ has_line lines.now name.now }
 {
     lines.iter().any(|line| line.host == *name)

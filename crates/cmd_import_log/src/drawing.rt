@@ -10,6 +10,7 @@ ghost use Rattle.cmd_import_log.specs.Drawing.{refusal_of, IsOfAmong, AreDiagnos
 ghost use Rattle.cmd_import_log.specs.Entries.{entries_in, names_in};
 ghost use Rattle.cmd_import_log.specs.Options.{options_view};
 
+use crate::alike::alike_hosts;
 use crate::answers::Diagnostics;
 use crate::diagnostics::{lineless_hosts, overtakings_of, places_of, renamed_in};
 use crate::entries::entries_in;
@@ -53,6 +54,8 @@ pub(crate) struct Beside {
     pub others: Option<Others>,
     pub is_captured: bool,
     pub is_timed: bool,
+    /// Receives with words that begin with `takes=` and are spelled otherwise, where these words count.
+    pub misspelled: Option<Others>,
 }
 
 /// The chart, with what is told of it.
@@ -74,14 +77,18 @@ fn with_diagnostics(
         freed,
         is_one_ended,
     } = built;
+    let lineless = lineless_hosts(alloc, &named.lines, named.hosts.names())?;
+    let alike = alike_hosts(alloc, &named.lines, named.hosts.names(), &lineless)?;
     Ok(LogDrawing {
         chart,
         diagnostics: Diagnostics {
             lines: beside.lines,
             events: named.lines.len() as u64,
-            lineless: lineless_hosts(alloc, &named.lines, named.hosts.names())?,
+            lineless,
+            alike,
             others: beside.others,
             own: named.own,
+            misspelled: beside.misspelled,
             is_captured: beside.is_captured,
             is_timed: beside.is_timed,
             is_one_ended,
@@ -155,6 +162,7 @@ pub fn drawing_in(
         lines,
         is_captured,
         is_timed,
+        expression,
     } = messages_in(alloc, &options, texts)?;
     let named = named(alloc, options.hosts, options.peers, &read.logged)?;
     let beside = Beside {
@@ -162,6 +170,7 @@ pub fn drawing_in(
         others: read.others,
         is_captured,
         is_timed,
+        misspelled: None,
     };
     drawing_of(alloc, beside, &named)
 }

@@ -1,7 +1,7 @@
 //! What is told of an expression that can't be read, in the words of Rust's regex crate.
 ghost use Rattle.std.specs.Prelude.{◌≡◌};
 ghost use Rattle.texts.specs.Writing.{Adds};
-ghost use Rattle.cmd_import_log.specs.Faults.{later_message, message_of, group_word, lacks_text, fault_text};
+ghost use Rattle.cmd_import_log.specs.Faults.{later_message, message_of, group_word, lacks_text, lacks_either_text, fault_text};
 
 use log_formats::patterns::{Fault, Group};
 use regex_syntax::ErrorKind;
@@ -103,6 +103,27 @@ fn add_lacks<V: Out>(text: &mut TextBuffer<'_, V>, word: &[u8]) -> Result<(), Wr
     )
 }
 
+/// Adds that no group has one of these names, one for each of two sets.
+#[tactic(auto, unfolding(crate::specs::Faults::lacks_either_text))]
+fn add_lacks_either<'a, V: Out>(
+    text: &mut TextBuffer<'_, V>,
+    word: &'a [u8],
+    besides: &'a [u8],
+) -> Result<(), WriteError>
+    ensures { Adds V.sink text.old text.new result (lacks_either_text word.now besides.now) }
+{
+    add_pieces(
+        text,
+        &[
+            Piece::Bytes(b"no group is named "),
+            Piece::Bytes(word),
+            Piece::Bytes(b" (for src, dst, name) or "),
+            Piece::Bytes(besides),
+            Piece::Bytes(b" (for host, dir, peer, name)\n"),
+        ],
+    )
+}
+
 /// Adds what is wrong with an expression.
 #[tactic(auto, unfolding(crate::specs::Faults::fault_text))]
 pub(crate) fn add_fault<V: Out>(
@@ -114,6 +135,9 @@ pub(crate) fn add_fault<V: Out>(
     match fault {
         Fault::Unreadable(kind) => text.add_all(&[message_of(kind), b"\n"]),
         Fault::TooLarge => text.add(b"the expression is too large\n"),
-        Fault::Lacks(group) => add_lacks(text, group_word(group)),
+        Fault::Lacks(group, None) => add_lacks(text, group_word(group)),
+        Fault::Lacks(group, Some(besides)) => {
+            add_lacks_either(text, group_word(group), group_word(besides))
+        }
     }
 }

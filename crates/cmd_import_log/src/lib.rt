@@ -9,6 +9,7 @@
 //! [`answers`] writes what is told of a log's chart.
 #![tactic(auto)]
 
+mod alike;
 pub mod answers;
 mod counting;
 mod diagnostics;

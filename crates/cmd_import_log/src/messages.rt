@@ -3,7 +3,7 @@ ghost use Rattle.std.specs.Prelude.{◌≡◌, map, IfOk, IfErr};
 ghost use Rattle.log_lines.specs.Events.{logged_event_view};
 ghost use Rattle.cmd_import_log.specs.Drawing.{IsLog, IsRefusalOf};
 ghost use Rattle.cmd_import_log.specs.Options.{options_view};
-ghost use Rattle.cmd_import_log.specs.Reading.{log_view, is_receive, has_receive};
+ghost use Rattle.cmd_import_log.specs.Reading.{log_view, is_receive, has_receive, IsKept};
 
 use crate::error::LogImportError;
 use crate::options::Options;
@@ -42,6 +42,7 @@ pub(crate) fn messages_in<'a>(
     texts: &[&'a [u8]],
 ) -> Result<ReadLog<'a>, LogImportError>
     ensures ok { IfOk result (λ log. IsLog (options_view options.now) (map (λ text. text.now) texts.now) (log_view log)) }
+    ensures kept { IfOk result (λ log. IsKept (options_view options.now).form log.expression) }
     ensures err { IfErr result (IsRefusalOf (options_view options.now) (map (λ text. text.now) texts.now)) }
 {
     let log = read_log(alloc, options.form, options.range, texts)?;

@@ -2,8 +2,8 @@
 ghost use Rattle.std.specs.Prelude.{◌≡◌, None, map, IfOk, IfErr};
 ghost use Rattle.log_lines.specs.Events.{logged_event_view};
 ghost use Rattle.log_formats.specs.Patterns.Expressions.{IsExpression};
-ghost use Rattle.cmd_import_log.specs.Options.{form_view};
-ghost use Rattle.cmd_import_log.specs.Reading.{log_view, is_of_line, is_captured, plain_log, clocked_log, IsReadBy, Says, IsBadExpression, IsBadForm};
+ghost use Rattle.cmd_import_log.specs.Options.{Pattern, form_view};
+ghost use Rattle.cmd_import_log.specs.Reading.{log_view, is_of_line, is_captured, plain_log, clocked_log, IsReadBy, Says, IsKept, IsBadExpression, IsBadForm};
 
 use crate::counting::lines_read;
 use crate::error::LogImportError;
@@ -23,6 +23,8 @@ pub(crate) struct ReadLog<'a> {
     pub is_captured: bool,
     /// Whether clocks tell of messages.
     pub is_timed: bool,
+    /// By which it is read, if by one.
+    pub expression: Option<Expression>,
 }
 
 /// What the texts say in plain words.
@@ -39,6 +41,7 @@ fn plainly<'a>(
         lines,
         is_captured: false,
         is_timed: false,
+        expression: None,
     })
 }
 
@@ -58,6 +61,7 @@ fn with_clocks<'a>(
         lines,
         is_captured: false,
         is_timed,
+        expression: None,
     })
 }
 
@@ -105,6 +109,7 @@ fn by_pattern<'a>(
     texts: &[&'a [u8]],
 ) -> Result<ReadLog<'a>, LogImportError>
     ensures ok { IfOk result (λ log. IsReadBy pattern.now range (map (λ text. text.now) texts.now) (log_view log)) }
+    ensures kept { IfOk result (λ log. IsKept (Pattern pattern.now) log.expression) }
     ensures err { IfErr result (IsBadExpression pattern.now) }
 {
     let expression = expression_in(alloc, pattern)?;
@@ -117,6 +122,7 @@ fn by_pattern<'a>(
         lines,
         is_captured,
         is_timed,
+        expression: Some(expression),
     })
 }
 
@@ -128,6 +134,7 @@ pub(crate) fn read_log<'a>(
     texts: &[&'a [u8]],
 ) -> Result<ReadLog<'a>, LogImportError>
     ensures ok { IfOk result (λ log. Says (form_view form.entry) range (map (λ text. text.now) texts.now) (log_view log)) }
+    ensures kept { IfOk result (λ log. IsKept (form_view form.entry) log.expression) }
     ensures err { IfErr result (IsBadForm (form_view form.entry)) }
 {
     match form {

@@ -5,8 +5,9 @@ ghost use Rattle.log_lines.specs.Names.Naming.{named_view};
 ghost use Rattle.log_lines.specs.Takes.Observations.{observations_view};
 ghost use Rattle.log_chart.specs.Entries.{HaveStreams};
 ghost use Rattle.race_verdicts.specs.Recordings.{recording_view};
-ghost use Rattle.cmd_import_log.specs.Options.{form_view, options_view};
-ghost use Rattle.cmd_import_log.specs.Recording.{lent_of, is_known, observed_of, arrivals_of, IsRecorded, RecordsNamed, Records};
+ghost use Rattle.cmd_import_log.specs.Options.{Pattern, form_view, options_view};
+ghost use Rattle.cmd_import_log.specs.Reading.{IsKept};
+ghost use Rattle.cmd_import_log.specs.Recording.{lent_of, is_known, Observes, arrivals_of, IsRecorded, RecordsNamed, Records};
 
 use crate::drawing::{Beside, LogDrawing, Settled, settled_of};
 use crate::error::LogImportError;
@@ -14,6 +15,7 @@ use crate::messages::messages_in;
 use crate::options::{Form, Options};
 use crate::reading::ReadLog;
 use log_chart::{Entry, HostLine, HostLines, LogLine, host_lines};
+use log_formats::patterns::{Expression, observed_by};
 use log_lines::LoggedEvent;
 use log_lines::names::{NamedLog, named};
 use log_lines::takes::{Arrived, Observations, arrivals_in, keys_in, read_observed, words_in};
@@ -53,18 +55,37 @@ impl<'a> LogRecording<'a> {
     }
 }
 
-/// What the texts tell beside messages: only those in plain words do.
+/// What the texts tell beside messages by an expression, if there is one.
+fn observed_by_pattern<'a>(
+    alloc: Global,
+    options: &Options<'a>,
+    expression: &Option<Expression>,
+    pattern: &str,
+    texts: &[&'a [u8]],
+) -> Result<Observations<'a>, AllocError>
+    requires { IsKept (Pattern pattern.now) expression.now }
+    ensures { IfOk result (λ observed. Observes (Pattern pattern.now) (options_view options.now) (map (λ text. text.now) texts.now) (observations_view observed)) }
+{
+    match expression {
+        Some(expression) => { observed_by(alloc, expression, options.peers, options.range, texts) }
+        None => Ok(Observations::new(alloc)),
+    }
+}
+
+/// What the texts tell beside messages, in plain words or by an expression.
 fn observed_of<'a>(
     alloc: Global,
     options: &Options<'a>,
+    expression: &Option<Expression>,
     texts: &[&'a [u8]],
 ) -> Result<Observations<'a>, AllocError>
-    ensures { IfOk result (λ observed. observations_view observed
-        ≡ observed_of (options_view options.now).form (options_view options.now) (map (λ text. text.now) texts.now)) }
+    requires { IsKept (options_view options.now).form expression.now }
+    ensures { IfOk result (λ observed. Observes (options_view options.now).form (options_view options.now) (map (λ text. text.now) texts.now) (observations_view observed)) }
 {
     match options.form {
         Form::Plain => read_observed(alloc, options.peers, options.range, texts),
-        Form::Pattern(_) | Form::ShiViz => Ok(Observations::new(alloc)),
+        Form::Pattern(pattern) => observed_by_pattern(alloc, options, expression, pattern, texts),
+        Form::ShiViz => Ok(Observations::new(alloc)),
     }
 }
 
@@ -127,22 +148,20 @@ fn recorded<'a>(
     })
 }
 
-/// The recording of the lines by names, with these events.
+/// The recording of the lines by names, with these events, where this is told beside them.
 fn recording_of<'a>(
     alloc: Global,
     options: &Options<'a>,
     beside: Beside,
     logged: &[LoggedEvent<'a>],
     named: &NamedLog,
-    texts: &[&'a [u8]],
+    observed: Observations<'a>,
 ) -> Result<LogRecording<'a>, LogImportError>
-    ensures records { RecordsNamed result beside (named_view named.now) (options_view options.now) (map logged_event_view logged.now)
-        (observed_of (options_view options.now).form (options_view options.now) (map (λ text. text.now) texts.now)) }
+    ensures records { RecordsNamed result beside (named_view named.now) (options_view options.now) (map logged_event_view logged.now) (observations_view observed.entry) }
     ensures named { IfOk result (λ r. length r.drawing.diagnostics.names ≡ length r.drawing.chart) }
     ensures invented { IfOk result (λ r. All (λ e. e.instance ≤ length r.drawing.diagnostics.names) r.drawing.diagnostics.invented.items) }
 {
     let settled = settled_of(alloc, beside, named)?;
-    let observed = observed_of(alloc, options, texts)?;
     let is_known = is_known(options.form, beside);
     Ok(recorded(alloc, options, logged, settled, observed, is_known)?)
 }
@@ -169,13 +188,16 @@ pub fn recording_in<'a>(
         lines,
         is_captured,
         is_timed,
+        expression,
     } = messages_in(alloc, &options, texts)?;
     let named = named(alloc, options.hosts, options.peers, &read.logged)?;
+    let observed = observed_of(alloc, &options, &expression, texts)?;
     let beside = Beside {
         lines,
         others: read.others,
         is_captured,
         is_timed,
+        misspelled: observed.misspelled,
     };
-    recording_of(alloc, &options, beside, &read.logged, &named, texts)
+    recording_of(alloc, &options, beside, &read.logged, &named, observed)
 }

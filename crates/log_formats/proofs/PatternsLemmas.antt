@@ -1,2 +1,3 @@
 pub mod GroupLemmas
 pub mod MatchLemmas
+pub mod ObservingLemmas

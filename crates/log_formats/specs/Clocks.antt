@@ -1,4 +1,9 @@
+pub mod Ends
 pub mod Hearing
+pub mod Messages
 pub mod Moments
+pub mod ReadOrder
 pub mod Saying
 pub mod Stamps
+pub mod Tables
+pub mod VectorTime

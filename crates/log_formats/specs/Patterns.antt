@@ -3,4 +3,5 @@ pub mod Feeds
 pub mod Found
 pub mod Groups
 pub mod Missing
+pub mod Observing
 pub mod PatternReading

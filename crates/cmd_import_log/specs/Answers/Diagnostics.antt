@@ -5,6 +5,7 @@ use Rattle.chart.specs.declared.instance.EventNo.{EventNo}
 use Rattle.diagram_labels.specs.declared.renaming.Renamed.{Renamed}
 use Rattle.diagram_labels.specs.Renamed.Telling.{renamed_line}
 use Rattle.log_lines.specs.declared.event.Place.{Place}
+use Rattle.cmd_import_log.specs.Answers.AlikeHosts.{alike_text}
 use Rattle.cmd_import_log.specs.Answers.DiagnosticLines.{others_text, others_of_text, lost_text, overtaking_text, freed_text, invented_text}
 use Rattle.cmd_import_log.specs.Answers.EventsRead.{read_text}
 use Rattle.cmd_import_log.specs.declared.answers.overtaking.Overtaking.{Overtaking}
@@ -18,6 +19,11 @@ unmatched_text files t = others_of_text files t.lines (codes "lines doesn't matc
 unfoldable pub own_text : List (List ℕ) → Diagnostics → List ℕ
 own_text files t =
     others_text files (codes "event of a message to oneself is left out") (codes "events of messages to oneself are left out") t.own
+
+-- how many receives have words for what they would have taken that are ignored
+unfoldable pub misspelled_text : List (List ℕ) → Diagnostics → List ℕ
+misspelled_text files t =
+    others_text files (codes "receive has a word takes= that isn't PEER:NAMES") (codes "receives have words takes= that aren't PEER:NAMES") t.misspelled
 
 unfoldable pub captured_note : List ℕ
 captured_note = codes "only the order at the tap is known\n"
@@ -47,7 +53,7 @@ taps_text t = captured_text t ++ (timed_text t ++ one_ended_text t)
 unfoldable pub counts_text : List (List ℕ) → Diagnostics → List ℕ
 counts_text files t =
     read_text t.events (length t.names) t.lineless.items
-    ++ (unmatched_text files t ++ (own_text files t ++ taps_text t))
+    ++ (flat_map alike_text t.alike.items ++ (unmatched_text files t ++ (own_text files t ++ (misspelled_text files t ++ taps_text t))))
 
 unfoldable pub enforced_note : List ℕ
 enforced_note = codes "races may be shown that a message which is left out enforced\n"

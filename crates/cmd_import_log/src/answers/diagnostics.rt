@@ -1,9 +1,10 @@
 //! What is told of a chart that was drawn from a log.
 ghost use Rattle.std.specs.Prelude.{◌≤◌, length, map, All};
 ghost use Rattle.texts.specs.Writing.{Wrote, Adds};
-ghost use Rattle.cmd_import_log.specs.Answers.Diagnostics.{unmatched_text, own_text, captured_note, captured_text, timed_note, timed_text, one_ended_note, one_ended_text, taps_text, enforced_note, overtaking_note, left_out_note, unclaimed_note, invented_note};
+ghost use Rattle.cmd_import_log.specs.Answers.Diagnostics.{unmatched_text, own_text, misspelled_text, captured_note, captured_text, timed_note, timed_text, one_ended_note, one_ended_text, taps_text, enforced_note, overtaking_note, left_out_note, unclaimed_note, invented_note};
 ghost use Rattle.cmd_import_log.specs.Answers.Diagnostics.{counts_text, left_out_text, made_text, names_text, diagnostics_text};
 
+use crate::answers::alike::{Alike, add_all_alike};
 use crate::answers::diagnostic_lines::{
     add_all_freed, add_all_invented, add_all_lost, add_all_overtaking, add_others, add_others_of,
 };
@@ -24,10 +25,14 @@ pub struct Diagnostics {
     pub events: u64,
     /// Hosts that have no line of their own.
     pub lineless: Vec<Name>,
+    /// Those of them that may be others.
+    pub alike: Vec<Alike>,
     /// Those that don't match.
     pub others: Option<Others>,
     /// Events of messages of a host to itself, which are left out.
     pub own: Option<Others>,
+    /// Receives with words that begin with `takes=` and are spelled otherwise, which are ignored.
+    pub misspelled: Option<Others>,
     /// Whether messages were captured, so that only their order at the tap is known.
     pub is_captured: bool,
     /// Whether there are messages of which clocks tell.
@@ -82,6 +87,24 @@ fn add_own<V: Out>(
         b"event of a message to oneself is left out",
         b"events of messages to oneself are left out",
         diagnostics.own,
+    )
+}
+
+/// Adds how many receives have words for what they would have taken that are ignored.
+#[tactic(auto, unfolding(crate::specs::Answers::Diagnostics::misspelled_text))]
+fn add_misspelled<V: Out>(
+    text: &mut TextBuffer<'_, V>,
+    files: &[&[u8]],
+    diagnostics: &Diagnostics,
+) -> Result<(), WriteError>
+    ensures { Adds V.sink text.old text.new result (misspelled_text (map (λ file. file.now) files.now) diagnostics.now) }
+{
+    add_others(
+        text,
+        files,
+        b"receive has a word takes= that isn't PEER:NAMES",
+        b"receives have words takes= that aren't PEER:NAMES",
+        diagnostics.misspelled,
     )
 }
 
@@ -240,8 +263,10 @@ fn add_counts<V: Out>(
         &diagnostics.names,
         &diagnostics.lineless,
     )?;
+    add_all_alike(text, &diagnostics.alike)?;
     add_unmatched(text, files, diagnostics)?;
     add_own(text, files, diagnostics)?;
+    add_misspelled(text, files, diagnostics)?;
     add_taps(text, diagnostics)
 }
 

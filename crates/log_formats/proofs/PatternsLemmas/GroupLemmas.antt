@@ -1,9 +1,12 @@
 -- The groups of an expression, and what a match says by them.
 use Rattle.std.proofs.Common.{◌≡◌, ℕ, ◌+◌, ◌≤◌, ◌<◌, Bool, not, cond, List, [], ◌∷◌, Option, None, Some, length, map, drop, option_map, refl, sym, ap, arith, position, string_bytes, String}
+use Rattle.std.specs.Prelude.{unwrap_or}
 use Rattle.std.specs.List.{position_or_len}
+use Rattle.log_lines.specs.Events.{Other}
 use Rattle.std.proofs.lemmas.List.{length-map}
-use Rattle.log_formats.specs.Patterns.Found.{located, id_of, found_by}
+use Rattle.log_formats.specs.Patterns.Found.{located, id_of, has_part, host_event, said_of, found_by}
 use Rattle.log_formats.specs.Patterns.Groups.{is_named, named_at, group_in, AreAmong, IsAmongIfThere}
+use Rattle.log_formats.specs.declared.patterns.groups.EventGroups.{EventGroups}
 use Rattle.log_formats.specs.declared.patterns.groups.Groups.{Groups}
 use Rattle.log_formats.specs.declared.patterns.groups.Groups.TheVariants.{Event, Capture, Clock}
 
@@ -28,10 +31,18 @@ module _ (window : List ℕ) (f g : ℕ → Option (ℕ × ℕ)) (count : ℕ) (
   id_same None a = refl
   id_same (Some n) a = rw (same n a.0 a.1) refl
 
+  part_same : (n : Option ℕ) → IsAmongIfThere count n → has_part (located window f) n ≡ has_part (located window g) n
+  part_same None a = refl
+  part_same (Some n) a = rw (same n a.0 a.1) refl
+
+  -- a match tells the same of a host where its groups span the same
+  pub event_same : (e : EventGroups) → AreAmong count (Event e) → host_event (located window f) e ≡ host_event (located window g) e
+  event_same e a =
+      rw (same e.host a.0.0 a.0.1, same e.direction a.1.0 a.1.1, same e.peer a.2.0 a.2.1, same e.name a.3.0 a.3.1, id_same e.id a.4, id_same e.takes a.5, part_same e.arrive a.6) refl
+
   -- a match says the same where its groups span the same
   pub found_same : (groups : Groups) → AreAmong count groups → found_by (located window f) groups ≡ found_by (located window g) groups
   unfolding found_by
-  found_same (Event e) a =
-      rw (same e.host a.0.0 a.0.1, same e.direction a.1.0 a.1.1, same e.peer a.2.0 a.2.1, same e.name a.3.0 a.3.1, id_same e.id a.4) refl
+  found_same (Event e) a = ap (λ x. unwrap_or (option_map said_of x) Other) (event_same e a)
   found_same (Capture e) a = rw (same e.source a.0.0 a.0.1, same e.destination a.1.0 a.1.1, same e.name a.2.0 a.2.1, id_same e.id a.3) refl
   found_same (Clock e) a = rw (same e.host a.0.0 a.0.1, same e.clock a.1.0 a.1.1, same e.event a.2.0 a.2.1) refl

@@ -1,10 +1,10 @@
 -- Events with their vector time.
-use Rattle.std.specs.Prelude.{ℕ, ◌+◌, ◌==◌, ◌&&◌, Bool, true, false, nat_lt, List, [], ◌∷◌, ◌++◌, map, Option, None, Some, is_some, bytes_eq, if◌then◌else◌}
+use Rattle.std.specs.Prelude.{ℕ, ◌+◌, ◌&&◌, Bool, true, false, nat_lt, List, [], ◌∷◌, ◌++◌, map, Option, None, Some, is_some, bytes_eq, if◌then◌else◌}
 use Rattle.log_lines.specs.ByWords.{by_words}
 use Rattle.log_lines.specs.Events.{ClockedView, clocked_view, ClockedAtView}
 use Rattle.log_lines.specs.Reading.{ReadView, read_view}
 use Rattle.log_lines.specs.declared.event.Place.{Place}
-use Rattle.log_formats.specs.Clocks.Stamps.{StampView, stamp_view, stamps_in, count_of}
+use Rattle.log_formats.specs.Clocks.Stamps.{StampView, stamp_view, same_stamp, stamps_in, count_of}
 use Rattle.log_formats.specs.declared.clocks.moment.Moment.{Moment}
 
 -- an event, what is read of its words alone, the entries of its clock, and which of its host's events it is by its clock, from 1 on,
@@ -56,9 +56,13 @@ abbrev pub last_stamps : List StampView → List ℕ → List MomentView → Lis
 last_stamps so_far host [] = so_far
 last_stamps so_far host (m ∷ moments) = last_stamps (if is_of host m then m.stamps else so_far) host moments
 
+-- an event's own entry: its host, and which of its events it is
+abbrev pub own_stamp : MomentView → StampView
+own_stamp m = record { host = m.clocked.host; count = m.own }
+
 -- it is this event of this host
 abbrev pub is_at : StampView → MomentView → Bool
-is_at s m = m.own == s.count && bytes_eq m.clocked.host s.host
+is_at s m = same_stamp (own_stamp m) s
 
 -- the place of the first that is, where the first of these has this place
 abbrev pub place_from : ℕ → StampView → List MomentView → Option ℕ

@@ -1,10 +1,12 @@
 -- What events with vector time say, by their words or by their clocks.
-use Rattle.std.specs.Prelude.{ℕ, ◌+◌, ◌==◌, Bool, false, List, [], ◌∷◌, ◌++◌, Option, None, Some, is_some, slice_get, if◌then◌else◌}
+use Rattle.std.specs.Prelude.{ℕ, ◌+◌, Bool, List, [], ◌∷◌, ◌++◌, Option, None, Some, is_some, slice_get, if◌then◌else◌}
 use Rattle.log_lines.specs.Events.{ClockedView, EventView, AnEvent, Other}
 use Rattle.log_lines.specs.Reading.{ReadView, with_line}
 use Rattle.log_lines.specs.declared.event.Act.TheVariants.{Send, Receive}
+use Rattle.log_formats.specs.Clocks.Ends.{ends_at}
 use Rattle.log_formats.specs.Clocks.Hearing.{HeardView, all_heard}
 use Rattle.log_formats.specs.Clocks.Moments.{MomentView, is_by_clock, any_by_clock, with_moments}
+use Rattle.log_formats.specs.declared.clocks.ends.End.TheVariants as ends
 
 abbrev pub clocked_at : ClockedView → Option MomentView → ClockedView
 clocked_at own None = own
@@ -29,29 +31,27 @@ receive_of moments m h = record {
 abbrev pub send_of : MomentView → HeardView → EventView
 send_of m h = record { host = m.clocked.host; act = Send; peer = h.host; name = m.clocked.event; id = Some m.clocked.clock }
 
--- with the receives of an event at this place
-abbrev pub with_receives : List MomentView → ℕ → MomentView → List HeardView → ReadView → ReadView
-with_receives moments at m [] r = r
-with_receives moments at m (h ∷ all) r =
-    with_receives moments at m all (if h.at == at then with_line m.place (AnEvent (receive_of moments m h)) r else r)
+-- with the receives of what an event has heard of
+abbrev pub with_receives : List MomentView → MomentView → List HeardView → ReadView → ReadView
+with_receives moments m [] r = r
+with_receives moments m (h ∷ heard) r = with_receives moments m heard (with_line m.place (AnEvent (receive_of moments m h)) r)
 
-abbrev pub is_from : ℕ → Option ℕ → Bool
-is_from at None = false
-is_from at (Some place) = place == at
-
--- with its sends, in the order in which hosts have heard of them
-abbrev pub with_sends : ℕ → MomentView → List HeardView → ReadView → ReadView
-with_sends at m [] r = r
-with_sends at m (h ∷ all) r = with_sends at m all (if is_from at h.source then with_line m.place (AnEvent (send_of m h)) r else r)
+-- with the sends of which hosts have heard so
+abbrev pub with_sends : MomentView → List HeardView → ReadView → ReadView
+with_sends m [] r = r
+with_sends m (h ∷ heard) r = with_sends m heard (with_line m.place (AnEvent (send_of m h)) r)
 
 -- with what an event says in words, or with a line that isn't read
 abbrev pub with_worded : MomentView → ReadView → ReadView
 with_worded m r = if is_some m.worded.others then with_line m.place Other r else record r { logged = r.logged ++ m.worded.logged }
 
--- with what an event says: its receives, and then its sends
+-- with what an event says: its receives, of what it has heard, and then its sends, of which others have
+abbrev pub with_ends : List MomentView → MomentView → List HeardView → List HeardView → ReadView → ReadView
+with_ends moments m received sent r = if is_by_clock m then with_sends m sent (with_receives moments m received r) else with_worded m r
+
+-- with what the event at this place says, in the order in which hosts have heard of what
 abbrev pub with_moment : List MomentView → List HeardView → ℕ → MomentView → ReadView → ReadView
-with_moment moments all at m r =
-    if is_by_clock m then with_sends at m all (with_receives moments at m all r) else with_worded m r
+with_moment moments all at m r = with_ends moments m (ends_at ends.Receive at all) (ends_at ends.Send at all) r
 
 -- with what these say, where the first has this place
 abbrev pub with_all_moments : List MomentView → List HeardView → ℕ → List MomentView → ReadView → ReadView

@@ -1,5 +1,5 @@
 -- Vector time (Mattern 1989), as a log for ShiViz writes it: `{"HOST":COUNT, ..}`.
-use Rattle.std.specs.Prelude.{ℕ, ◌+◌, ◌==◌, List, [], ◌∷◌, ◌++◌, take, drop, Option, None, Some, bytes_eq, if◌then◌else◌}
+use Rattle.std.specs.Prelude.{ℕ, ◌+◌, ◌==◌, ◌&&◌, Bool, List, [], ◌∷◌, ◌++◌, take, drop, Option, None, Some, bytes_eq, if◌then◌else◌}
 use Rattle.std.specs.List.{slice_split}
 use Rattle.texts.specs.Words.{behind_blanks, first_place, stripped, is_comma}
 use Rattle.diagram_statements.specs.Options.{◌>>=◌}
@@ -13,6 +13,10 @@ pub record StampView : Type 0 where
 
 abbrev pub stamp_view : Stamp → StampView
 stamp_view s = record { host = s.host.now; count = s.count }
+
+-- one entry is the other
+abbrev pub same_stamp : StampView → StampView → Bool
+same_stamp s t = bytes_eq s.host t.host && s.count == t.count
 
 -- what stands behind this byte, if the bytes begin with it
 abbrev pub behind_mark : ℕ → List ℕ → Option (List ℕ)

@@ -1,5 +1,5 @@
 -- Expressions that tell what the lines of a log say: what the regex crate reads in a text, with its own options for bytes.
-use Rattle.std.specs.Prelude.{◌≡◌, ◌≢◌, ℕ, ◌+◌, false, List, length, None, Some, IsCharBoundary}
+use Rattle.std.specs.Prelude.{◌≡◌, ◌≢◌, ℕ, ◌+◌, false, List, length, Option, None, Some, IsCharBoundary}
 use Rattle.regex.specs.Bytes.{regex_source, regex_config, regex_names, IsReadFromSource}
 use Rattle.regex.specs.Failures.{IsPattern}
 use Rattle.regex.specs.Patterns.{Config, default_config, Refuses}
@@ -8,7 +8,7 @@ use Rattle.regex_syntax.specs.declared.error.ErrorKind.{ErrorKind}
 use Rattle.regex_syntax.specs.declared.error.ErrorKind.TheVariants.{OutOfMemory}
 use Rattle.log_formats.specs.Patterns.Feeds.{feeds_from}
 use Rattle.log_formats.specs.Patterns.Groups.{groups_in, AreAmong}
-use Rattle.log_formats.specs.Patterns.Missing.{lacks}
+use Rattle.log_formats.specs.Patterns.Missing.{lacks, lacks_besides}
 use Rattle.log_formats.specs.declared.patterns.expression.Expression.{Expression}
 use Rattle.log_formats.specs.declared.patterns.expression.BadExpression.{BadExpression}
 use Rattle.log_formats.specs.declared.patterns.expression.BadExpression.TheVariants.{Memory, At}
@@ -44,12 +44,14 @@ pub record IsUnreadable (text : List ℕ) (kind : ErrorKind) (place : ℕ) : Typ
   pub boundary : IsCharBoundary text start
   pub counted : place ≡ start + 1
 
--- the text is an expression that has none of the sets of groups, and lacks this one
-pub record LacksGroup (text : List ℕ) (group : Group) : Type 0 where
+-- the text is an expression that has none of the sets of groups, and lacks this one, and that one of another set that may be
+-- meant
+pub record LacksGroup (text : List ℕ) (group : Group) (besides : Option Group) : Type 0 where
   pub regex : Regex
   pub compiled : IsCompiled text regex
   pub none : groups_in (regex_names regex) ≡ None
   pub lacked : group ≡ lacks (regex_names regex)
+  pub other : besides ≡ lacks_besides (regex_names regex)
 
 -- the place behind the text
 abbrev pub behind : List ℕ → ℕ
@@ -60,7 +62,7 @@ behind text = length text + 1
 abbrev pub IsFault : List ℕ → ℕ → Fault → Type 0
 IsFault text place (Unreadable kind) = IsUnreadable text kind place
 IsFault text place TooLarge = IsPattern own_config text × (place ≡ behind text)
-IsFault text place (Lacks group) = LacksGroup text group × (place ≡ behind text)
+IsFault text place (Lacks group besides) = LacksGroup text group besides × (place ≡ behind text)
 
 -- the text is no expression, or memory ran out
 abbrev pub IsBad : List ℕ → BadExpression → Type 0

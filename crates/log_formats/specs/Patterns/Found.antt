@@ -1,5 +1,5 @@
 -- What a match of an expression says, by its groups.
-use Rattle.std.specs.Prelude.{ℕ, ◌&&◌, nat_le, List, [], ◌∷◌, Option, None, Some, length, unwrap_or, slice_range, if◌then◌else◌}
+use Rattle.std.specs.Prelude.{ℕ, Bool, false, ◌&&◌, nat_le, List, [], ◌∷◌, Option, None, Some, length, option_map, is_some, unwrap_or, slice_range, if◌then◌else◌}
 use Rattle.diagram_statements.specs.Options.{◌>>=◌}
 use Rattle.log_lines.specs.Events.{EventView, LineView, AnEvent, AClocked, AMessage, Nothing, Other}
 use Rattle.log_lines.specs.Plain.{direction_of}
@@ -9,6 +9,7 @@ use Rattle.log_formats.specs.declared.patterns.groups.CaptureGroups.{CaptureGrou
 use Rattle.log_formats.specs.declared.patterns.groups.ClockGroups.{ClockGroups}
 use Rattle.log_formats.specs.declared.patterns.groups.Groups.{Groups}
 use Rattle.log_formats.specs.declared.patterns.groups.Groups.TheVariants as groups
+use Rattle.log_formats.specs.declared.patterns.host_event.HostEvent.{HostEvent}
 use Rattle.log_lines.specs.declared.plain.Direction.{Direction}
 use Rattle.log_lines.specs.declared.plain.Direction.TheVariants.{Sends, Receives, Arrives, Unknown}
 
@@ -36,13 +37,48 @@ by_direction Receives e = AnEvent (record e { act = Receive })
 by_direction Arrives e = Nothing
 by_direction Unknown e = Other
 
-abbrev pub event_found : (ℕ → Option (List ℕ)) → EventGroups → Option LineView
-event_found bytes g = do
+-- a group took part, if there is one
+abbrev pub has_part : (ℕ → Option (List ℕ)) → Option ℕ → Bool
+has_part bytes None = false
+has_part bytes (Some n) = is_some (bytes n)
+
+-- what a match tells by the word for its direction, or by a group that marks arrivals
+abbrev pub direction_found : (ℕ → Option (List ℕ)) → EventGroups → Option Direction
+direction_found bytes g = if has_part bytes g.arrive then Some Arrives else option_map direction_of (bytes g.direction)
+
+-- what a match tells of a host: what it did with a message, or that one reached it, and what its receive would have taken
+pub record HostEventView : Type 0 where
+  pub host : List ℕ
+  pub direction : Direction
+  pub peer : List ℕ
+  pub name : List ℕ
+  pub id : Option (List ℕ)
+  pub takes : Option (List ℕ)
+
+abbrev pub host_event_view : HostEvent → HostEventView
+host_event_view e = record {
+  host = e.host.now;
+  direction = e.direction;
+  peer = e.peer.now;
+  name = e.name.now;
+  id = option_map (λ w. w.now) e.id;
+  takes = option_map (λ w. w.now) e.takes;
+}
+
+abbrev pub host_event : (ℕ → Option (List ℕ)) → EventGroups → Option HostEventView
+host_event bytes g = do
   host ← bytes g.host
-  direction ← bytes g.direction
+  direction ← direction_found bytes g
   peer ← bytes g.peer
   name ← bytes g.name
-  Some (by_direction (direction_of direction) (record { host = host; act = Send; peer = peer; name = name; id = id_of bytes g.id }))
+  Some (record { host = host; direction = direction; peer = peer; name = name; id = id_of bytes g.id; takes = id_of bytes g.takes })
+
+-- what a line says of it
+abbrev pub said_of : HostEventView → LineView
+said_of e = by_direction e.direction (record { host = e.host; act = Send; peer = e.peer; name = e.name; id = e.id })
+
+abbrev pub event_found : (ℕ → Option (List ℕ)) → EventGroups → Option LineView
+event_found bytes g = option_map said_of (host_event bytes g)
 
 abbrev pub captured_found : (ℕ → Option (List ℕ)) → CaptureGroups → Option LineView
 captured_found bytes g = do

@@ -25,7 +25,17 @@ event_groups names = do
   direction ← group_in names (codes "dir")
   peer ← group_in names (codes "peer")
   name ← group_in names (codes "name")
-  Some (Event (record { host = host; direction = direction; peer = peer; name = name; id = group_in names (codes "id") }))
+  Some
+      (Event
+      (record {
+        host = host;
+        direction = direction;
+        peer = peer;
+        name = name;
+        id = group_in names (codes "id");
+        takes = group_in names (codes "takes");
+        arrive = group_in names (codes "arrive");
+      }))
 
 abbrev pub capture_groups : List (Option (List ℕ)) → Option Groups
 capture_groups names = do
@@ -54,6 +64,6 @@ IsAmongIfThere count None = Unit {0}
 IsAmongIfThere count (Some n) = IsAmong count n
 
 abbrev pub AreAmong : ℕ → Groups → Type 0
-AreAmong count (Event g) = IsAmong count g.host × IsAmong count g.direction × IsAmong count g.peer × IsAmong count g.name × IsAmongIfThere count g.id
+AreAmong count (Event g) = IsAmong count g.host × IsAmong count g.direction × IsAmong count g.peer × IsAmong count g.name × IsAmongIfThere count g.id × IsAmongIfThere count g.takes × IsAmongIfThere count g.arrive
 AreAmong count (Capture g) = IsAmong count g.source × IsAmong count g.destination × IsAmong count g.name × IsAmongIfThere count g.id
 AreAmong count (Clock g) = IsAmong count g.host × IsAmong count g.clock × IsAmong count g.event

@@ -1,5 +1,5 @@
 -- Which group an expression lacks that has none of the sets of groups whole: the first of the set that is meant.
-use Rattle.std.specs.Prelude.{ℕ, Bool, ◌||◌, List, Option, is_some, codes, if◌then◌else◌, not}
+use Rattle.std.specs.Prelude.{ℕ, Bool, ◌||◌, ◌&&◌, List, Option, None, Some, is_some, codes, if◌then◌else◌, not}
 use Rattle.log_formats.specs.Patterns.Groups.{group_in}
 use Rattle.log_formats.specs.declared.patterns.missing.Group.{Group}
 use Rattle.log_formats.specs.declared.patterns.missing.Group.TheVariants.{Host, Direction, Peer, Name, Source, Destination, Clock, Event}
@@ -22,9 +22,27 @@ event_lacks names =
     if not (has_group names (codes "host")) then Host
     else (if not (has_group names (codes "dir")) then Direction else (if not (has_group names (codes "peer")) then Peer else Name))
 
+-- there is a group of events with their vector time alone
+abbrev pub is_timed : List (Option (List ℕ)) → Bool
+is_timed names = has_group names (codes "clock") || has_group names (codes "event")
+
+-- there is one of captured messages alone
+abbrev pub is_captured : List (Option (List ℕ)) → Bool
+is_captured names = has_group names (codes "src") || has_group names (codes "dst")
+
 -- the set that is meant is that of vector time, where there is a group of it alone, or that of captured messages, or else
 -- that of events
 abbrev pub lacks : List (Option (List ℕ)) → Group
-lacks names =
-    if has_group names (codes "clock") || has_group names (codes "event") then clock_lacks names
-    else (if has_group names (codes "src") || has_group names (codes "dst") then capture_lacks names else event_lacks names)
+lacks names = if is_timed names then clock_lacks names else (if is_captured names then capture_lacks names else event_lacks names)
+
+-- there is a group of events of a host that captured messages don't have
+abbrev pub is_of_host : List (Option (List ℕ)) → Bool
+is_of_host names = has_group names (codes "host") || (has_group names (codes "dir") || has_group names (codes "peer"))
+
+-- there are groups of captured messages and of events of a host, and the name, which both have: either may be meant
+abbrev pub is_mixed : List (Option (List ℕ)) → Bool
+is_mixed names = is_captured names && (is_of_host names && has_group names (codes "name"))
+
+-- the first group that events of a host lack, where captured messages are meant, or these
+abbrev pub lacks_besides : List (Option (List ℕ)) → Option Group
+lacks_besides names = if is_timed names then None else (if is_mixed names then Some (event_lacks names) else None)

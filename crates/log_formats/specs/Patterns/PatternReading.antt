@@ -1,16 +1,17 @@
 -- What the lines of a log say by an expression: given which lines match and what their groups are (the regex crate's
 -- word).
-use Rattle.std.specs.Prelude.{ℕ, ◌+◌, ◌-◌, ◌==◌, List, length, take, Option, None, Some, if◌then◌else◌}
+use Rattle.std.specs.Prelude.{ℕ, zero, suc, ◌+◌, ◌-◌, ◌==◌, List, length, take, Option, None, Some, if◌then◌else◌}
 use Rattle.std.specs.List.{join_with_byte}
 use Rattle.texts.specs.Lines.{lines_of}
 use Rattle.texts.specs.Words.{behind_blanks}
 use Rattle.regex.specs.Patterns.{Re, Match, find, span}
 use Rattle.regex.specs.Writes.{group_of}
 use Rattle.log_lines.specs.Events.{LineView, Nothing, Other}
-use Rattle.log_formats.specs.Patterns.Found.{located, found_by}
-use Rattle.log_lines.specs.Reading.{ReadView, nothing_read}
+use Rattle.log_formats.specs.Patterns.Found.{located, HostEventView, host_event, found_by}
+use Rattle.log_lines.specs.Reading.{ReadView, nothing_read, is_within}
 use Rattle.log_lines.specs.Windows.{StepView, without_return, with_window_texts}
 use Rattle.log_formats.specs.declared.patterns.groups.Groups.{Groups}
+use Rattle.log_formats.specs.declared.patterns.groups.Groups.TheVariants as groups
 use Rattle.log_lines.specs.declared.range.LineRange.{LineRange}
 
 -- the first of these lines and so many more, with the line feeds between them
@@ -44,9 +45,29 @@ matched groups window first None = alone first
 matched groups window first (Some m) =
     if line_at window (span m).0 == 0 then match_step groups window first (group_of m) (span m).1 else alone first
 
+-- what a match tells of a host, where these are the bytes of its groups: only the first set of groups does
+abbrev pub event_in : Groups → (ℕ → Option (List ℕ)) → Option HostEventView
+event_in (groups.Event g) bytes = host_event bytes g
+event_in (groups.Capture g) bytes = None
+event_in (groups.Clock g) bytes = None
+
+-- what the first line tells of a host, where this was found in it and those behind it
+abbrev pub told : Groups → List ℕ → Option Match → Option HostEventView
+told groups window None = None
+told groups window (Some m) = if line_at window (span m).0 == 0 then event_in groups (located window (group_of m)) else None
+
 -- what the first line says by the expression, whose first match is looked for in it and so many more
 unfoldable pub pattern_step : Groups → ℕ → Re → List (List ℕ) → StepView
 pattern_step groups more pattern lines = matched groups (window_of more lines) (window_of 0 lines) (find pattern (window_of more lines) 0)
+
+-- and what it tells of a host
+unfoldable pub pattern_event : Groups → ℕ → Re → List (List ℕ) → Option HostEventView
+pattern_event groups more pattern lines = told groups (window_of more lines) (find pattern (window_of more lines) 0)
+
+-- what the line with this number tells, the first of these, where so many lines are a part of what was said before
+abbrev pub event_at : (List (List ℕ) → Option HostEventView) → LineRange → ℕ → ℕ → List (List ℕ) → Option HostEventView
+event_at events range n (suc taken) lines = None
+event_at events range n zero lines = if is_within range n then events lines else None
 
 -- what is read of the texts
 unfoldable pub pattern_read : Groups → ℕ → Re → LineRange → List (List ℕ) → ReadView

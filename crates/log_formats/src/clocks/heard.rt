@@ -1,11 +1,14 @@
 //! What events have heard of, by their clocks.
-ghost use Rattle.std.specs.Prelude.{◌≡◌, ◌≤◌, [], length, map, option_map, IfOk, OnOk};
+ghost use Rattle.std.specs.Prelude.{◌≡◌, [], List, map, option_map, if◌then◌else◌, IfOk, OnOk};
 ghost use Rattle.log_formats.specs.Clocks.Hearing.{heard_view, grew, heard_of, with_grown, grown, knows_of, may_know_of, may_imply, implies, is_implied, with_direct, with_heard, all_heard};
-ghost use Rattle.log_formats.specs.Clocks.Moments.{moment_view};
+ghost use Rattle.log_formats.specs.Clocks.Moments.{MomentView, moment_view, is_by_clock};
 ghost use Rattle.log_formats.specs.Clocks.Stamps.{stamp_view};
+ghost use Rattle.log_formats.specs.Clocks.Tables.{ArePlaces, AreLasts, stamps_at};
 
-use crate::clocks::moment::{Moment, is_by_clock, last_stamps, place_of};
+use crate::clocks::moment::{Moment, is_by_clock};
 use crate::clocks::stamp::{Stamp, count_of};
+use crate::clocks::tables::{Host, count_at, last_in, note_last, place_in, places_of};
+use indexmap::IndexMap;
 use std::alloc::{AllocError, Global};
 
 /// An entry of an event's clock that grew.
@@ -19,45 +22,48 @@ pub(crate) struct Heard<'a> {
     pub host: &'a [u8],
 }
 
-/// Whether the entry of another host grew.
-fn grew(host: &[u8], before: &[Stamp<'_>], stamp: &Stamp<'_>) -> bool
-    ensures { result ≡ grew host.now (map stamp_view before.now) (stamp_view stamp.now) }
+/// Whether the entry of another host grew since the event at this place.
+fn grew(host: &[u8], moments: &[Moment<'_>], before: Option<usize>, stamp: &Stamp<'_>) -> bool
+    ensures { result ≡ grew host.now (stamps_at (map moment_view moments.now) before) (stamp_view stamp.now) }
 {
-    stamp.host != host && count_of(before, stamp.host) < stamp.count
+    stamp.host != host && count_at(moments, before, stamp.host) < stamp.count
 }
 
 /// What an event hears of by this entry of its clock.
 fn heard_of<'a>(
-    moments: &[Moment<'a>],
+    places: &IndexMap<Stamp<'a>, usize>,
     at: usize,
     moment: &Moment<'a>,
     stamp: Stamp<'a>,
 ) -> Heard<'a>
-    ensures { heard_view result ≡ heard_of (map moment_view moments.now) at (moment_view moment.now) (stamp_view stamp.entry) }
+    ensures { (moments : List MomentView) → ArePlaces moments places.now.entries
+        → heard_view result ≡ heard_of moments at (moment_view moment.now) (stamp_view stamp.entry) }
 {
+    let source = place_in(places, stamp);
     Heard {
         stamp,
-        source: place_of(moments, &stamp),
+        source,
         at,
         host: moment.clocked.host,
     }
 }
 
-/// The entries of an event's clock that grew since these.
+/// The entries of an event's clock that grew since the event at a place.
 fn grown_since<'a>(
     alloc: Global,
     moments: &[Moment<'a>],
+    places: &IndexMap<Stamp<'a>, usize>,
     at: usize,
     moment: &Moment<'a>,
-    before: &[Stamp<'a>],
+    before: Option<usize>,
 ) -> Result<Vec<Heard<'a>>, AllocError>
-    ensures { IfOk result (λ found. map heard_view found.items
-        ≡ with_grown (map moment_view moments.now) at (moment_view moment.now) (map stamp_view before.now) [] (moment_view moment.now).stamps) }
+    ensures { IfOk result (λ found. (all : List MomentView) → ArePlaces all places.now.entries → map heard_view found.items
+        ≡ with_grown all at (moment_view moment.now) (stamps_at (map moment_view moments.now) before) [] (moment_view moment.now).stamps) }
 {
     let mut found = Vec::new(alloc);
     for stamp in &moment.stamps {
-        if grew(moment.clocked.host, before, stamp) {
-            found.push(heard_of(moments, at, moment, *stamp))?;
+        if grew(moment.clocked.host, moments, before, stamp) {
+            found.push(heard_of(places, at, moment, *stamp))?;
         }
     }
     Ok(found)
@@ -67,14 +73,18 @@ fn grown_since<'a>(
 fn grown<'a>(
     alloc: Global,
     moments: &[Moment<'a>],
+    places: &IndexMap<Stamp<'a>, usize>,
+    lasts: &IndexMap<Host<'a>, usize>,
     at: usize,
     moment: &Moment<'a>,
 ) -> Result<Vec<Heard<'a>>, AllocError>
-    requires { at ≤ length moments.now }
+    requires places { ArePlaces (map moment_view moments.now) places.now.entries }
+    requires lasts { AreLasts (map moment_view moments.now) at lasts.now.entries }
     ensures { IfOk result (λ found. map heard_view found.items ≡ grown (map moment_view moments.now) at (moment_view moment.now)) }
 {
-    let before = last_stamps(&moments[..at], moment.clocked.host);
-    grown_since(alloc, moments, at, moment, before)
+    let name = moment.clocked.host;
+    let before = last_in(lasts, Host { name });
+    grown_since(alloc, moments, places, at, moment, before)
 }
 
 /// Whether an event of another host, if there is one, knows of what was heard.
@@ -154,19 +164,26 @@ fn add_direct<'a>(
     Ok(())
 }
 
-/// Adds what an event has heard of directly.
+/// Adds what an event has heard of directly, if its clock tells what it is.
 fn add_heard<'a>(
     alloc: Global,
     moments: &[Moment<'a>],
+    places: &IndexMap<Stamp<'a>, usize>,
+    lasts: &IndexMap<Host<'a>, usize>,
     at: usize,
     moment: &Moment<'a>,
     all: &mut Vec<Heard<'a>>,
 ) -> Result<(), AllocError>
-    requires { at ≤ length moments.now }
-    ensures { OnOk result (map heard_view all.new.items
-        ≡ with_heard (map moment_view moments.now) at (map heard_view all.old.items) (moment_view moment.now)) }
+    requires places { ArePlaces (map moment_view moments.now) places.now.entries }
+    requires lasts { AreLasts (map moment_view moments.now) at lasts.now.entries }
+    ensures { OnOk result (map heard_view all.new.items ≡ (if is_by_clock (moment_view moment.now)
+        then with_heard (map moment_view moments.now) at (map heard_view all.old.items) (moment_view moment.now)
+        else map heard_view all.old.items)) }
 {
-    let found = grown(alloc, moments, at, moment)?;
+    if !is_by_clock(moment) {
+        return Ok(());
+    }
+    let found = grown(alloc, moments, places, lasts, at, moment)?;
     add_direct(moments, &found, all)
 }
 
@@ -178,11 +195,12 @@ pub(crate) fn all_heard<'a>(
 ) -> Result<Vec<Heard<'a>>, AllocError>
     ensures { IfOk result (λ all. map heard_view all.items ≡ all_heard (map moment_view moments.now)) }
 {
+    let places = places_of(alloc, moments)?;
+    let mut lasts = IndexMap::new(alloc);
     let mut all = Vec::new(alloc);
     for (at, moment) in moments.iter().enumerate() {
-        if is_by_clock(moment) {
-            add_heard(alloc, moments, at, moment, &mut all)?;
-        }
+        add_heard(alloc, moments, &places, &lasts, at, moment, &mut all)?;
+        note_last(&mut lasts, at, moment)?;
     }
     Ok(all)
 }

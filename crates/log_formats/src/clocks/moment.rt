@@ -2,7 +2,7 @@
 ghost use Rattle.std.specs.Prelude.{◌≡◌, [], map, IfOk};
 ghost use Rattle.log_lines.specs.Events.{clocked_at_view};
 ghost use Rattle.log_lines.specs.Reading.{read_view};
-ghost use Rattle.log_formats.specs.Clocks.Moments.{moment_view, worded, moment_of, with_moments, is_by_clock, is_of, last_stamps, is_at, place_from, any_by_clock};
+ghost use Rattle.log_formats.specs.Clocks.Moments.{moment_view, worded, moment_of, with_moments, is_by_clock, own_stamp, any_by_clock};
 ghost use Rattle.log_formats.specs.Clocks.Stamps.{stamp_view};
 
 use crate::clocks::stamp::{Stamp, count_of, stamps_in};
@@ -67,43 +67,14 @@ pub(crate) fn is_by_clock(moment: &Moment<'_>) -> bool
     moment.worded.others.is_some() && 0 < moment.own
 }
 
-/// Whether the event is this host's, and its clock tells which.
-fn is_of(host: &[u8], moment: &Moment<'_>) -> bool
-    ensures { result ≡ is_of host.now (moment_view moment.now) }
+/// The event's own entry: its host, and which of its events it is.
+pub(crate) fn own_stamp<'a>(moment: &Moment<'a>) -> Stamp<'a>
+    ensures { stamp_view result ≡ own_stamp (moment_view moment.now) }
 {
-    0 < moment.own && moment.clocked.host == host
-}
-
-/// What the last of these knows that is the host's.
-pub(crate) fn last_stamps<'m, 'a>(moments: &'m [Moment<'a>], host: &[u8]) -> &'m [Stamp<'a>]
-    ensures { map stamp_view result.now ≡ last_stamps [] host.now (map moment_view moments.now) }
-{
-    let mut stamps: &[Stamp<'a>] = &[];
-    for moment in moments {
-        if is_of(host, moment) {
-            stamps = &moment.stamps;
-        }
+    Stamp {
+        host: moment.clocked.host,
+        count: moment.own,
     }
-    stamps
-}
-
-/// Whether the event is this one of this host.
-fn is_at(stamp: &Stamp<'_>, moment: &Moment<'_>) -> bool
-    ensures { result ≡ is_at (stamp_view stamp.now) (moment_view moment.now) }
-{
-    moment.own == stamp.count && moment.clocked.host == stamp.host
-}
-
-/// The place of the first event that is.
-pub(crate) fn place_of(moments: &[Moment<'_>], stamp: &Stamp<'_>) -> Option<usize>
-    ensures { result ≡ place_from 0 (stamp_view stamp.now) (map moment_view moments.now) }
-{
-    for (place, moment) in moments.iter().enumerate() {
-        if is_at(stamp, moment) {
-            return Some(place);
-        }
-    }
-    None
 }
 
 /// Whether one of the events is told by its clock.

@@ -1,11 +1,15 @@
 //! What events say, by their words or by their clocks.
-ghost use Rattle.std.specs.Prelude.{◌≡◌, map, option_map, IfOk, OnOk};
+ghost use Rattle.std.specs.Prelude.{◌≡◌, List, length, map, option_map, IfOk, OnOk};
 ghost use Rattle.log_lines.specs.Events.{clocked_view, event_view};
 ghost use Rattle.log_lines.specs.Reading.{read_view};
-ghost use Rattle.log_formats.specs.Clocks.Hearing.{heard_view};
+ghost use Rattle.log_formats.specs.Clocks.Ends.{AreEnds};
+ghost use Rattle.log_formats.specs.Clocks.Hearing.{HeardView, heard_view};
+ghost use Rattle.log_formats.specs.Clocks.Messages.{HaveReasons};
 ghost use Rattle.log_formats.specs.Clocks.Moments.{moment_view};
-ghost use Rattle.log_formats.specs.Clocks.Saying.{clocked_at, sent_at, receive_of, send_of, with_receives, is_from, with_sends, with_worded, with_moment, with_all_moments, by_clocks, is_timed};
+ghost use Rattle.log_formats.specs.Clocks.Saying.{clocked_at, sent_at, receive_of, send_of, with_receives, with_sends, with_worded, with_ends, with_all_moments, by_clocks, is_timed};
+ghost use Rattle.log_formats.specs.declared.clocks.ends.End.TheVariants as ends;
 
+use crate::clocks::ends::{End, ends_of};
 use crate::clocks::heard::{Heard, all_heard};
 use crate::clocks::moment::{Moment, any_by_clock, is_by_clock, moments_of};
 use log_lines::{Act, Clocked, Event, LineSays, Read};
@@ -67,51 +71,35 @@ fn send_of<'a>(moment: &Moment<'a>, heard: &Heard<'a>) -> Event<'a>
     }
 }
 
-/// Adds the receives of the event at this place.
+/// Adds the receives of what an event has heard of.
 fn add_receives<'a>(
     moments: &[Moment<'a>],
-    all: &[Heard<'a>],
-    at: usize,
     moment: &Moment<'a>,
+    received: &[Heard<'a>],
     read: &mut Read<'a>,
 ) -> Result<(), AllocError>
     ensures { OnOk result (read_view read.new
-        ≡ with_receives (map moment_view moments.now) at (moment_view moment.now) (map heard_view all.now) (read_view read.old)) }
+        ≡ with_receives (map moment_view moments.now) (moment_view moment.now) (map heard_view received.now) (read_view read.old)) }
 {
-    for heard in all {
-        if heard.at == at {
-            let event = receive_of(moments, moment, heard);
-            read.add(moment.place, LineSays::Event(event))?;
-        }
+    for heard in received {
+        let event = receive_of(moments, moment, heard);
+        read.add(moment.place, LineSays::Event(event))?;
     }
     Ok(())
 }
 
-/// Whether the event at this place is the one behind what was heard.
-fn is_from(at: usize, source: Option<usize>) -> bool
-    ensures { result ≡ is_from at source }
-{
-    match source {
-        None => false,
-        Some(place) => place == at,
-    }
-}
-
-/// Adds the sends of the event at this place.
+/// Adds the sends of which hosts have heard so.
 fn add_sends<'a>(
-    all: &[Heard<'a>],
-    at: usize,
     moment: &Moment<'a>,
+    sent: &[Heard<'a>],
     read: &mut Read<'a>,
 ) -> Result<(), AllocError>
     ensures { OnOk result (read_view read.new
-        ≡ with_sends at (moment_view moment.now) (map heard_view all.now) (read_view read.old)) }
+        ≡ with_sends (moment_view moment.now) (map heard_view sent.now) (read_view read.old)) }
 {
-    for heard in all {
-        if is_from(at, heard.source) {
-            let event = send_of(moment, heard);
-            read.add(moment.place, LineSays::Event(event))?;
-        }
+    for heard in sent {
+        let event = send_of(moment, heard);
+        read.add(moment.place, LineSays::Event(event))?;
     }
     Ok(())
 }
@@ -127,46 +115,54 @@ fn add_worded<'a>(moment: &Moment<'a>, read: &mut Read<'a>) -> Result<(), AllocE
     Ok(())
 }
 
-/// Adds what the event at this place says.
+/// Adds what an event says, of which these are the ends of messages.
 fn add_moment<'a>(
     moments: &[Moment<'a>],
-    all: &[Heard<'a>],
-    at: usize,
     moment: &Moment<'a>,
+    received: &[Heard<'a>],
+    sent: &[Heard<'a>],
     read: &mut Read<'a>,
 ) -> Result<(), AllocError>
     ensures { OnOk result (read_view read.new
-        ≡ with_moment (map moment_view moments.now) (map heard_view all.now) at (moment_view moment.now) (read_view read.old)) }
+        ≡ with_ends (map moment_view moments.now) (moment_view moment.now) (map heard_view received.now) (map heard_view sent.now) (read_view read.old)) }
 {
     if !is_by_clock(moment) {
         return add_worded(moment, read);
     }
-    add_receives(moments, all, at, moment, read)?;
-    add_sends(all, at, moment, read)
+    add_receives(moments, moment, received, read)?;
+    add_sends(moment, sent, read)
 }
 
 /// Adds what the events say.
 fn add_moments<'a>(
     moments: &[Moment<'a>],
-    all: &[Heard<'a>],
+    received: &[Vec<Heard<'a>>],
+    sent: &[Vec<Heard<'a>>],
     read: &mut Read<'a>,
 ) -> Result<(), AllocError>
-    ensures { OnOk result (read_view read.new
-        ≡ with_all_moments (map moment_view moments.now) (map heard_view all.now) 0 (map moment_view moments.now) (read_view read.old)) }
+    requires received { length received.now ≡ length moments.now }
+    requires sent { length sent.now ≡ length moments.now }
+    ensures { OnOk result ((all : List HeardView)
+        → AreEnds ends.Receive (length moments.now) all (map (λ list. map heard_view list.items) received.now)
+        → AreEnds ends.Send (length moments.now) all (map (λ list. map heard_view list.items) sent.now)
+        → read_view read.new ≡ with_all_moments (map moment_view moments.now) all 0 (map moment_view moments.now) (read_view read.old)) }
 {
     for (at, moment) in moments.iter().enumerate() {
-        add_moment(moments, all, at, moment, read)?;
+        let got = received[at].as_slice();
+        let given = sent[at].as_slice();
+        add_moment(moments, moment, got, given, read)?;
     }
     Ok(())
 }
 
 /// What is read of a log, with what its events with vector time say: in the words `out M to B` and `in M from A`, or
 /// else by their clocks. An event whose clock doesn't tell which of its host it is, and that says nothing in words, is
-/// among what isn't read. It takes time in proportion to the square of the number of events.
+/// among what isn't read. It takes time in proportion to the number of events, if few entries of a clock grow at once.
 #[tactic(auto, unfolding(crate::specs::Clocks::Saying::by_clocks, crate::specs::Clocks::Saying::is_timed))]
 pub fn by_clocks<'a>(alloc: Global, read: Read<'a>) -> Result<Timed<'a>, AllocError>
     ensures read { IfOk result (λ timed. read_view timed.read ≡ by_clocks (read_view read.entry)) }
     ensures timed { IfOk result (λ timed. timed.is_timed ≡ is_timed (read_view read.entry)) }
+    ensures reasons { IfOk result (λ timed. HaveReasons (read_view read.entry) (read_view timed.read)) }
 {
     let Read {
         logged,
@@ -180,7 +176,9 @@ pub fn by_clocks<'a>(alloc: Global, read: Read<'a>) -> Result<Timed<'a>, AllocEr
         clocked: Vec::new(alloc),
         others,
     };
-    add_moments(&moments, &all, &mut joined)?;
+    let received = ends_of(alloc, End::Receive, moments.len(), &all)?;
+    let sent = ends_of(alloc, End::Send, moments.len(), &all)?;
+    add_moments(&moments, &received, &sent, &mut joined)?;
     Ok(Timed {
         read: joined,
         is_timed: any_by_clock(&moments),

@@ -8,7 +8,7 @@ use texts::digits::number_in;
 use texts::{behind_blanks, first_place, is_comma, stripped};
 
 /// An entry of a clock: a host, and how many of its events are known.
-#[derive(Clone, Copy, Debug)]
+#[derive(Clone, Copy, Debug, PartialEq, Eq, Hash)]
 pub(crate) struct Stamp<'a> {
     pub host: &'a [u8],
     pub count: u32,

@@ -4,7 +4,7 @@ ghost use Rattle.log_formats.specs.Patterns.Expressions.{IsCompiled, IsExpressio
 
 use crate::patterns::feeds::feeds_in;
 use crate::patterns::groups::{Groups, groups_in};
-use crate::patterns::missing::{Group, lacks};
+use crate::patterns::missing::{Group, lacks, lacks_besides};
 use regex::Error;
 use regex::bytes::Regex;
 use regex_syntax::ErrorKind;
@@ -26,8 +26,9 @@ pub enum Fault {
     Unreadable(ErrorKind),
     /// What it comes to is too large.
     TooLarge,
-    /// It has none of the sets of groups whole, and lacks this one.
-    Lacks(Group),
+    /// It has none of the sets of groups whole. It lacks the first of the set that is meant, and where another set may
+    /// be meant too, the first of that.
+    Lacks(Group, Option<Group>),
 }
 
 /// Why there is no such expression.
@@ -59,8 +60,8 @@ fn compiled(alloc: Global, text: &str) -> Result<Regex, BadExpression>
 
 impl Expression {
     /// Reads an expression, in the syntax of Rust's regex crate and with its own options. Its groups are `host`, `dir`,
-    /// `peer`, `name` and perhaps `id`, or `src`, `dst`, `name` and perhaps `id`, or `host`, `clock` and `event`: the
-    /// first of these sets that it has whole.
+    /// `peer`, `name` and perhaps `id`, `takes` and `arrive`, or `src`, `dst`, `name` and perhaps `id`, or `host`,
+    /// `clock` and `event`: the first of these sets that it has whole.
     pub fn new(alloc: Global, text: &str) -> Result<Expression, BadExpression>
         ensures ok { IfOk result (IsExpression text.now) }
         ensures err { IfErr result (IsBad text.now) }
@@ -72,7 +73,10 @@ impl Expression {
                 groups,
                 more: feeds_in(text.as_bytes()),
             }),
-            None => Err(BadExpression::At(text.len() + 1, Fault::Lacks(lacks(&regex)))),
+            None => Err(BadExpression::At(
+                text.len() + 1,
+                Fault::Lacks(lacks(&regex), lacks_besides(&regex)),
+            )),
         }
     }
 }

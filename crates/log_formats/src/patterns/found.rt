@@ -1,11 +1,12 @@
 //! What a match of an expression says.
 ghost use Rattle.std.specs.Prelude.{◌≡◌, option_map};
 ghost use Rattle.regex.specs.Locations.{location};
-ghost use Rattle.log_lines.specs.Events.{line_view, event_view};
-ghost use Rattle.log_formats.specs.Patterns.Found.{span_bytes, located, id_of, by_direction, event_found, captured_found, clocked_found, found_in, found_by};
+ghost use Rattle.log_lines.specs.Events.{line_view};
+ghost use Rattle.log_formats.specs.Patterns.Found.{span_bytes, located, id_of, captured_found, clocked_found, found_in, found_by};
 
-use crate::patterns::groups::{CaptureGroups, ClockGroups, EventGroups, Groups};
-use log_lines::{Act, Clocked, Direction, Event, LineSays, direction_of};
+use crate::patterns::groups::{CaptureGroups, ClockGroups, Groups};
+use crate::patterns::host_event::event_found;
+use log_lines::{Act, Clocked, Event, LineSays};
 use regex::CaptureLocations;
 
 /// The bytes of this span, if it is one.
@@ -21,7 +22,11 @@ fn span_bytes(window: &[u8], start: usize, end: usize) -> Option<&[u8]>
 }
 
 /// The bytes of a group, if it took part.
-fn group_bytes<'a>(locations: &CaptureLocations, window: &'a [u8], group: usize) -> Option<&'a [u8]>
+pub(crate) fn group_bytes<'a>(
+    locations: &CaptureLocations,
+    window: &'a [u8],
+    group: usize,
+) -> Option<&'a [u8]>
     ensures { option_map (λ b. b.now) result ≡ located window.now (location locations.now) group }
 {
     match locations.get(group) {
@@ -30,8 +35,8 @@ fn group_bytes<'a>(locations: &CaptureLocations, window: &'a [u8], group: usize)
     }
 }
 
-/// The id, if the expression has a group for it, and it isn't empty.
-fn id_of<'a>(
+/// The bytes of a group, if the expression has it, and they aren't empty: an id, or what a receive would have taken.
+pub(crate) fn id_of<'a>(
     locations: &CaptureLocations,
     window: &'a [u8],
     group: Option<usize>,
@@ -46,51 +51,6 @@ fn id_of<'a>(
             Some(id) => Some(id),
         },
     }
-}
-
-/// What a line says of this event, where the word for its direction tells this.
-fn by_direction<'a>(direction: Direction, event: Event<'a>) -> LineSays<'a>
-    ensures { line_view result ≡ by_direction direction (event_view event.entry) }
-{
-    match direction {
-        Direction::Sends => LineSays::Event(Event {
-            host: event.host,
-            act: Act::Send,
-            peer: event.peer,
-            name: event.name,
-            id: event.id,
-        }),
-        Direction::Receives => LineSays::Event(Event {
-            host: event.host,
-            act: Act::Receive,
-            peer: event.peer,
-            name: event.name,
-            id: event.id,
-        }),
-        Direction::Arrives => LineSays::Nothing,
-        Direction::Unknown => LineSays::Other,
-    }
-}
-
-fn event_found<'a>(
-    locations: &CaptureLocations,
-    window: &'a [u8],
-    groups: EventGroups,
-) -> Option<LineSays<'a>>
-    ensures { option_map line_view result ≡ event_found (located window.now (location locations.now)) groups }
-{
-    let host = group_bytes(locations, window, groups.host)?;
-    let direction = group_bytes(locations, window, groups.direction)?;
-    let peer = group_bytes(locations, window, groups.peer)?;
-    let name = group_bytes(locations, window, groups.name)?;
-    let event = Event {
-        host,
-        act: Act::Send,
-        peer,
-        name,
-        id: id_of(locations, window, groups.id),
-    };
-    Some(by_direction(direction_of(direction), event))
 }
 
 fn captured_found<'a>(

@@ -13,6 +13,10 @@ pub struct EventGroups {
     pub peer: usize,
     pub name: usize,
     pub id: Option<usize>,
+    /// What a receive would have taken.
+    pub takes: Option<usize>,
+    /// Where it takes part a message arrived, whatever the direction is.
+    pub arrive: Option<usize>,
 }
 
 /// The groups of a captured message.
@@ -35,7 +39,7 @@ pub struct ClockGroups {
 /// What the groups of an expression say.
 #[derive(Clone, Copy, Debug, PartialEq, Eq)]
 pub enum Groups {
-    /// `host`, `dir`, `peer`, `name` and perhaps `id`.
+    /// `host`, `dir`, `peer`, `name` and perhaps `id`, `takes` and `arrive`.
     Event(EventGroups),
     /// `src`, `dst`, `name` and perhaps `id`.
     Capture(CaptureGroups),
@@ -89,6 +93,8 @@ fn event_groups(expression: &Regex) -> Option<Groups>
         peer,
         name,
         id: group_in(expression, b"id"),
+        takes: group_in(expression, b"takes"),
+        arrive: group_in(expression, b"arrive"),
     }))
 }
 

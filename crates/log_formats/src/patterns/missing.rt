@@ -1,7 +1,7 @@
 //! Which group an expression lacks.
 ghost use Rattle.std.specs.Prelude.{◌≡◌};
 ghost use Rattle.regex.specs.Bytes.{regex_names};
-ghost use Rattle.log_formats.specs.Patterns.Missing.{has_group, clock_lacks, capture_lacks, event_lacks, lacks};
+ghost use Rattle.log_formats.specs.Patterns.Missing.{has_group, clock_lacks, capture_lacks, event_lacks, is_timed, is_captured, lacks, is_of_host, is_mixed, lacks_besides};
 
 use crate::patterns::groups::group_in;
 use regex::bytes::Regex;
@@ -75,16 +75,59 @@ fn event_lacks(expression: &Regex) -> Group
     }
 }
 
+/// Whether there is a group of events with their vector time alone.
+fn is_timed(expression: &Regex) -> bool
+    ensures { result ≡ is_timed (regex_names expression.now) }
+{
+    has_group(expression, b"clock") || has_group(expression, b"event")
+}
+
+/// Whether there is a group of captured messages alone.
+fn is_captured(expression: &Regex) -> bool
+    ensures { result ≡ is_captured (regex_names expression.now) }
+{
+    has_group(expression, b"src") || has_group(expression, b"dst")
+}
+
 /// The first group that the expression lacks of the set that is meant: where it has `clock` or `event` that of vector
 /// time, else where it has `src` or `dst` that of captured messages, else that of events.
 pub(crate) fn lacks(expression: &Regex) -> Group
     ensures { result ≡ lacks (regex_names expression.now) }
 {
-    if has_group(expression, b"clock") || has_group(expression, b"event") {
+    if is_timed(expression) {
         clock_lacks(expression)
-    } else if has_group(expression, b"src") || has_group(expression, b"dst") {
+    } else if is_captured(expression) {
         capture_lacks(expression)
     } else {
         event_lacks(expression)
+    }
+}
+
+/// Whether there is a group of events of a host that captured messages don't have.
+fn is_of_host(expression: &Regex) -> bool
+    ensures { result ≡ is_of_host (regex_names expression.now) }
+{
+    has_group(expression, b"host")
+        || (has_group(expression, b"dir") || has_group(expression, b"peer"))
+}
+
+/// Whether there are groups of captured messages and of events of a host, and `name`, which both have.
+fn is_mixed(expression: &Regex) -> bool
+    ensures { result ≡ is_mixed (regex_names expression.now) }
+{
+    is_captured(expression) && (is_of_host(expression) && has_group(expression, b"name"))
+}
+
+/// The first group that the expression lacks of events of a host, where captured messages are meant, or these.
+pub(crate) fn lacks_besides(expression: &Regex) -> Option<Group>
+    ensures { result ≡ lacks_besides (regex_names expression.now) }
+{
+    if is_timed(expression) {
+        return None;
+    }
+    if is_mixed(expression) {
+        Some(event_lacks(expression))
+    } else {
+        None
     }
 }

@@ -2,47 +2,16 @@
 ghost use Rattle.std.specs.Prelude.{◌≡◌, length, map, IfOk, OnOk};
 ghost use Rattle.regex.specs.Bytes.{matcher_pattern, regex_pattern, regex_names};
 ghost use Rattle.regex.specs.Locations.{location_count};
-ghost use Rattle.log_lines.specs.Events.{line_view};
 ghost use Rattle.log_formats.specs.Patterns.Groups.{AreAmong};
 ghost use Rattle.log_formats.specs.Patterns.PatternReading.{pattern_step, pattern_read};
 ghost use Rattle.log_lines.specs.Reading.{read_view, with_line, all_lines};
-ghost use Rattle.log_lines.specs.Windows.{step_view, step_at, with_windows};
+ghost use Rattle.log_lines.specs.Windows.{with_windows};
 
 use crate::patterns::expression::Expression;
-use crate::patterns::search::Search;
-use log_lines::{LineRange, LineSays, Place, Read, Step, is_within};
+use crate::patterns::search::{Search, found_at};
+use log_lines::{LineRange, Place, Read};
 use std::alloc::{AllocError, Global};
 use texts::next_line;
-
-/// What the line with this number says, the first of the text, where so many lines are a part of what was said before.
-fn step_at<'a>(
-    search: &mut Search<'_>,
-    range: LineRange,
-    number: u64,
-    taken: usize,
-    text: &'a [u8],
-) -> Step<'a>
-    requires { AreAmong (location_count search.old.locations) search.old.groups }
-    ensures value { step_view result ≡ step_at (pattern_step search.old.groups search.old.more (matcher_pattern search.old.matcher)) range number taken (all_lines text.now) }
-    ensures pattern { matcher_pattern search.new.matcher ≡ matcher_pattern search.old.matcher }
-    ensures groups { search.new.groups ≡ search.old.groups }
-    ensures more { search.new.more ≡ search.old.more }
-    ensures among { AreAmong (location_count search.new.locations) search.new.groups }
-{
-    if taken > 0 {
-        return Step {
-            says: LineSays::Nothing,
-            takes: taken - 1,
-        };
-    }
-    if !is_within(range, number) {
-        return Step {
-            says: LineSays::Nothing,
-            takes: 0,
-        };
-    }
-    search.step(text)
-}
 
 /// Adds the lines of a text.
 fn add_text<'a>(
@@ -64,9 +33,9 @@ fn add_text<'a>(
     let mut number = 1;
     let mut taken = 0;
     'lines: loop {
-        let step = step_at(search, range, number, taken, rest);
-        read.add(Place { text, line: number }, step.says)?;
-        taken = step.takes;
+        let found = found_at(search, range, number, taken, rest);
+        read.add(Place { text, line: number }, found.step.says)?;
+        taken = found.step.takes;
         match next_line(rest) {
             None => break,
             Some((_, after)) => {

@@ -1,18 +1,20 @@
 //! An expression, matched with lines.
-ghost use Rattle.std.specs.Prelude.{◌≡◌, ◌≤◌, length, IfOk};
+ghost use Rattle.std.specs.Prelude.{◌≡◌, ◌≤◌, None, length, option_map, IfOk};
 ghost use Rattle.regex.specs.Bytes.{matcher_pattern, regex_pattern, regex_names};
 ghost use Rattle.regex.specs.Locations.{location, location_count};
 ghost use Rattle.regex.specs.Patterns.{find};
 ghost use Rattle.log_lines.specs.Events.{line_view};
 ghost use Rattle.log_formats.specs.Patterns.Groups.{AreAmong};
-ghost use Rattle.log_formats.specs.Patterns.PatternReading.{window_of, unmatched, alone, line_at, read_as, match_step, matched, pattern_step};
+ghost use Rattle.log_formats.specs.Patterns.Found.{located, host_event_view};
+ghost use Rattle.log_formats.specs.Patterns.PatternReading.{window_of, unmatched, alone, line_at, read_as, match_step, matched, event_in, told, event_at, pattern_step, pattern_event};
 ghost use Rattle.log_lines.specs.Reading.{all_lines};
-ghost use Rattle.log_lines.specs.Windows.{step_view};
+ghost use Rattle.log_lines.specs.Windows.{step_view, step_at};
 
 use crate::patterns::expression::Expression;
 use crate::patterns::found::found_by;
 use crate::patterns::groups::Groups;
-use log_lines::{LineSays, Step, window};
+use crate::patterns::host_event::{HostEvent, host_event};
+use log_lines::{LineRange, LineSays, Step, is_within, window};
 use regex::CaptureLocations;
 use regex::bytes::Matcher;
 use std::alloc::{AllocError, Global};
@@ -25,6 +27,13 @@ pub(crate) struct Search<'r> {
     locations: CaptureLocations,
     groups: Groups,
     more: usize,
+}
+
+/// What the first line of a text says, and what it tells of a host.
+#[derive(Clone, Copy, Debug)]
+pub(crate) struct Found<'a> {
+    pub step: Step<'a>,
+    pub event: Option<HostEvent<'a>>,
 }
 
 /// What a line says that isn't read.
@@ -92,26 +101,55 @@ fn match_step<'a>(
     read_as(says, touched, text)
 }
 
+/// What a match tells of a host.
+fn event_in<'a>(
+    locations: &CaptureLocations,
+    groups: Groups,
+    window: &'a [u8],
+) -> Option<HostEvent<'a>>
+    ensures { option_map host_event_view result ≡ event_in groups (located window.now (location locations.now)) }
+{
+    match groups {
+        Groups::Event(groups) => host_event(locations, window, groups),
+        Groups::Capture(_) | Groups::Clock(_) => None,
+    }
+}
+
+/// What the first line of a text says and tells where no match begins in it.
+fn nothing_found<'a>(text: &[u8]) -> Found<'a>
+    ensures step { step_view result.step ≡ alone (window_of 0 (all_lines text.now)) }
+    ensures event { result.event ≡ None }
+{
+    Found {
+        step: alone(text),
+        event: None,
+    }
+}
+
 /// What the first line of a text says by the expression, which is looked for in these of its lines.
-fn line_step<'a>(
+fn line_found<'a>(
     matcher: &mut Matcher<'_>,
     locations: &mut CaptureLocations,
     groups: Groups,
     window: &'a [u8],
     text: &[u8],
-) -> Step<'a>
+) -> Found<'a>
     requires { AreAmong (location_count locations.old) groups }
-    ensures value { step_view result ≡ matched groups window.now (window_of 0 (all_lines text.now)) (find (matcher_pattern matcher.old) window.now 0) }
+    ensures step { step_view result.step ≡ matched groups window.now (window_of 0 (all_lines text.now)) (find (matcher_pattern matcher.old) window.now 0) }
+    ensures event { option_map host_event_view result.event ≡ told groups window.now (find (matcher_pattern matcher.old) window.now 0) }
     ensures same { matcher_pattern matcher.new ≡ matcher_pattern matcher.old }
     ensures count { location_count locations.new ≡ location_count locations.old }
 {
     match matcher.captures_read(locations, window) {
-        None => alone(text),
+        None => nothing_found(text),
         Some(found) => {
             if line_at(window, found.start()) == 0 {
-                match_step(locations, groups, window, found.end(), text)
+                Found {
+                    step: match_step(locations, groups, window, found.end(), text),
+                    event: event_in(locations, groups, window),
+                }
             } else {
-                alone(text)
+                nothing_found(text)
             }
         }
     }
@@ -136,18 +174,19 @@ impl<'r> Search<'r> {
         })
     }
 
-    /// What the first line of a text says, with those behind it that its match touches.
-    #[tactic(auto, unfolding(crate::specs::Patterns::PatternReading::pattern_step))]
-    pub(crate) fn step<'a>(&mut self, text: &'a [u8]) -> Step<'a>
+    /// What the first line of a text says and tells, with those behind it that its match touches.
+    #[tactic(auto, unfolding(crate::specs::Patterns::PatternReading::pattern_step, crate::specs::Patterns::PatternReading::pattern_event))]
+    pub(crate) fn found<'a>(&mut self, text: &'a [u8]) -> Found<'a>
         requires { AreAmong (location_count self.old.locations) self.old.groups }
-        ensures value { step_view result ≡ pattern_step self.old.groups self.old.more (matcher_pattern self.old.matcher) (all_lines text.now) }
+        ensures step { step_view result.step ≡ pattern_step self.old.groups self.old.more (matcher_pattern self.old.matcher) (all_lines text.now) }
+        ensures event { option_map host_event_view result.event ≡ pattern_event self.old.groups self.old.more (matcher_pattern self.old.matcher) (all_lines text.now) }
         ensures pattern { matcher_pattern self.new.matcher ≡ matcher_pattern self.old.matcher }
         ensures groups { self.new.groups ≡ self.old.groups }
         ensures more { self.new.more ≡ self.old.more }
         ensures among { AreAmong (location_count self.new.locations) self.new.groups }
     {
         let lines = window(text, self.more);
-        line_step(
+        line_found(
             &mut self.matcher,
             &mut self.locations,
             self.groups,
@@ -155,4 +194,42 @@ impl<'r> Search<'r> {
             text,
         )
     }
+}
+
+/// What the line with this number says and tells, the first of the text, where so many lines are a part of what was
+/// said before.
+pub(crate) fn found_at<'a>(
+    search: &mut Search<'_>,
+    range: LineRange,
+    number: u64,
+    taken: usize,
+    text: &'a [u8],
+) -> Found<'a>
+    requires { AreAmong (location_count search.old.locations) search.old.groups }
+    ensures step { step_view result.step ≡ step_at (pattern_step search.old.groups search.old.more (matcher_pattern search.old.matcher)) range number taken (all_lines text.now) }
+    ensures event { option_map host_event_view result.event ≡ event_at (pattern_event search.old.groups search.old.more (matcher_pattern search.old.matcher)) range number taken (all_lines text.now) }
+    ensures pattern { matcher_pattern search.new.matcher ≡ matcher_pattern search.old.matcher }
+    ensures groups { search.new.groups ≡ search.old.groups }
+    ensures more { search.new.more ≡ search.old.more }
+    ensures among { AreAmong (location_count search.new.locations) search.new.groups }
+{
+    if taken > 0 {
+        return Found {
+            step: Step {
+                says: LineSays::Nothing,
+                takes: taken - 1,
+            },
+            event: None,
+        };
+    }
+    if !is_within(range, number) {
+        return Found {
+            step: Step {
+                says: LineSays::Nothing,
+                takes: 0,
+            },
+            event: None,
+        };
+    }
+    search.found(text)
 }

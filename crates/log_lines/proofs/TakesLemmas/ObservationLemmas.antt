@@ -17,7 +17,7 @@ use Rattle.log_lines.specs.Names.Hosts.{PeerView, host_of}
 use Rattle.race_verdicts.specs.Recordings.{PatternView, TakenView}
 use Rattle.log_lines.specs.Takes.Messages.{between}
 use Rattle.log_lines.specs.Takes.Patterns.{patterns_of}
-use Rattle.log_lines.specs.Takes.Observations.{ObservationsView, no_observations, behind_id, taken_at, with_patterns, with_act, with_words, with_lines, with_texts, observed_in}
+use Rattle.log_lines.specs.Takes.Observations.{ObservationsView, no_observations, behind_id, taken_at, with_patterns, with_act, with_words, has_misspelled, with_misspelled, with_spelling, with_lines, with_texts, observed_in}
 use Rattle.log_lines.proofs.TakesLemmas.CountLemmas.{between_one}
 
 -- each line is this one or a later one, and none comes before the one above it
@@ -56,7 +56,7 @@ pub record AreObserved (peers : List PeerView) (logged : List LoggedEventView) (
   pub rising : IsRising 0 t.taken
   pub below : All (λ x. x.line < t.lines) t.taken
 
-message_observed : (own : Bool) (peers : List PeerView) (logged : List LoggedEventView) (s : LoggedEventView) (patterns : List PatternView) (t : ObservationsView) → AreObserved peers logged t
+pub message_observed : (own : Bool) (peers : List PeerView) (logged : List LoggedEventView) (s : LoggedEventView) (patterns : List PatternView) (t : ObservationsView) → AreObserved peers logged t
     → bytes_eq (host_of peers s.event.host) (host_of peers s.event.peer) ≡ own → AreObserved peers (logged ++ s ∷ []) (cond own t (record (with_patterns patterns t) { lines = t.lines + 1 }))
 message_observed true peers logged s patterns t observed is =
     let same = between_one true peers logged s is in
@@ -101,26 +101,43 @@ words_observed peers [] place r t observed = observed
 words_observed peers (host ∷ []) place r t observed = observed
 words_observed peers (host ∷ dir ∷ words) place r t observed = act_observed peers host (direction_of dir) (behind_preposition words) place r t observed
 
+-- what is spelled otherwise changes nothing of it
+spelling_observed : (peers : List PeerView) (place : Place) (words : List (List ℕ)) (logged : List LoggedEventView) (t : ObservationsView) → AreObserved peers logged t
+    → AreObserved peers logged (with_spelling place words t)
+spelling_observed peers place words logged t observed = go (has_misspelled words)
+  where
+    go : (misspelled : Bool) → AreObserved peers logged (cond misspelled (with_misspelled place t) t)
+    go true = record { count = observed.count; rising = observed.rising; below = observed.below }
+    go false = observed
+
 lines_observed : (peers : List PeerView) (range : LineRange) (text n : ℕ) (lines : List (List ℕ)) (r : ReadView) (t : ObservationsView) → AreObserved peers r.logged t
-    → AreObserved peers (read_lines plain_line range text n lines r).logged (with_lines peers range n lines t)
+    → AreObserved peers (read_lines plain_line range text n lines r).logged (with_lines peers range text n lines t)
 unfolding plain_line
 lines_observed peers range text n [] r t observed = observed
 lines_observed peers range text n (line ∷ lines) r t observed = lines_observed peers range text (n + 1) lines _ _ (go (is_within range n))
   where
     go : (within : Bool)
-        → AreObserved peers (cond within (with_line (record { text = text; line = n }) (line_by (words_of line)) r) r).logged (cond within (with_words peers (words_of line) t) t)
-    go true = words_observed peers (words_of line) (record { text = text; line = n }) r t observed
+        → AreObserved peers (cond within (with_line (record { text = text; line = n }) (line_by (words_of line)) r) r).logged
+        (cond within (with_spelling (record { text = text; line = n }) (words_of line) (with_words peers (words_of line) t)) t)
+    go true = spelling_observed peers (record { text = text; line = n }) (words_of line) _ _ (words_observed peers (words_of line) (record { text = text; line = n }) r t observed)
     go false = observed
 
 texts_observed : (peers : List PeerView) (range : LineRange) (n : ℕ) (texts : List (List ℕ)) (r : ReadView) (t : ObservationsView) → AreObserved peers r.logged t
-    → AreObserved peers (read_texts plain_line range n texts r).logged (with_texts peers range texts t)
+    → AreObserved peers (read_texts plain_line range n texts r).logged (with_texts peers range n texts t)
 texts_observed peers range n [] r t observed = observed
 texts_observed peers range n (text ∷ texts) r t observed = texts_observed peers range (n + 1) texts _ _ (lines_observed peers range n 1 (all_lines text) r t observed)
 
+pub none_observed : (peers : List PeerView) → AreObserved peers [] no_observations
+none_observed peers = record { count = refl; rising = tt; below = All-nil (λ (x : TakenView). x.line < 0) }
+
+-- what would have been taken stands by lines of messages, in their order
+pub pairs_observed : (peers : List PeerView) (logged : List LoggedEventView) (t : ObservationsView) → AreObserved peers logged t → AllPairs (λ a b. a.line ≤ b.line) t.taken
+pairs_observed peers logged t observed = rising_pairs 0 t.taken observed.rising
+
 pub are_observed : (peers : List PeerView) (range : LineRange) (texts : List (List ℕ)) → AreObserved peers (plain_read range texts).logged (observed_in peers range texts)
 unfolding plain_read observed_in
-are_observed peers range texts = texts_observed peers range 0 texts nothing_read no_observations (record { count = refl; rising = tt; below = All-nil (λ (x : TakenView). x.line < 0) })
+are_observed peers range texts = texts_observed peers range 0 texts nothing_read no_observations (none_observed peers)
 
 -- what would have been taken stands by lines of the log, in their order
 pub observed_pairs : (peers : List PeerView) (range : LineRange) (texts : List (List ℕ)) → AllPairs (λ a b. a.line ≤ b.line) (observed_in peers range texts).taken
-observed_pairs peers range texts = rising_pairs 0 (observed_in peers range texts).taken (are_observed peers range texts).rising
+observed_pairs peers range texts = pairs_observed peers (plain_read range texts).logged (observed_in peers range texts) (are_observed peers range texts)

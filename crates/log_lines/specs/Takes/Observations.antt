@@ -1,15 +1,18 @@
 -- What the lines of an application's log tell beside messages: `HOST arrive [from] PEER NAME [ID] [REST]`, that a message
 -- reached HOST, and in the REST of a receive what it would have taken (this project's profile of logs).
-use Rattle.std.specs.Prelude.{ℕ, ◌+◌, List, [], ◌∷◌, ◌++◌, Option, map, option_map, bytes_eq, if◌then◌else◌}
+use Rattle.std.specs.Prelude.{ℕ, ◌+◌, Bool, false, List, [], ◌∷◌, ◌++◌, Option, None, Some, map, option_map, bytes_eq, if◌then◌else◌}
+use Rattle.std.specs.List.{list_any}
 use Rattle.log_lines.specs.Plain.{direction_of, behind_preposition, begins_rest, id_in}
-use Rattle.log_lines.specs.Reading.{is_within, all_lines}
+use Rattle.log_lines.specs.Reading.{is_within, with_other, all_lines}
 use Rattle.log_lines.specs.Words.{words_of}
+use Rattle.log_lines.specs.declared.event.Place.{Place}
 use Rattle.log_lines.specs.declared.plain.Direction.{Direction}
 use Rattle.log_lines.specs.declared.plain.Direction.TheVariants.{Sends, Receives, Arrives, Unknown}
 use Rattle.log_lines.specs.declared.range.LineRange.{LineRange}
+use Rattle.log_lines.specs.declared.read.Others.{Others}
 use Rattle.log_lines.specs.Names.Hosts.{PeerView, host_of}
 use Rattle.race_verdicts.specs.Recordings.{PatternView, TakenView, taken_view}
-use Rattle.log_lines.specs.Takes.Patterns.{patterns_of}
+use Rattle.log_lines.specs.Takes.Patterns.{patterns_of, is_misspelled}
 use Rattle.log_lines.specs.declared.takes.observations.Arrived.{Arrived}
 use Rattle.log_lines.specs.declared.takes.observations.Observations.{Observations}
 
@@ -24,17 +27,24 @@ pub record ArrivedView : Type 0 where
 abbrev pub arrived_view : Arrived → ArrivedView
 arrived_view a = record { host = a.host.now; peer = a.peer.now; name = a.name.now; id = option_map (λ w. w.now) a.id; at = a.at }
 
--- how many lines tell of messages from one host to another, what their receives would have taken, and what arrived
+-- how many lines tell of messages from one host to another, what their receives would have taken, what arrived, and which
+-- receives have words that begin with `takes=` and are spelled otherwise
 pub record ObservationsView : Type 0 where
   pub lines : ℕ
   pub taken : List TakenView
   pub arrived : List ArrivedView
+  pub misspelled : Option Others
 
 abbrev pub observations_view : Observations → ObservationsView
-observations_view t = record { lines = t.lines; taken = map taken_view t.taken.items; arrived = map arrived_view t.arrived.items }
+observations_view t = record {
+  lines = t.lines;
+  taken = map taken_view t.taken.items;
+  arrived = map arrived_view t.arrived.items;
+  misspelled = t.misspelled;
+}
 
 abbrev pub no_observations : ObservationsView
-no_observations = record { lines = 0; taken = []; arrived = [] }
+no_observations = record { lines = 0; taken = []; arrived = []; misspelled = None }
 
 -- the words behind the id, in those behind the name
 abbrev pub behind_id : List (List ℕ) → List (List ℕ)
@@ -49,22 +59,25 @@ taken_at line p = record { line = line; pattern = p }
 abbrev pub with_patterns : List PatternView → ObservationsView → ObservationsView
 with_patterns patterns t = record t { taken = t.taken ++ map (taken_at t.lines) patterns }
 
+-- with one line more
+abbrev pub with_line_more : ObservationsView → ObservationsView
+with_line_more t = record t { lines = t.lines + 1 }
+
 -- with one line more of a message between these hosts, whose receive would have taken this
 abbrev pub with_message : List ℕ → List ℕ → List PatternView → ObservationsView → ObservationsView
-with_message host peer patterns t =
-    if bytes_eq host peer then t else record (with_patterns patterns t) { lines = t.lines + 1 }
+with_message host peer patterns t = if bytes_eq host peer then t else with_line_more (with_patterns patterns t)
 
--- with the arrival of a message with this name, and these words behind it
-abbrev pub with_arrival : List ℕ → List ℕ → List ℕ → List (List ℕ) → ObservationsView → ObservationsView
-with_arrival host peer name words t =
-    record t { arrived = t.arrived ++ record { host = host; peer = peer; name = name; id = id_in words; at = t.lines } ∷ [] }
+-- with the arrival of a message with this name and id
+abbrev pub with_arrival : List ℕ → List ℕ → List ℕ → Option (List ℕ) → ObservationsView → ObservationsView
+with_arrival host peer name id t =
+    record t { arrived = t.arrived ++ record { host = host; peer = peer; name = name; id = id; at = t.lines } ∷ [] }
 
 -- with a line on which a host did this with the message of these words
 abbrev pub with_act : List PeerView → List ℕ → Direction → List (List ℕ) → ObservationsView → ObservationsView
 with_act peers host Sends (peer ∷ name ∷ words) t = with_message (host_of peers host) (host_of peers peer) [] t
 with_act peers host Receives (peer ∷ name ∷ words) t =
     with_message (host_of peers host) (host_of peers peer) (patterns_of peers (behind_id words)) t
-with_act peers host Arrives (peer ∷ name ∷ words) t = with_arrival (host_of peers host) (host_of peers peer) name words t
+with_act peers host Arrives (peer ∷ name ∷ words) t = with_arrival (host_of peers host) (host_of peers peer) name (id_in words) t
 with_act peers host Unknown (peer ∷ name ∷ words) t = t
 with_act peers host direction words t = t
 
@@ -73,17 +86,39 @@ unfoldable pub with_words : List PeerView → List (List ℕ) → ObservationsVi
 with_words peers (host ∷ dir ∷ words) t = with_act peers host (direction_of dir) (behind_preposition words) t
 with_words peers words t = t
 
--- with these lines of a text, the first of which has this number
-abbrev pub with_lines : List PeerView → LineRange → ℕ → List (List ℕ) → ObservationsView → ObservationsView
-with_lines peers range n [] t = t
-with_lines peers range n (line ∷ lines) t =
-    with_lines peers range (n + 1) lines (if is_within range n then with_words peers (words_of line) t else t)
+-- behind the name and the id of a receive a word begins with `takes=` and is spelled otherwise
+abbrev pub rest_misspelled : Direction → List (List ℕ) → Bool
+rest_misspelled Sends (peer ∷ name ∷ words) = false
+rest_misspelled Receives (peer ∷ name ∷ words) = list_any is_misspelled (behind_id words)
+rest_misspelled Arrives (peer ∷ name ∷ words) = false
+rest_misspelled Unknown (peer ∷ name ∷ words) = false
+rest_misspelled direction words = false
 
--- with these texts
-abbrev pub with_texts : List PeerView → LineRange → List (List ℕ) → ObservationsView → ObservationsView
-with_texts peers range [] t = t
-with_texts peers range (text ∷ texts) t = with_texts peers range texts (with_lines peers range 1 (all_lines text) t)
+-- the same of a line of these words
+unfoldable pub has_misspelled : List (List ℕ) → Bool
+has_misspelled (host ∷ dir ∷ words) = rest_misspelled (direction_of dir) (behind_preposition words)
+has_misspelled words = false
+
+-- with a receive at this place that has such a word
+abbrev pub with_misspelled : Place → ObservationsView → ObservationsView
+with_misspelled place t = record t { misspelled = Some (with_other place t.misspelled) }
+
+-- with what is spelled otherwise in the line of these words at this place
+abbrev pub with_spelling : Place → List (List ℕ) → ObservationsView → ObservationsView
+with_spelling place words t = if has_misspelled words then with_misspelled place t else t
+
+-- with these lines of a text, the first of which has this number
+abbrev pub with_lines : List PeerView → LineRange → ℕ → ℕ → List (List ℕ) → ObservationsView → ObservationsView
+with_lines peers range text n [] t = t
+with_lines peers range text n (line ∷ lines) t =
+    with_lines peers range text (n + 1) lines
+    (if is_within range n then with_spelling (record { text = text; line = n }) (words_of line) (with_words peers (words_of line) t) else t)
+
+-- with these texts, the first of which has this number
+abbrev pub with_texts : List PeerView → LineRange → ℕ → List (List ℕ) → ObservationsView → ObservationsView
+with_texts peers range n [] t = t
+with_texts peers range n (text ∷ texts) t = with_texts peers range (n + 1) texts (with_lines peers range n 1 (all_lines text) t)
 
 -- what the texts tell
 unfoldable pub observed_in : List PeerView → LineRange → List (List ℕ) → ObservationsView
-observed_in peers range texts = with_texts peers range texts no_observations
+observed_in peers range texts = with_texts peers range 0 texts no_observations

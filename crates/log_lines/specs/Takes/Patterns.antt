@@ -1,5 +1,5 @@
 -- What a receive would have taken, by the words `takes=PEER:NAMES` of its line (this project's profile of logs).
-use Rattle.std.specs.Prelude.{ℕ, ◌+◌, ◌==◌, ◌||◌, List, Option, None, Some, length, take, drop, filter_map, codes, bytes_eq, if◌then◌else◌}
+use Rattle.std.specs.Prelude.{ℕ, ◌+◌, ◌==◌, ◌||◌, Bool, false, List, [], Option, None, Some, length, take, drop, filter_map, is_none, codes, bytes_eq, if◌then◌else◌}
 use Rattle.texts.specs.Words.{first_place}
 use Rattle.diagram_statements.specs.Options.{◌>>=◌}
 use Rattle.log_lines.specs.Plain.{begins_rest}
@@ -16,10 +16,26 @@ parted peers text colon =
     if colon == 0 || length text == colon + 1 then None
     else Some (record { peer = sender_of peers (take colon text); names = drop (colon + 1) text })
 
--- what a word tells, which tells nothing where it is spelled otherwise
+-- PEER:NAMES, which tells nothing where it is spelled otherwise
+abbrev pub pattern_in : List PeerView → List ℕ → Option PatternView
+pattern_in peers text = first_place 58 text >>= parted peers text
+
+-- what a word tells
 unfoldable pub pattern_of : List PeerView → List ℕ → Option PatternView
-pattern_of peers word = if begins_rest word then first_place 58 (drop 6 word) >>= parted peers (drop 6 word) else None
+pattern_of peers word = if begins_rest word then pattern_in peers (drop 6 word) else None
 
 -- what words tell
 abbrev pub patterns_of : List PeerView → List (List ℕ) → List PatternView
 patterns_of peers words = filter_map (pattern_of peers) words
+
+-- a word begins with `takes=`, and is spelled otherwise
+unfoldable pub is_misspelled : List ℕ → Bool
+is_misspelled word = if begins_rest word then is_none (pattern_of [] word) else false
+
+-- what a word PEER:NAMES tells, before which `takes=` may stand
+unfoldable pub short_pattern : List PeerView → List ℕ → Option PatternView
+short_pattern peers word = if begins_rest word then pattern_in peers (drop 6 word) else pattern_in peers word
+
+-- what such words tell
+abbrev pub short_patterns : List PeerView → List (List ℕ) → List PatternView
+short_patterns peers words = filter_map (short_pattern peers) words

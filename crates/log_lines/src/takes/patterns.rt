@@ -2,7 +2,7 @@
 ghost use Rattle.std.specs.Prelude.{◌≡◌, ◌<◌, length, map, option_map};
 ghost use Rattle.log_lines.specs.Names.Hosts.{peer_view};
 ghost use Rattle.race_verdicts.specs.Recordings.{pattern_view};
-ghost use Rattle.log_lines.specs.Takes.Patterns.{sender_of, parted, pattern_of};
+ghost use Rattle.log_lines.specs.Takes.Patterns.{sender_of, parted, pattern_in, pattern_of, is_misspelled, short_pattern};
 
 use crate::begins_rest;
 use crate::names::{Peer, host_of};
@@ -34,15 +34,48 @@ fn parted<'a>(peers: &[Peer<'a>], text: &'a [u8], colon: usize) -> Option<Patter
     })
 }
 
+/// What PEER:NAMES tells. What is spelled otherwise tells nothing.
+fn pattern_in<'a>(peers: &[Peer<'a>], text: &'a [u8]) -> Option<Pattern<'a>>
+    ensures { option_map pattern_view result ≡ pattern_in (map peer_view peers.now) text.now }
+{
+    let colon = first_place(b':', text)?;
+    parted(peers, text, colon)
+}
+
 /// What a word `takes=PEER:NAMES` tells. One that is spelled otherwise tells nothing.
 #[tactic(auto, unfolding(crate::specs::Takes::Patterns::pattern_of))]
 pub(crate) fn pattern_of<'a>(peers: &[Peer<'a>], word: &'a [u8]) -> Option<Pattern<'a>>
     ensures { option_map pattern_view result ≡ pattern_of (map peer_view peers.now) word.now }
 {
-    if !begins_rest(word) {
-        return None;
+    if begins_rest(word) {
+        pattern_in(peers, &word[6..])
+    } else {
+        None
     }
-    let text = &word[6..];
-    let colon = first_place(b':', text)?;
-    parted(peers, text, colon)
+}
+
+/// Whether a word begins with `takes=`, and is spelled otherwise.
+#[tactic(auto, unfolding(crate::specs::Takes::Patterns::is_misspelled))]
+pub(crate) fn is_misspelled(word: &[u8]) -> bool
+    ensures { result ≡ is_misspelled word.now }
+{
+    if !begins_rest(word) {
+        return false;
+    }
+    match pattern_of(&[], word) {
+        Some(_) => false,
+        None => true,
+    }
+}
+
+/// What a word PEER:NAMES tells, before which `takes=` may stand.
+#[tactic(auto, unfolding(crate::specs::Takes::Patterns::short_pattern))]
+pub(crate) fn short_pattern<'a>(peers: &[Peer<'a>], word: &'a [u8]) -> Option<Pattern<'a>>
+    ensures { option_map pattern_view result ≡ short_pattern (map peer_view peers.now) word.now }
+{
+    if begins_rest(word) {
+        pattern_in(peers, &word[6..])
+    } else {
+        pattern_in(peers, word)
+    }
 }

@@ -1,14 +1,18 @@
 //! What the texts of a log tell beside messages.
 ghost use Rattle.std.specs.Prelude.{◌≡◌, if◌then◌else◌, map, IfOk, OnOk};
+ghost use Rattle.std.specs.List.{list_any};
 ghost use Rattle.log_lines.specs.Reading.{is_within, all_lines};
 ghost use Rattle.log_lines.specs.Words.{words_of};
 ghost use Rattle.log_lines.specs.Names.Hosts.{peer_view};
-ghost use Rattle.log_lines.specs.Takes.Observations.{observations_view, behind_id, with_act, with_words, with_lines, observed_in};
+ghost use Rattle.log_lines.specs.Takes.Patterns.{is_misspelled};
+ghost use Rattle.log_lines.specs.Takes.Observations.{observations_view, behind_id, with_act, with_words, rest_misspelled, has_misspelled, with_spelling, with_lines, observed_in};
 
 use crate::names::{Peer, host_of};
 use crate::takes::observations::Observations;
+use crate::takes::patterns::is_misspelled;
 use crate::{
-    Direction, LineRange, begins_rest, behind_preposition, direction_of, is_within, words_of,
+    Direction, LineRange, Place, begins_rest, behind_preposition, direction_of, id_in, is_within,
+    words_of,
 };
 use std::alloc::{AllocError, Global};
 use texts::next_line;
@@ -47,7 +51,7 @@ fn add_act<'a>(
             match direction {
                 Direction::Sends => observed.add_message(peers, host, peer, &[]),
                 Direction::Receives => observed.add_message(peers, host, peer, behind_id(others)),
-                Direction::Arrives => observed.add_arrival(host, peer, *name, others),
+                Direction::Arrives => observed.add_arrival(host, peer, *name, id_in(others)),
                 Direction::Unknown => Ok(()),
             }
         }
@@ -77,55 +81,113 @@ fn add_words<'a>(
     }
 }
 
+/// Whether one of these words begins with `takes=` and is spelled otherwise.
+fn any_misspelled(words: &[&[u8]]) -> bool
+    ensures { result ≡ list_any is_misspelled (map (λ w. w.now) words.now) }
+{
+    for word in words {
+        if is_misspelled(*word) {
+            return true;
+        }
+    }
+    false
+}
+
+/// Whether one stands behind the name and the id of a receive.
+fn rest_misspelled(direction: Direction, words: &[&[u8]]) -> bool
+    ensures { result ≡ rest_misspelled direction (map (λ w. w.now) words.now) }
+{
+    match words {
+        [_, _, others @ ..] => match direction {
+            Direction::Receives => any_misspelled(behind_id(others)),
+            Direction::Sends | Direction::Arrives | Direction::Unknown => false,
+        },
+        _ => false,
+    }
+}
+
+/// Whether a line of these words is a receive that has one.
+#[tactic(auto, unfolding(crate::specs::Takes::Observations::has_misspelled))]
+fn has_misspelled(words: &[&[u8]]) -> bool
+    ensures { result ≡ has_misspelled (map (λ w. w.now) words.now) }
+{
+    match words {
+        [_, word, others @ ..] => rest_misspelled(direction_of(*word), behind_preposition(others)),
+        _ => false,
+    }
+}
+
+/// Adds what is spelled otherwise in the line of these words at this place.
+fn add_spelling(
+    place: Place,
+    words: &[&[u8]],
+    observed: &mut Observations<'_>,
+) -> Result<(), AllocError>
+    ensures { OnOk result (observations_view observed.new
+        ≡ with_spelling place (map (λ w. w.now) words.now) (observations_view observed.old)) }
+{
+    if has_misspelled(words) {
+        observed.add_misspelled(place)
+    } else {
+        Ok(())
+    }
+}
+
 /// Adds a line, if it is read.
 fn add_line<'a>(
     alloc: Global,
     peers: &[Peer<'a>],
     range: LineRange,
-    number: u64,
+    place: Place,
     line: &'a [u8],
     observed: &mut Observations<'a>,
 ) -> Result<(), AllocError>
-    ensures { OnOk result (observations_view observed.new ≡ (if is_within range number
-        then with_words (map peer_view peers.now) (words_of line.now) (observations_view observed.old) else observations_view observed.old)) }
+    ensures { OnOk result (observations_view observed.new ≡ (if is_within range place.line
+        then with_spelling place (words_of line.now) (with_words (map peer_view peers.now) (words_of line.now) (observations_view observed.old))
+        else observations_view observed.old)) }
 {
-    if !is_within(range, number) {
+    if !is_within(range, place.line) {
         return Ok(());
     }
     let words = words_of(alloc, line)?;
-    add_words(peers, &words, observed)
+    add_words(peers, &words, observed)?;
+    add_spelling(place, &words, observed)
 }
 
-/// Adds the lines of a text.
+/// Adds the lines of the text of this number.
 fn add_text<'a>(
     alloc: Global,
     peers: &[Peer<'a>],
     range: LineRange,
-    text: &'a [u8],
+    text: usize,
+    bytes: &'a [u8],
     observed: &mut Observations<'a>,
 ) -> Result<(), AllocError>
     ensures { OnOk result (observations_view observed.new
-        ≡ with_lines (map peer_view peers.now) range 1 (all_lines text.now) (observations_view observed.old)) }
+        ≡ with_lines (map peer_view peers.now) range text 1 (all_lines bytes.now) (observations_view observed.old)) }
 {
-    let mut rest = text;
+    let mut rest = bytes;
     let mut number = 1;
     'lines: loop {
         match next_line(rest) {
             None => break,
             Some((line, after)) => {
-                add_line(alloc, peers, range, number, line, observed)?;
+                let place = Place { text, line: number };
+                add_line(alloc, peers, range, place, line, observed)?;
                 rest = after;
                 number += 1;
             }
         }
     }
-    add_line(alloc, peers, range, number, rest, observed)?;
+    let place = Place { text, line: number };
+    add_line(alloc, peers, range, place, rest, observed)?;
     Ok(())
 }
 
 /// What the texts of an application's log tell beside messages, where hosts have other words: a line `HOST arrive
 /// [from] PEER NAME [ID]` that a message reached HOST, and words `takes=PEER:NAMES` behind the name and the ID of a
-/// receive what it would have taken. Lines are counted as the messages are that `crate::read_plain` reads, without
+/// receive what it would have taken. Receives with a word that begins so and is spelled otherwise are counted, with the
+/// place of the first. Lines are counted as the messages are that `crate::read_plain` reads, without
 /// those of a host to itself. It takes time in proportion to the texts.
 #[tactic(auto, unfolding(crate::specs::Takes::Observations::observed_in))]
 pub fn read_observed<'a>(
@@ -137,8 +199,8 @@ pub fn read_observed<'a>(
     ensures { IfOk result (λ observed. observations_view observed ≡ observed_in (map peer_view peers.now) range (map (λ text. text.now) texts.now)) }
 {
     let mut observed = Observations::new(alloc);
-    for text in texts {
-        add_text(alloc, peers, range, *text, &mut observed)?;
+    for (number, text) in texts.iter().enumerate() {
+        add_text(alloc, peers, range, number, *text, &mut observed)?;
     }
     Ok(observed)
 }

@@ -1,9 +1,8 @@
-use Rattle.std.proofs.Common.{map, ◌∙◌, subst}
+use Rattle.std.proofs.Common.{map, ◌∙◌}
 use Rattle.log_lines.specs.Events.{logged_event_view}
 use Rattle.log_lines.specs.Names.Naming.{named_view}
-use Rattle.log_lines.specs.Takes.Observations.{ObservationsView}
+use Rattle.log_lines.specs.Takes.Observations.{observations_view}
 use Rattle.cmd_import_log.specs.Options.{options_view}
-use Rattle.cmd_import_log.specs.Recording.{observed_of, IsRecorded}
 use Rattle.cmd_import_log.proofs.RecordingLemmas.{named_as}
 use Rattle.cmd_import_log.proofs.recording.recording_of.Goals as goal
 
@@ -13,6 +12,5 @@ returns-clause-records c =
     let logged = map logged_event_view c.args.logged.now in
     let settled = c.in_ok-settled.settled in
     let r = c.in_ok-recorded.field-0 in
-    named_as c.args.beside (named_view c.args.named.now) o logged (observed_of o.form o (map (λ text. text.now) c.args.texts.now)) r settled.entries.items settled.drawing c.in_ok-recorded.ensures.drawing
-    c.in_ok-settled.ensures.settled (subst (λ (t : ObservationsView). IsRecorded o logged settled.entries.items t r) c.in_ok-observed.ensures c.in_ok-recorded.ensures.recorded)
-    (c.in_ok-recorded.ensures.known ∙ c.is_known-is_known.ensures)
+    named_as c.args.beside (named_view c.args.named.now) o logged (observations_view c.args.observed) r settled.entries.items settled.drawing c.in_ok-recorded.ensures.drawing
+    c.in_ok-settled.ensures.settled c.in_ok-recorded.ensures.recorded (c.in_ok-recorded.ensures.known ∙ c.is_known-is_known.ensures)

@@ -7,5 +7,5 @@ use Rattle.log_formats.proofs.clocks.saying.add_receives.Given as goal
 
 abbrev pub invariant-loop-heard : goal.invariant-loop-heard
 invariant-loop-heard l =
-    with_receives (map moment_view l.moments) l.at (moment_view l.moment) (map heard_view (drop l.heard-index l.all)) (read_view l.read)
-    ≡ with_receives (map moment_view l.moments) l.at (moment_view l.moment) (map heard_view l.all) (read_view l.initial.read)
+    with_receives (map moment_view l.moments) (moment_view l.moment) (map heard_view (drop l.heard-index l.received)) (read_view l.read)
+    ≡ with_receives (map moment_view l.moments) (moment_view l.moment) (map heard_view l.received) (read_view l.initial.read)

@@ -7,5 +7,5 @@ use Rattle.log_formats.proofs.clocks.saying.add_sends.Given as goal
 
 abbrev pub invariant-loop-heard : goal.invariant-loop-heard
 invariant-loop-heard l =
-    with_sends l.at (moment_view l.moment) (map heard_view (drop l.heard-index l.all)) (read_view l.read)
-    ≡ with_sends l.at (moment_view l.moment) (map heard_view l.all) (read_view l.initial.read)
+    with_sends (moment_view l.moment) (map heard_view (drop l.heard-index l.sent)) (read_view l.read)
+    ≡ with_sends (moment_view l.moment) (map heard_view l.sent) (read_view l.initial.read)

@@ -1,0 +1,123 @@
+//! What a match of an expression tells of a host.
+ghost use Rattle.std.specs.Prelude.{◌≡◌, option_map};
+ghost use Rattle.regex.specs.Locations.{location};
+ghost use Rattle.log_lines.specs.Events.{line_view, event_view};
+ghost use Rattle.log_formats.specs.Patterns.Found.{located, by_direction, has_part, direction_found, host_event_view, host_event, said_of, event_found};
+
+use crate::patterns::found::{group_bytes, id_of};
+use crate::patterns::groups::EventGroups;
+use log_lines::{Act, Direction, Event, LineSays, direction_of};
+use regex::CaptureLocations;
+
+/// What a host did with a message, or that one reached it.
+#[derive(Clone, Copy, Debug)]
+pub(crate) struct HostEvent<'a> {
+    pub host: &'a [u8],
+    pub direction: Direction,
+    pub peer: &'a [u8],
+    pub name: &'a [u8],
+    pub id: Option<&'a [u8]>,
+    /// What its receive would have taken.
+    pub takes: Option<&'a [u8]>,
+}
+
+/// Whether a group took part, if there is one.
+fn has_part(locations: &CaptureLocations, window: &[u8], group: Option<usize>) -> bool
+    ensures { result ≡ has_part (located window.now (location locations.now)) group }
+{
+    match group {
+        None => false,
+        Some(group) => match group_bytes(locations, window, group) {
+            Some(_) => true,
+            None => false,
+        },
+    }
+}
+
+/// What a match tells by the word for its direction, or by a group that marks arrivals.
+fn direction_found(
+    locations: &CaptureLocations,
+    window: &[u8],
+    groups: EventGroups,
+) -> Option<Direction>
+    ensures { result ≡ direction_found (located window.now (location locations.now)) groups }
+{
+    if has_part(locations, window, groups.arrive) {
+        return Some(Direction::Arrives);
+    }
+    match group_bytes(locations, window, groups.direction) {
+        Some(word) => Some(direction_of(word)),
+        None => None,
+    }
+}
+
+/// What a match tells of a host, if each group took part that it needs.
+pub(crate) fn host_event<'a>(
+    locations: &CaptureLocations,
+    window: &'a [u8],
+    groups: EventGroups,
+) -> Option<HostEvent<'a>>
+    ensures { option_map host_event_view result ≡ host_event (located window.now (location locations.now)) groups }
+{
+    let host = group_bytes(locations, window, groups.host)?;
+    let direction = direction_found(locations, window, groups)?;
+    let peer = group_bytes(locations, window, groups.peer)?;
+    let name = group_bytes(locations, window, groups.name)?;
+    Some(HostEvent {
+        host,
+        direction,
+        peer,
+        name,
+        id: id_of(locations, window, groups.id),
+        takes: id_of(locations, window, groups.takes),
+    })
+}
+
+/// What a line says of this event, where the word for its direction tells this.
+fn by_direction<'a>(direction: Direction, event: Event<'a>) -> LineSays<'a>
+    ensures { line_view result ≡ by_direction direction (event_view event.entry) }
+{
+    match direction {
+        Direction::Sends => LineSays::Event(Event {
+            host: event.host,
+            act: Act::Send,
+            peer: event.peer,
+            name: event.name,
+            id: event.id,
+        }),
+        Direction::Receives => LineSays::Event(Event {
+            host: event.host,
+            act: Act::Receive,
+            peer: event.peer,
+            name: event.name,
+            id: event.id,
+        }),
+        Direction::Arrives => LineSays::Nothing,
+        Direction::Unknown => LineSays::Other,
+    }
+}
+
+/// What a line says of what a match tells of a host.
+fn said_of<'a>(event: HostEvent<'a>) -> LineSays<'a>
+    ensures { line_view result ≡ said_of (host_event_view event.entry) }
+{
+    let said = Event {
+        host: event.host,
+        act: Act::Send,
+        peer: event.peer,
+        name: event.name,
+        id: event.id,
+    };
+    by_direction(event.direction, said)
+}
+
+pub(crate) fn event_found<'a>(
+    locations: &CaptureLocations,
+    window: &'a [u8],
+    groups: EventGroups,
+) -> Option<LineSays<'a>>
+    ensures { option_map line_view result ≡ event_found (located window.now (location locations.now)) groups }
+{
+    let event = host_event(locations, window, groups)?;
+    Some(said_of(event))
+}
