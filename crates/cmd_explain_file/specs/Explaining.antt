@@ -1,5 +1,5 @@
 -- What `mscview explain` answers to the bytes of a file.
-use Rattle.std.specs.Prelude.{◌≡◌, ◌==◌, ◌+◌, ℕ, Bool, true, false, not, List, [], ◌∷◌, ◌++◌, map, length, Option, None, Some, Result, Ok, Err, if◌then◌else◌}
+use Rattle.std.specs.Prelude.{◌≡◌, ◌==◌, ◌+◌, ℕ, Bool, not, List, [], ◌∷◌, ◌++◌, map, length, Option, None, Some, Result, Ok, Err, if◌then◌else◌}
 use Rattle.std.specs.List.{flat_map}
 use Rattle.cmd_explain_file.specs.Findings.{behind_finding, fault_finding, no_send, other_name, unread_finding}
 use Rattle.cmd_explain_file.specs.Kinds.{kind_of, shown}
@@ -51,10 +51,14 @@ abbrev pub typed_number : List ℕ → List ℕ → Fault → ℕ
 typed_number text lines (Line number cause) = typed_line lines number
 typed_number text lines Unfinished = length (lines_of text) + 1
 
+-- what is stated first of a schedule that is read, of which so many commands did nothing
+abbrev pub read_schedule : ℕ → Saying
+read_schedule count = if count == 0 then sayings.Read else sayings.Undone count
+
 -- the first thing that is told of what came of reading a file
 abbrev pub first_stated : Kind → List ℕ → Verdict → Saying
 first_stated kind text Read = sayings.Read
-first_stated kind text (Ran notes) = sayings.Read
+first_stated kind text (Ran notes) = read_schedule (length notes.items)
 first_stated kind text (Built left_out overtaking) = sayings.Read
 first_stated kind text (NotBuilt why) = sayings.Finding (unread_finding kind text why)
 first_stated kind text (Behind fault) = sayings.Finding (behind_finding kind text fault)

@@ -104,6 +104,16 @@ noted_text line noted = finding_text line (note_finding noted.note) ++ later_tex
 unfoldable pub read_text : List ℕ
 read_text = codes "nothing is wrong with it\n"
 
+unfoldable pub one_undone_text : List ℕ
+one_undone_text = codes "the text is read, and 1 command did nothing\n"
+
+unfoldable pub several_undone_text : ℕ → List ℕ
+several_undone_text count = codes "the text is read, and " ++ (decimal count ++ codes " commands did nothing\n")
+
+-- the text is read, and so many commands did nothing
+unfoldable pub undone_text : ℕ → List ℕ
+undone_text count = if count == 1 then one_undone_text else several_undone_text count
+
 unfoldable pub cyclic_text : List ℕ
 cyclic_text = codes "\nerror: F18 Cyclic: events come before each other, in a circle\n"
 
@@ -113,19 +123,20 @@ tidy_text = codes "\nhelp: mscview tidy writes the exact text of this file, whic
 unfoldable pub log_text : List ℕ
 log_text = codes "\nhelp: of a log, mscview races --from log tells the races: of lines HOST send PEER NAME and HOST recv PEER NAME, or as --pattern reads its lines\n"
 
--- what is told
-unfoldable pub said_text : List ℕ → Saying → List ℕ
-said_text line (Kind kind) = kind_words kind
-said_text line Read = read_text
-said_text line (sayings.Finding finding) = finding_text line finding
-said_text line (sayings.Typed finding number) = numbered_text line number finding
-said_text line (sayings.Note noted) = noted_text line noted
-said_text line (sayings.LeftOut left_out) = left_out_line left_out
-said_text line (sayings.Overtaking message) = overtaking_line message
-said_text line Cyclic = cyclic_text
-said_text line (sayings.Step step) = step_text step
-said_text line Tidy = tidy_text
-said_text line Log = log_text
+-- what is told, by the line that is shown with it
+unfoldable pub text_by_line : List ℕ → Saying → List ℕ
+text_by_line line (Kind kind) = kind_words kind
+text_by_line line Read = read_text
+text_by_line line (sayings.Undone count) = undone_text count
+text_by_line line (sayings.Finding finding) = finding_text line finding
+text_by_line line (sayings.Typed finding number) = numbered_text line number finding
+text_by_line line (sayings.Note noted) = noted_text line noted
+text_by_line line (sayings.LeftOut left_out) = left_out_line left_out
+text_by_line line (sayings.Overtaking message) = overtaking_line message
+text_by_line line Cyclic = cyclic_text
+text_by_line line (sayings.Step step) = step_text step
+text_by_line line Tidy = tidy_text
+text_by_line line Log = log_text
 
 -- the line that is shown with it, if one is, and else the first
 abbrev pub shown_line : Saying → ℕ
@@ -134,6 +145,7 @@ shown_line (sayings.Typed finding number) = finding.line
 shown_line (sayings.Note noted) = noted.note.line
 shown_line (Kind kind) = 1
 shown_line Read = 1
+shown_line (sayings.Undone count) = 1
 shown_line (sayings.LeftOut left_out) = 1
 shown_line (sayings.Overtaking message) = 1
 shown_line Cyclic = 1
@@ -143,7 +155,7 @@ shown_line Log = 1
 
 -- the same in a file
 abbrev pub saying_text : List ℕ → Saying → List ℕ
-saying_text file saying = said_text (line_of file (shown_line saying)) saying
+saying_text file saying = text_by_line (line_of file (shown_line saying)) saying
 
 -- a text is what a file has from a line on
 abbrev pub IsFrom : List ℕ → ℕ → List ℕ → Type 0

@@ -1,6 +1,6 @@
 //! What a file is, and what is wrong with it.
-ghost use Rattle.std.specs.Prelude.{◌≡◌, ◌++◌, map, IfOk, IfErr, OnOk};
-ghost use Rattle.cmd_explain_file.specs.Explaining.{text_fault, exactly_by, exactly_of, first_stated, typed_number, first_saying, more_sayings, last_sayings, subject_of, sayings_of, exactly_in, explanation_of, explained_exit, Explains};
+ghost use Rattle.std.specs.Prelude.{◌≡◌, ◌++◌, length, map, IfOk, IfErr, OnOk};
+ghost use Rattle.cmd_explain_file.specs.Explaining.{text_fault, exactly_by, exactly_of, read_schedule, first_stated, typed_number, first_saying, more_sayings, last_sayings, subject_of, sayings_of, exactly_in, explanation_of, explained_exit, Explains};
 ghost use Rattle.cmd_explain_file.specs.Kinds.{kind_of};
 ghost use Rattle.cmd_explain_file.specs.Verdicts.{IsVerdict};
 ghost use Rattle.cmd_explain_file.specs.declared.saying.Saying.TheVariants as sayings_stated;
@@ -113,12 +113,24 @@ fn add_steps(sayings: &mut Vec<Saying>, steps: &[Step]) -> Result<(), AllocError
     Ok(())
 }
 
+/// What is stated first of a schedule that is read, by the notes that its commands leave.
+fn read_schedule(notes: &[Noted]) -> Saying
+    ensures { result ≡ read_schedule (length notes.now) }
+{
+    if notes.is_empty() {
+        Saying::Read
+    } else {
+        Saying::Undone(notes.len() as u64)
+    }
+}
+
 /// The first thing that is told of what came of reading a file of this kind.
 fn first_stated(kind: Kind, text: &[u8], verdict: &Verdict) -> Saying
     ensures { result ≡ first_stated kind text.now verdict.now }
 {
     match verdict {
-        Verdict::Read | Verdict::Ran(_) | Verdict::Built(_, _) => Saying::Read,
+        Verdict::Read | Verdict::Built(_, _) => Saying::Read,
+        Verdict::Ran(notes) => read_schedule(notes),
         Verdict::NotBuilt(why) => Saying::Finding(unread_finding(kind, text, *why)),
         Verdict::Behind(fault) => Saying::Finding(behind_finding(kind, text, *fault)),
         Verdict::Refused(fault) => Saying::Finding(fault_finding(kind, text, *fault)),

@@ -17,6 +17,7 @@ mod going_on;
 mod judging;
 mod kind;
 mod saying;
+mod undone;
 mod verdict;
 mod words;
 

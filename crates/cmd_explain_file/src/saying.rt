@@ -1,14 +1,17 @@
 //! What is told of a file, as a list of values, and its text.
 ghost use Rattle.std.specs.Prelude.{◌≡◌, ◌≤◌, length, min};
 ghost use Rattle.std.specs.List.{flat_map};
-ghost use Rattle.cmd_explain_file.specs.Sayings.{before, behind, head_text, at_text, bar_text, quote_text, caret_text, want_text, wanted_text, shown_text, numbered_text, finding_text, sent_text, later_text, noted_text, read_text, cyclic_text, tidy_text, log_text, said_text, shown_line, saying_text, IsFrom, bar, arrow, here, stands, caret, end};
+ghost use Rattle.cmd_explain_file.specs.Sayings.{before, behind, head_text, at_text, bar_text, quote_text, caret_text, want_text, wanted_text, shown_text, numbered_text, finding_text, sent_text, later_text, noted_text, read_text, text_by_line, shown_line, saying_text, IsFrom, bar, arrow, here, stands, caret, end};
 ghost use Rattle.texts.specs.Writing.{Wrote, Adds};
 
 use crate::adding::{add_blanks, add_margin, add_shown};
 use crate::finding::{Finding, What, note_finding};
 use crate::going_on::text_from;
 use crate::kind::Kind;
-use crate::words::{kind_words, start_of, want_words, what_label, what_words};
+use crate::undone::add_undone;
+use crate::words::{
+    cyclic_words, kind_words, log_words, start_of, tidy_words, want_words, what_label, what_words,
+};
 use cmd_import_diagram::{add_left_out, add_overtaking};
 use diagram_join::Overtaking;
 use diagrams::LeftOut;
@@ -24,6 +27,8 @@ pub(crate) enum Saying {
     Kind(Kind),
     /// That nothing is wrong with it.
     Read,
+    /// That its text is read, and that so many of its commands did nothing.
+    Undone(u64),
     /// What is wrong, with its place.
     Finding(Finding),
     /// The same in the exact text, with the number of the line as it is typed.
@@ -297,42 +302,19 @@ fn add_noted<W: Out>(
     add_later(text, noted.note.line, noted.later)
 }
 
-/// What is told of F18.
-#[tactic(auto, unfolding(crate::specs::Sayings::cyclic_text))]
-fn cyclic_words() -> &'static [u8]
-    ensures { result.now ≡ cyclic_text }
-{
-    b"\nerror: F18 Cyclic: events come before each other, in a circle\n"
-}
-
-/// What is told of a file that can be tidied.
-#[tactic(auto, unfolding(crate::specs::Sayings::tidy_text))]
-fn tidy_words() -> &'static [u8]
-    ensures { result.now ≡ tidy_text }
-{
-    b"\nhelp: mscview tidy writes the exact text of this file, which has no fault\n"
-}
-
-/// What is told of a file that may be a log.
-#[tactic(auto, unfolding(crate::specs::Sayings::log_text))]
-fn log_words() -> &'static [u8]
-    ensures { result.now ≡ log_text }
-{
-    b"\nhelp: of a log, mscview races --from log tells the races: of lines HOST send PEER NAME and HOST recv PEER NAME, or as --pattern reads its lines\n"
-}
-
 /// Adds what is told, with this line of the file where one is shown.
-#[tactic(auto, unfolding(crate::specs::Sayings::said_text, crate::specs::Sayings::read_text))]
+#[tactic(auto, unfolding(crate::specs::Sayings::text_by_line, crate::specs::Sayings::read_text))]
 fn add_saying<W: Out>(
     text: &mut TextBuffer<'_, W>,
     line: &[u8],
     saying: &Saying,
 ) -> Result<(), WriteError>
-    ensures { Adds W.sink text.old text.new result (said_text line.now saying.now) }
+    ensures { Adds W.sink text.old text.new result (text_by_line line.now saying.now) }
 {
     match saying {
         Saying::Kind(kind) => text.add(kind_words(*kind)),
         Saying::Read => text.add(b"nothing is wrong with it\n"),
+        Saying::Undone(count) => add_undone(text, *count),
         Saying::Finding(finding) => add_finding(text, line, finding),
         Saying::Typed(finding, number) => add_numbered(text, line, *number, finding),
         Saying::Note(noted) => add_noted(text, line, noted),
@@ -354,6 +336,7 @@ fn shown_line(saying: &Saying) -> u64
         Saying::Note(noted) => noted.note.line,
         Saying::Kind(_)
         | Saying::Read
+        | Saying::Undone(_)
         | Saying::LeftOut(_)
         | Saying::Overtaking(_)
         | Saying::Cyclic

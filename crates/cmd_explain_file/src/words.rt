@@ -1,6 +1,7 @@
 //! The words in which faults are told.
 ghost use Rattle.std.specs.Prelude.{◌≡◌};
 ghost use Rattle.cmd_explain_file.specs.Words.{kind_words, cause_words, note_words, what_words, what_label, want_words, start_of};
+ghost use Rattle.cmd_explain_file.specs.Sayings.{cyclic_text, tidy_text, log_text};
 ghost use Rattle.cmd_base.specs.Refusals.{name_label, cause_label};
 ghost use Rattle.schedule.specs.Outcomes.OutcomeText.{word_text};
 
@@ -198,4 +199,28 @@ pub(crate) fn want_words(want: Want) -> &'static [u8]
         Want::Sender => b"the name of another instance and a semicolon",
         Want::ChartEnd => b"nothing more",
     }
+}
+
+/// What is told of F18.
+#[tactic(auto, unfolding(crate::specs::Sayings::cyclic_text))]
+pub(crate) fn cyclic_words() -> &'static [u8]
+    ensures { result.now ≡ cyclic_text }
+{
+    b"\nerror: F18 Cyclic: events come before each other, in a circle\n"
+}
+
+/// What is told of a file that can be tidied.
+#[tactic(auto, unfolding(crate::specs::Sayings::tidy_text))]
+pub(crate) fn tidy_words() -> &'static [u8]
+    ensures { result.now ≡ tidy_text }
+{
+    b"\nhelp: mscview tidy writes the exact text of this file, which has no fault\n"
+}
+
+/// What is told of a file that may be a log.
+#[tactic(auto, unfolding(crate::specs::Sayings::log_text))]
+pub(crate) fn log_words() -> &'static [u8]
+    ensures { result.now ≡ log_text }
+{
+    b"\nhelp: of a log, mscview races --from log tells the races: of lines HOST send PEER NAME and HOST recv PEER NAME, or as --pattern reads its lines\n"
 }

@@ -1,3 +1,12 @@
+pub mod CaretLemmas
+pub mod CheckOrders
+pub mod CommandCaretLemmas
+pub mod CommandCarets
+pub mod CommandWalks
+pub mod EventLineLemmas
+pub mod FormLemmas
+pub mod LineBlocks
+pub mod NameLemmas
 pub mod SpotLemmas
 pub mod StandingLemmas
-pub mod NameLemmas
+pub mod WalkLemmas

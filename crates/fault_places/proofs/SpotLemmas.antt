@@ -40,7 +40,7 @@ pub spot_ends : (cause : Cause) (known line : List (List ℕ)) (want after : Wan
     → spot_from cause known line want index place words ≡ record { place = place + length word; want = after }
 spot_ends cause known line want after index place word words e w n = rw (e, w, n) refl
 
-goes_on : (cause : Cause) (known line : List (List ℕ)) (want after : Want) (index place : ℕ) (word : List ℕ) (words others : List (List ℕ)) → words ≡ word ∷ others → Cons others → is_wrong cause known line want index word ≡ false → next want word ≡ Some after
+pub goes_on : (cause : Cause) (known line : List (List ℕ)) (want after : Want) (index place : ℕ) (word : List ℕ) (words others : List (List ℕ)) → words ≡ word ∷ others → Cons others → is_wrong cause known line want index word ≡ false → next want word ≡ Some after
     → spot_from cause known line want index place words ≡ spot_from cause known line after (index + 1) (place + (length word + 1)) others
 goes_on cause known line want after index place word words [] e c w n = absurd (let is = c.is in cc)
 goes_on cause known line want after index place word words (other ∷ others) e c w n = rw (e, w, n) refl

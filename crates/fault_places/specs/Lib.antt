@@ -1,3 +1,5 @@
+pub mod Carets
+pub mod EventLines
 pub mod Standings
 pub mod Spots
 pub mod Wants

@@ -9,6 +9,7 @@
 #![tactic(auto)]
 
 mod cutting;
+pub mod laws;
 mod lines;
 mod parts;
 mod seeking;
