@@ -1,9 +1,10 @@
-"""Times `mscview mend` of one race of a chart of nearly 131,072 events, and `mscview mend --all` of a chart of 8 instances with
-200 events each and about 100 ranges of races. Each time is the median of five runs, with what is written thrown away.
+"""Times `mscview mend` of one race of a chart of nearly 131,072 events, and `mscview mend --all` of a chart of 8 instances
+with 200 events each and about 100 ranges of races. Then it times both for a server with a full line, and its two
+clients. Each time is the median of five runs, with what is written thrown away.
 
 In the first chart a token is passed round 32 instances until each line has 4,000 events, and then each of two instances
 sends to a third: its second receive has the first as a race. In the second one a token is passed on at random, and
-another one made now and then."""
+another one made now and then. In the third one the clients send to the server in turn: it has four million races."""
 
 import os
 import random
@@ -57,6 +58,15 @@ def tokens(instances, events, switch):
         token = receiver
 
 
+def server(turns):
+    """Two clients that send to a server in turn."""
+    lines = [[], [], []]
+    for _ in range(turns):
+        passed(lines, 1, 0, "ask")
+        passed(lines, 2, 0, "ask")
+    return chart_text(lines)
+
+
 def lines_of(words, stream):
     """How many lines a program writes to standard output or to standard error."""
     return getattr(subprocess.run(words, capture_output=True, check=False), stream).count(b"\n")
@@ -76,6 +86,12 @@ def main(mscview):
         messages = lines_of([mscview, "mend", "--all", chart], "stderr")
         seen = timed(mscview, "mend", "--all", chart)
         print(f"mend --all, {ranges} ranges: {seen.seconds:.3f} s, status {seen.status}, {messages} messages added")
+        with open(chart, "w", encoding="ascii") as file:
+            file.write(server(2047))
+        seen = timed(mscview, "mend", chart, "n0", "1999", "2000")
+        print(f"mend on a full line: {seen.seconds:.3f} s, status {seen.status}")
+        seen = timed(mscview, "mend", "--all", chart)
+        print(f"mend --all on a full line: {seen.seconds:.3f} s, status {seen.status}")
 
 
 if __name__ == "__main__":

@@ -5,3 +5,4 @@ pub mod PlaceLemmas
 pub mod RangeLemmas
 pub mod RefusedLemmas
 pub mod ShowLemmas
+pub mod BriefLemmas

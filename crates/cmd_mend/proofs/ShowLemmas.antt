@@ -19,7 +19,7 @@ use Rattle.cmd_mend.specs.Showing.{AreMended, Writes, Shows, IsAskedAbout, name_
 use Rattle.cmd_mend.proofs.FullLemmas.{full_within}
 
 module _ {S : Type 0} (sink : S → Sink) (names : List (List ℕ)) (lines : List LineView) (wanted : Wanted) where
-  pub came_so : (old new : S) (pair : Pair) (name : List ℕ) (mending : Mending) (done : Result Outcome MendRefusal) → AreMended (names, lines) wanted pair name mending → Writes sink old new (names, lines) pair mending done → Shows sink old new done wanted (names, lines)
+  pub came_so : (old new : S) (pair : Pair) (name : List ℕ) (mending : Mending) (done : Result Outcome MendRefusal) → AreMended (names, lines) wanted pair name mending → Writes sink old new (names, lines) wanted.detail pair mending done → Shows sink old new done wanted (names, lines)
   came_so old new pair name mending (Ok outcome) are w = (pair, name, mending, are, w)
   came_so old new pair name mending (Err (View (Program Memory))) are w = w
   came_so old new pair name mending (Err (View (Program Write))) are w = (pair, name, mending, are, w)

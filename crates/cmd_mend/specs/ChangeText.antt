@@ -1,5 +1,5 @@
 -- What is told of a message that mends a race (this project's profile): where it is, and which races go, stay and come.
-use Rattle.std.specs.Prelude.{ℕ, List, ◌++◌, decimal}
+use Rattle.std.specs.Prelude.{ℕ, Bool, true, false, List, [], ◌++◌, decimal}
 use Rattle.std.specs.List.{flat_map}
 use Rattle.chart.specs.declared.event.Event.{Event}
 use Rattle.chart.specs.declared.instance.EventNo.{EventNo}
@@ -7,6 +7,7 @@ use Rattle.chart.specs.declared.ranges.EventRange.{EventRange}
 use Rattle.chart.specs.Charts.{LineView, chart_lines}
 use Rattle.chart.specs.Ranges.{ranges_of}
 use Rattle.chart.specs.Reports.{ReportView}
+use Rattle.repair.specs.declared.adding.MendedChart.{MendedChart}
 use Rattle.repair.specs.declared.best.Addition.{Addition}
 use Rattle.repair.specs.declared.pairs.RacePair.{RacePair}
 use Rattle.repair.specs.declared.message.Message.{Message}
@@ -59,3 +60,17 @@ addition_text names added = pair_text names added.pair ++ message_text names add
 
 abbrev pub additions_text : List (List ℕ) → List Addition → List ℕ
 additions_text names additions = flat_map (addition_text names) additions
+
+-- a line: after how many race pairs that were tried it stopped, and how many are left
+unfoldable pub stopped_text : ℕ → ℕ → List ℕ
+stopped_text tried left =
+    word_text words.StoppedAfter ++ (decimal tried ++ (word_text words.Colon ++ (decimal left ++ word_text words.AreLeft)))
+
+-- the line, where it stopped
+abbrev pub text_if_stopped : Bool → ℕ → ℕ → List ℕ
+text_if_stopped true tried left = stopped_text tried left
+text_if_stopped false tried left = []
+
+-- a line for each message, and that one
+unfoldable pub mended_text : List (List ℕ) → MendedChart → List ℕ
+mended_text names m = additions_text names m.additions.items ++ text_if_stopped m.is_stopped m.tried m.left

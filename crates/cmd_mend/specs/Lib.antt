@@ -7,3 +7,5 @@ pub mod Naming
 pub mod Showing
 pub mod Outcomes
 pub mod Words
+pub mod Brief
+pub mod Limits

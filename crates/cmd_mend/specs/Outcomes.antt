@@ -21,8 +21,11 @@ use Rattle.cmd_mend.specs.declared.answering.Status.{Status}
 use Rattle.cmd_mend.specs.declared.answering.Status.TheVariants.{Done, Undone}
 use Rattle.cmd_mend.specs.declared.word.Word.{Word}
 use Rattle.cmd_mend.specs.declared.word.Word.TheVariants as words
-use Rattle.cmd_mend.specs.Changes.{changed_by}
-use Rattle.cmd_mend.specs.ChangeText.{change_text, additions_text}
+use Rattle.cmd_mend.specs.Changes.{Changed, changed_by}
+use Rattle.cmd_mend.specs.Brief.{brief_text}
+use Rattle.cmd_mend.specs.ChangeText.{change_text, mended_text}
+use Rattle.cmd_mend.specs.declared.showing.Detail.{Detail}
+use Rattle.cmd_mend.specs.declared.showing.Detail.TheVariants.{Brief, Full}
 use Rattle.cmd_mend.specs.Words.{word_text}
 
 -- that no message from p to q does, because of this event of p: it stands in the message's way as the last word says
@@ -37,27 +40,32 @@ IsNone named pair x why outcome = (outcome.status ≡ Undone)
     × ((q : ℕ) × IsReceiveFrom (chart_lines named.1) q (place_of pair.receive)
     × (outcome.diagnostics.items ≡ none_text named.0 pair.receive.instance q x.index (chart_event (chart_lines named.1) (place_of x)) why))
 
+-- what is told of a change: in brief, or with a line for each range of races
+abbrev pub told_text : Detail → List (List ℕ) → List LineView → List LineView → Message → Changed → List ℕ
+told_text Brief names old new m changed = brief_text names old new m changed
+told_text Full names old new m changed = change_text names old new m changed
+
 -- where the message is, and which races of the chart with these lines go, and which of the chart with it stay and come
-abbrev pub IsChangeText : List (List ℕ) → List LineView → List LineView → Message → List ℕ → Type 0
-IsChangeText names old new m text = (olds : List ReportView) × (news : List ReportView) × AreReports old olds
-    × AreReports new news × (text ≡ change_text names old new m (changed_by (message_of m) olds news))
+abbrev pub IsChangeText : Detail → List (List ℕ) → List LineView → List LineView → Message → List ℕ → Type 0
+IsChangeText detail names old new m text = (olds : List ReportView) × (news : List ReportView) × AreReports old olds
+    × AreReports new news × (text ≡ told_text detail names old new m (changed_by (message_of m) olds news))
 
 -- what came of the pair: the chain by which it is enforced, that a coregion hides it, why there is no message, or where
 -- the message is and which races go, stay and come
-abbrev pub IsOutcome : Named → Pair → Mending → Outcome → Type 0
-IsOutcome named pair (Enforced links) outcome = (outcome.status ≡ Done)
+abbrev pub IsOutcome : Named → Detail → Pair → Mending → Outcome → Type 0
+IsOutcome named detail pair (Enforced links) outcome = (outcome.status ≡ Done)
     × (outcome.diagnostics.items ≡ flat_map (step_text named.0) links.items)
-IsOutcome named pair Hidden outcome = (outcome.status ≡ Done) × (outcome.diagnostics.items ≡ hidden_text)
-IsOutcome named pair (Crossed x) outcome = IsNone named pair x words.Crossed outcome
-IsOutcome named pair (OnItsWay x) outcome = IsNone named pair x words.OnItsWay outcome
-IsOutcome named pair (Mended m chart reports) outcome = (outcome.status ≡ Done)
-    × IsChangeText named.0 named.1 chart m outcome.diagnostics.items
+IsOutcome named detail pair Hidden outcome = (outcome.status ≡ Done) × (outcome.diagnostics.items ≡ hidden_text)
+IsOutcome named detail pair (Crossed x) outcome = IsNone named pair x words.Crossed outcome
+IsOutcome named detail pair (OnItsWay x) outcome = IsNone named pair x words.OnItsWay outcome
+IsOutcome named detail pair (Mended m chart reports) outcome = (outcome.status ≡ Done)
+    × IsChangeText detail named.0 named.1 chart m outcome.diagnostics.items
 
 -- by how many race pairs are left
 abbrev pub status_left : ℕ → Status
 status_left left = if left == 0 then Done else Undone
 
--- the messages that were added, and whether a race is left
+-- the messages that were added, whether a race is left, and whether it stopped
 abbrev pub IsOutcomeOfAll : List (List ℕ) → MendedChart → Outcome → Type 0
 IsOutcomeOfAll names m outcome = (outcome.status ≡ status_left m.left)
-    × (outcome.diagnostics.items ≡ additions_text names m.additions.items)
+    × (outcome.diagnostics.items ≡ mended_text names m)

@@ -24,7 +24,9 @@ use Rattle.cmd_mend.specs.Answers.{by_program}
 use Rattle.cmd_mend.specs.declared.answering.Outcome.{Outcome}
 use Rattle.cmd_mend.specs.declared.error.MendRefusal.{MendRefusal}
 use Rattle.cmd_mend.specs.declared.error.MendRefusal.TheVariants.{View, LineFull}
+use Rattle.cmd_mend.specs.declared.showing.Detail.{Detail}
 use Rattle.cmd_mend.specs.declared.showing.Wanted.{Wanted}
+use Rattle.cmd_mend.specs.Limits.{limit_of}
 use Rattle.cmd_mend.specs.Naming.{IsMessageName}
 use Rattle.cmd_mend.specs.Outcomes.{IsOutcome, IsOutcomeOfAll}
 
@@ -84,16 +86,17 @@ module _ {S : Type 0} (sink : S → Sink) where
   BreaksOff old new names (mendings.Mended m chart reports) = Breaks sink old new (chart_text names chart)
 
   -- what became of a pair that is asked about was written, and is told
-  abbrev pub Writes : S → S → Named → Pair → Mending → Result Outcome MendRefusal → Type 0
-  Writes old new named pair mending (Ok outcome) = WritesIt old new named.0 mending × IsOutcome named pair mending outcome
-  Writes old new named pair mending (Err (View (Program errors.Memory))) = new ≡ old
-  Writes old new named pair mending (Err (View (Program errors.Write))) = BreaksOff old new named.0 mending
-  Writes old new named pair mending (Err error) = ⊥
+  abbrev pub Writes : S → S → Named → Detail → Pair → Mending → Result Outcome MendRefusal → Type 0
+  Writes old new named detail pair mending (Ok outcome) =
+      WritesIt old new named.0 mending × IsOutcome named detail pair mending outcome
+  Writes old new named detail pair mending (Err (View (Program errors.Memory))) = new ≡ old
+  Writes old new named detail pair mending (Err (View (Program errors.Write))) = BreaksOff old new named.0 mending
+  Writes old new named detail pair mending (Err error) = ⊥
 
   -- of the pair that is asked about
   abbrev pub Came : S → S → Result Outcome MendRefusal → Wanted → Named → Type 0
   Came old new done wanted named = (pair : Pair) × (name : List ℕ) × (mending : Mending)
-      × AreMended named wanted pair name mending × Writes old new named pair mending done
+      × AreMended named wanted pair name mending × Writes old new named wanted.detail pair mending done
 
   -- that, or nothing, where a refusal applies, the first that does, or where memory ran out
   abbrev pub Shows : S → S → Result Outcome MendRefusal → Wanted → Named → Type 0
@@ -107,18 +110,19 @@ module _ {S : Type 0} (sink : S → Sink) where
   ShowsText old new wanted bytes =
       OfFile by_program (λ source done. Shows old new done wanted (named_of source)) old new bytes
 
-  -- the messages were added to a possible chart that leave the fewest races, the chart was written, and they are told;
+  -- the messages were added to a possible chart that leave the fewest races, within so many pairs that are tried, the
+  -- chart was written, and they are told;
   -- or a beginning of its text, where a put failed; or nothing, where the chart is not possible, or where memory ran
   -- out
-  abbrev pub ShowsAll : S → S → Result Outcome ProgramError → Named → Type 0
-  ShowsAll old new (Ok outcome) named = (m : MendedChart) × IsPossible (length named.1) (chart_lines named.1)
-      × IsMendedChart named.1 m × Puts sink old new (chart_text named.0 m.chart) × IsOutcomeOfAll named.0 m outcome
-  ShowsAll old new (Err errors.Memory) named = new ≡ old
-  ShowsAll old new (Err errors.Write) named = (m : MendedChart) × IsPossible (length named.1) (chart_lines named.1)
-      × IsMendedChart named.1 m × Breaks sink old new (chart_text named.0 m.chart)
-  ShowsAll old new (Err error) named = IsRefused error named × (new ≡ old)
+  abbrev pub ShowsAll : Option ℕ → S → S → Result Outcome ProgramError → Named → Type 0
+  ShowsAll asked old new (Ok outcome) named = (m : MendedChart) × IsPossible (length named.1) (chart_lines named.1)
+      × IsMendedChart (limit_of named.1 asked) named.1 m × Puts sink old new (chart_text named.0 m.chart) × IsOutcomeOfAll named.0 m outcome
+  ShowsAll asked old new (Err errors.Memory) named = new ≡ old
+  ShowsAll asked old new (Err errors.Write) named = (m : MendedChart) × IsPossible (length named.1) (chart_lines named.1)
+      × IsMendedChart (limit_of named.1 asked) named.1 m × Breaks sink old new (chart_text named.0 m.chart)
+  ShowsAll asked old new (Err error) named = IsRefused error named × (new ≡ old)
 
   -- the same for the chart that the bytes say; or nothing was written, where the bytes have a fault
-  abbrev pub ShowsAllText : S → S → List ℕ → Result Outcome ProgramError → Type 0
-  ShowsAllText old new bytes =
-      OfFile (λ error. error) (λ source done. ShowsAll old new done (named_of source)) old new bytes
+  abbrev pub ShowsAllText : Option ℕ → S → S → List ℕ → Result Outcome ProgramError → Type 0
+  ShowsAllText asked old new bytes =
+      OfFile (λ error. error) (λ source done. ShowsAll asked old new done (named_of source)) old new bytes

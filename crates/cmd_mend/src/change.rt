@@ -160,7 +160,7 @@ fn next_old<'a>(message: &Message, reports: &'a [Report]) -> Option<(&'a Report,
 }
 
 /// The races that go.
-fn all_gone(
+pub(crate) fn all_gone(
     alloc: Global,
     message: &Message,
     olds: &[Report],
@@ -217,7 +217,8 @@ fn kept_of(
     Report::of(alloc, receive, kept.as_slice())
 }
 
-fn all_kept(
+/// The races of the new chart that come, or those that stay.
+pub(crate) fn all_kept(
     alloc: Global,
     coming: bool,
     message: &Message,

@@ -4,14 +4,14 @@ ghost use Rattle.std.specs.List.{flat_map};
 ghost use Rattle.chart.specs.Ranges.{IsRange};
 ghost use Rattle.texts.specs.Writing.{Wrote, Adds};
 ghost use Rattle.cmd_mend.specs.ChangeText.{ends_text, message_text, race_line, report_text, reports_text, change_text};
-ghost use Rattle.cmd_mend.specs.ChangeText.{pair_text, addition_text, additions_text};
+ghost use Rattle.cmd_mend.specs.ChangeText.{pair_text, addition_text, additions_text, stopped_text, mended_text};
 
 use crate::change::Change;
 use crate::word::{Word, add_word};
 use chart::line_events::events_of;
 use chart::{Event, EventNo, EventRange, Line, Names, Report};
 use races_text::named::{add_line, add_name};
-use repair::{Addition, Message, RacePair};
+use repair::{Addition, MendedChart, Message, RacePair};
 use texts::{Out, TextBuffer, WriteError};
 
 /// `NAME from SENDER to RECEIVER`.
@@ -32,7 +32,7 @@ fn add_ends<V: Out>(
 
 /// Where a message is: `NAME from SENDER to RECEIVER: sent behind event COUNT, received behind event COUNT`.
 #[tactic(auto, using(texts::proofs::Writes::joining), unfolding(crate::specs::ChangeText::message_text))]
-fn add_message<V: Out>(
+pub(crate) fn add_message<V: Out>(
     text: &mut TextBuffer<'_, V>,
     names: &Names,
     message: &Message,
@@ -49,7 +49,7 @@ fn add_message<V: Out>(
 
 /// A range of a receive's races behind a word.
 #[tactic(auto, using(texts::proofs::Writes::joining), unfolding(crate::specs::ChangeText::race_line))]
-fn add_race<V: Out>(
+pub(crate) fn add_race<V: Out>(
     text: &mut TextBuffer<'_, V>,
     word: Word,
     names: &Names,
@@ -192,16 +192,48 @@ fn add_additions<V: Out>(
     Ok(())
 }
 
-/// Writes a line for each message that was added.
-#[tactic(auto, using(texts::proofs::Writes::joining))]
-pub(crate) fn write_additions<V: Out>(
+/// `stopped after COUNT: COUNT races are left`.
+#[tactic(auto, using(texts::proofs::Writes::joining), unfolding(crate::specs::ChangeText::stopped_text))]
+fn add_stopped<V: Out>(
+    text: &mut TextBuffer<'_, V>,
+    tried: usize,
+    left: usize,
+) -> Result<(), WriteError>
+    ensures { Adds V.sink text.old text.new result (stopped_text tried left) }
+{
+    add_word(text, Word::StoppedAfter)?;
+    text.add_number(tried as u64)?;
+    add_word(text, Word::Colon)?;
+    text.add_number(left as u64)?;
+    add_word(text, Word::AreLeft)
+}
+
+/// A line for each message that was added, and one where it stopped.
+#[tactic(auto, using(texts::proofs::Writes::joining), unfolding(crate::specs::ChangeText::mended_text))]
+fn add_mended<V: Out>(
+    text: &mut TextBuffer<'_, V>,
     names: &Names,
-    additions: &[Addition],
+    mended: &MendedChart,
+) -> Result<(), WriteError>
+    ensures { Adds V.sink text.old text.new result (mended_text names.now mended.now) }
+{
+    add_additions(text, names, mended.additions.as_slice())?;
+    if mended.is_stopped {
+        return add_stopped(text, mended.tried, mended.left);
+    }
+    Ok(())
+}
+
+/// Writes a line for each message that was added, and one where it stopped.
+#[tactic(auto, using(texts::proofs::Writes::joining))]
+pub(crate) fn write_mended<V: Out>(
+    names: &Names,
+    mended: &MendedChart,
     out: &mut V,
 ) -> Result<(), WriteError>
-    ensures { Wrote V.sink out.old out.new result (additions_text names.now additions.now) }
+    ensures { Wrote V.sink out.old out.new result (mended_text names.now mended.now) }
 {
     let mut text = TextBuffer::new(out);
-    add_additions(&mut text, names, additions)?;
+    add_mended(&mut text, names, mended)?;
     text.finish()
 }

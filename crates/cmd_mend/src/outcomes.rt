@@ -6,13 +6,16 @@ ghost use Rattle.chart.specs.Reports.{AreReports};
 ghost use Rattle.repair.specs.Mends.{IsMadeOf};
 ghost use Rattle.texts.specs.Writing.{Wrote, Adds};
 ghost use Rattle.cmd_base.specs.Pairs.SayingText.{step_text};
-ghost use Rattle.cmd_mend.specs.ChangeText.{additions_text};
+ghost use Rattle.cmd_mend.specs.ChangeText.{mended_text};
 ghost use Rattle.cmd_mend.specs.Outcomes.{none_text, IsNone, IsOutcome, IsOutcomeOfAll, IsChangeText, status_left};
 ghost use Rattle.cmd_base.specs.Pairs.Pairs.{IsPair};
 
 use crate::answering::{Outcome, Status};
+use crate::brief::brief_of;
+use crate::brief_text::write_brief;
 use crate::change::changed_by;
-use crate::change_text::{write_additions, write_change};
+use crate::change_text::{write_change, write_mended};
+use crate::showing::Detail;
 use crate::word::{Word, add_word};
 use chart::line_events::events_of;
 use chart::{Chart, Event, EventNo, InstanceNo, Line, Names, Report};
@@ -84,15 +87,42 @@ fn chain_bytes(alloc: Global, names: &Names, links: &[Link]) -> Result<Vec<u8>, 
     }
 }
 
-fn additions_bytes(
-    alloc: Global,
-    names: &Names,
-    mended: &MendedChart,
-) -> Result<Vec<u8>, AllocError>
-    ensures { IfOk result (λ bytes. bytes.items ≡ additions_text names.now mended.now.additions.items) }
+fn mended_bytes(alloc: Global, names: &Names, mended: &MendedChart) -> Result<Vec<u8>, AllocError>
+    ensures { IfOk result (λ bytes. bytes.items ≡ mended_text names.now mended.now) }
 {
     let mut out = MemoryOut::new(alloc);
-    match write_additions(names, mended.additions.as_slice(), &mut out) {
+    match write_mended(names, mended, &mut out) {
+        Ok(()) => Ok(out.into_bytes()),
+        Err(_) => Err(AllocError),
+    }
+}
+
+/// Where the message is, the first ranges of races that go or come, and how many race pairs go, stay and come.
+fn brief_bytes(
+    alloc: Global,
+    names: &Names,
+    closure: &Closure<'_>,
+    message: &Message,
+    chart: &Chart,
+    news: &[Report],
+) -> Result<Vec<u8>, AllocError>
+    requires { AreReports chart.now news.now }
+    ensures { IfOk result (λ bytes. IsChangeText Detail.Brief names.now closure.now chart.now message.now bytes.items) }
+{
+    // (what each chart keeps is said by a call)
+    let _ = closure.len();
+    let _ = chart.lines();
+    let olds = closure.races()?;
+    let brief = brief_of(alloc, message, olds.as_slice(), news)?;
+    let mut out = MemoryOut::new(alloc);
+    match write_brief(
+        names,
+        closure.lines(),
+        chart.lines(),
+        message,
+        &brief,
+        &mut out,
+    ) {
         Ok(()) => Ok(out.into_bytes()),
         Err(_) => Err(AllocError),
     }
@@ -108,7 +138,7 @@ fn change_bytes(
     news: &[Report],
 ) -> Result<Vec<u8>, AllocError>
     requires { AreReports chart.now news.now }
-    ensures { IfOk result (λ bytes. IsChangeText names.now closure.now chart.now message.now bytes.items) }
+    ensures { IfOk result (λ bytes. IsChangeText Detail.Full names.now closure.now chart.now message.now bytes.items) }
 {
     let olds = closure.races()?;
     let change = changed_by(alloc, message, olds.as_slice(), news)?;
@@ -160,11 +190,12 @@ pub(crate) fn outcome_of(
     names: &Names,
     closure: &Closure<'_>,
     pair: &Pair,
+    detail: Detail,
     mending: &Mending,
 ) -> Result<Outcome, AllocError>
     requires pair { IsPair (chart_lines closure.now) pair.now }
     requires made { IsMadeOf closure.now mending.now }
-    ensures { IfOk result (IsOutcome (names.now, closure.now) pair.now mending.now) }
+    ensures { IfOk result (IsOutcome (names.now, closure.now) detail pair.now mending.now) }
 {
     let diagnostics = match mending {
         Mending::Enforced(links) => chain_bytes(alloc, names, links.as_slice())?,
@@ -175,9 +206,10 @@ pub(crate) fn outcome_of(
         Mending::OnItsWay(event) => {
             return none_outcome(alloc, names, closure.lines(), pair, event, Word::OnItsWay);
         }
-        Mending::Mended(message, chart, news) => {
-            change_bytes(alloc, names, closure, message, chart, news.as_slice())?
-        }
+        Mending::Mended(message, chart, news) => match detail {
+            Detail::Brief => brief_bytes(alloc, names, closure, message, chart, news.as_slice())?,
+            Detail::Full => change_bytes(alloc, names, closure, message, chart, news.as_slice())?,
+        },
     };
     Ok(Outcome {
         status: Status::Done,
@@ -205,6 +237,6 @@ pub(crate) fn additions_outcome(
 {
     Ok(Outcome {
         status: status_left(mended.left),
-        diagnostics: additions_bytes(alloc, names, mended)?,
+        diagnostics: mended_bytes(alloc, names, mended)?,
     })
 }

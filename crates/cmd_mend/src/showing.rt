@@ -21,11 +21,21 @@ use repair::{MendError, Mending};
 use std::alloc::Global;
 use texts::{Out, named};
 
-/// Which race is to go, and what the new message is called; without a name by one of its own.
+/// How much is told of the races that go, stay and come.
+#[derive(Clone, Copy, Debug, PartialEq, Eq)]
+pub enum Detail {
+    /// The first ranges that go or come, and how many race pairs go, stay and come.
+    Brief,
+    /// Each range.
+    Full,
+}
+
+/// Which race is to go, what the new message is called, and how much is told; without a name it has one of its own.
 #[derive(Clone, Copy, Debug)]
 pub struct Wanted<'a> {
     pub asked: Asked<'a>,
     pub name: Option<&'a [u8]>,
+    pub detail: Detail,
 }
 
 /// What is refused for want of memory, or where a write failed.
@@ -52,15 +62,16 @@ fn write_mending<W: Out>(
     names: &Names,
     closure: &Closure<'_>,
     pair: &Pair,
+    detail: Detail,
     mending: &Mending,
     out: &mut W,
 ) -> Result<Outcome, MendRefusal>
     requires named { length names.now ≡ length closure.now }
     requires pair { IsPair (chart_lines closure.now) pair.now }
     requires made { IsMadeOf closure.now mending.now }
-    ensures { Writes W.sink out.old out.new (names.now, closure.now) pair.now mending.now result }
+    ensures { Writes W.sink out.old out.new (names.now, closure.now) detail pair.now mending.now result }
 {
-    let Ok(outcome) = outcome_of(alloc, names, closure, pair, mending) else {
+    let Ok(outcome) = outcome_of(alloc, names, closure, pair, detail, mending) else {
         return Err(refusal(ProgramError::Memory));
     };
     match mending {
@@ -87,7 +98,7 @@ fn mend_in<W: Out>(
     let pair = pair_in(names, chart.lines(), &wanted.asked)?;
     let name = message_name(alloc, chart.lines(), wanted.name)?;
     match repair::mend(alloc, &closure, &pair.earlier, &pair.receive, &name) {
-        Ok(mending) => write_mending(alloc, names, &closure, &pair, &mending, out),
+        Ok(mending) => write_mending(alloc, names, &closure, &pair, wanted.detail, &mending, out),
         Err(error) => Err(refused(names, &error)),
     }
 }
@@ -125,9 +136,10 @@ pub fn mend_of_source<W: Out, V: Out>(
 
 /// Writes to `out` the chart that the bytes of a file say, or that their schedule comes to, with one message more by
 /// which the race that is asked about is gone. Tells on `err` where the message is, and which races go, in the old
-/// chart's numbers, and stay and come, in the new one's. Where no message from the race's instance to its receive's
-/// sender does, none is needed, or a coregion hides the pair, it writes nothing, and tells that on `err`, as it does
-/// the line of a refusal. Answers the exit status: 1 where there is no such message, 2 after a refusal, and else 0.
+/// chart's numbers, and stay and come, in the new one's: in brief the first ranges that go or come, and counts. Where
+/// no message from the race's instance to its receive's sender does, none is needed, or a coregion hides the pair, it
+/// writes nothing, and tells that on `err`, as it does the line of a refusal. Answers the exit status: 1 where there is
+/// no such message, 2 after a refusal, and else 0.
 /// Nothing is written to `out` before a refusal, but where writing to it failed (F24). A failed write to `err` changes
 /// nothing.
 pub fn mend<W: Out, V: Out>(

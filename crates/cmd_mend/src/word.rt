@@ -38,6 +38,18 @@ pub(crate) enum Word {
     Colon,
     /// Before the name of an instance whose line is full.
     LineFull,
+    /// Before the number of race pairs that go.
+    Pairs,
+    /// Behind it.
+    Go,
+    /// Behind the number of those that stay.
+    Stay,
+    /// Behind the number of those that come.
+    Come,
+    /// Before the number of race pairs that were tried.
+    StoppedAfter,
+    /// Behind the number of those that are left.
+    AreLeft,
     /// At a line's end.
     End,
 }
@@ -62,6 +74,12 @@ fn word_of(word: &Word) -> &[u8]
         Word::Space => b" ",
         Word::Colon => b": ",
         Word::LineFull => b"refused: F7 LineFull ",
+        Word::Pairs => b"race pairs: ",
+        Word::Go => b" go, ",
+        Word::Stay => b" stay, ",
+        Word::Come => b" come\n",
+        Word::StoppedAfter => b"stopped after ",
+        Word::AreLeft => b" races are left\n",
         Word::End => b"\n",
     }
 }

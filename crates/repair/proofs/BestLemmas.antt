@@ -1,5 +1,5 @@
 -- The best of the first race pairs, when one more was tried; and messages that are added one after another.
-use Rattle.std.proofs.Common.{◌≡◌, ℕ, ◌+◌, ◌<◌, ◌≤◌, ◌⊎◌, inl, inr, Bool, true, false, cond, List, [], ◌∷◌, ◌++◌, length, map, Option, None, Some, Result, Ok, Err, refl, sym, ap, ◌∙◌, subst, arith, append-nil, append_assoc}
+use Rattle.std.proofs.Common.{◌≡◌, ℕ, ◌+◌, ◌<◌, ◌≤◌, ◌⊎◌, inl, inr, Bool, true, false, cond, List, length, map, Option, None, Some, Result, Ok, Err, refl, sym, ap, ◌∙◌, subst, arith}
 use Rattle.std.specs.Prelude.{slice_get, nat_lt, MatchOption, IfOk}
 use Rattle.std.proofs.lemmas.Bool.{cases_lt, ltb-true, ltb-false}
 use Rattle.std.proofs.lemmas.List.{length-map}
@@ -9,8 +9,7 @@ use Rattle.repair.specs.Growing.{message_of, line_with}
 use Rattle.repair.specs.declared.best.Addition.{Addition}
 use Rattle.repair.specs.declared.best.Tried.{Tried}
 use Rattle.repair.specs.declared.pairs.RacePair.{RacePair}
-use Rattle.repair.specs.Repairs.{ArePairs, Leaves, with_message, IsAdded, IsBestOf, HasNoneOf, IsBest, HasNone, AreAdded, pairs_of, IsRepair}
-use Rattle.repair.specs.Repairs.AreAdded.{none, more}
+use Rattle.repair.specs.Repairs.{ArePairs, Leaves, with_message, IsAdded, IsBestOf, HasNoneOf, IsBest, HasNone, pairs_of, IsRepair}
 use Rattle.chart.specs.Reports.{ReportView, AreReports}
 use Rattle.closure.specs.Faults.{place_of}
 use Rattle.repair.specs.Mends.{Informs}
@@ -115,17 +114,6 @@ best_fewer lines added left many (name, pairs, new, are, best) has =
     let same = one_count lines (length pairs) many (pairs, are, refl) has in
     let fewer = best.fewer in
     omega arith
-
--- what comes behind the best message
-pub added_next : (first lines chart : List LineView) (before : List Addition) (added : Addition) (left : ℕ) → ((others : List Addition) (end : List LineView) → AreAdded lines others end → AreAdded first (before ++ others) end) → IsBest lines added left → chart ≡ with_message (message_of added.message) lines
-    → (others : List Addition) (end : List LineView) → AreAdded chart others end → AreAdded first ((before ++ added ∷ []) ++ others) end
-added_next first lines chart before added left so_far best is others end are =
-    subst (λ (l : List Addition). AreAdded first l end) (sym (append_assoc before (added ∷ []) others))
-    (so_far (added ∷ others) end (more left best (subst (λ (l : List LineView). AreAdded l others end) is are)))
-
--- nothing comes behind the last one
-pub added_all : (first lines : List LineView) (before : List Addition) → ((others : List Addition) (end : List LineView) → AreAdded lines others end → AreAdded first (before ++ others) end) → HasNone lines → AreAdded first before lines
-added_all first lines before so_far nothing = subst (λ (l : List Addition). AreAdded first l lines) (append-nil before) (so_far [] lines (none nothing))
 
 -- a pair that was mended, with the reports of its chart
 pub tried_is : (lines chart : List LineView) (pair : RacePair) (name : List ℕ) (m : Message) (reports given : List ReportView) (left : ℕ) → IsChart chart → Informs (length lines) (chart_lines lines) (place_of pair.earlier) (place_of pair.receive) name m chart → chart ≡ with_message (message_of m) lines

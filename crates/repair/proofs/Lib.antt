@@ -12,3 +12,5 @@ pub mod BestLemmas
 pub mod NameLemmas
 pub mod PairLemmas
 pub mod RepairLemmas
+pub mod CountLemmas
+pub mod LimitLemmas

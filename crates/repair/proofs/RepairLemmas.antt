@@ -59,7 +59,7 @@ room_in line longer k m within is short =
     omega arith
 
 -- each line of a chart is short enough
-line_shorts : (lines : List LineView) (p : ℕ) → IsChart lines → length (chart_lines lines p) ≤ MAX_EVENTS
+pub line_shorts : (lines : List LineView) (p : ℕ) → IsChart lines → length (chart_lines lines p) ≤ MAX_EVENTS
 line_shorts lines zero is = omega arith
 line_shorts lines (suc p) is = elim (cases_lt p (length lines)) [
   | inl within ↦ line_short lines p is within

@@ -5,7 +5,7 @@ use Rattle.repair.specs.Growing.{message_of}
 use Rattle.repair.specs.declared.adding.MendedChart.{MendedChart}
 use Rattle.repair.specs.declared.best.Tried.{Tried}
 use Rattle.repair.specs.declared.pairs.RacePair.{RacePair}
-use Rattle.repair.specs.Repairs.{ArePairs, Leaves, with_message, IsAdded, IsBestOf, HasNoneOf, IsBest, HasNone, AreAdded}
+use Rattle.repair.specs.Repairs.{ArePairs, Leaves, with_message, IsAdded, IsBestOf, HasNoneOf, IsBest, HasNone, AreTried}
 
 -- so many race pairs are those of the chart
 abbrev pub HasPairs : List LineView → ℕ → Type 0
@@ -40,9 +40,9 @@ IsFound lines None = HasNone lines
 IsFound lines (Some t) = IsBest lines t.addition t.left
     × (t.chart ≡ with_message (message_of t.addition.message) lines)
 
--- what was added to the chart, what it made, and how many race pairs are left
-pub record IsMendedChart (lines : List LineView) (m : MendedChart) : Type 0 where
-  pub added : AreAdded lines m.additions.items m.chart
+-- what was added to the chart within so many tries, what it made, and how many race pairs are left
+pub record IsMendedChart (limit : ℕ) (lines : List LineView) (m : MendedChart) : Type 0 where
+  pub added : AreTried limit lines m.additions.items m.chart m.tried m.is_stopped
   pub possible : IsPossible (length m.chart) (chart_lines m.chart)
   pub whole : length m.chart ≡ length lines
   pub left : HasPairs m.chart m.left

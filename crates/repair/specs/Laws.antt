@@ -1,9 +1,12 @@
 -- What one message more does to a chart: statements that the functions of `laws` prove (this project's profile).
-use Rattle.std.specs.Prelude.{ℕ, ◌↔◌, List}
-use Rattle.chart.specs.Charts.{Chart, Place, BelongsTo, IsPossible}
+use Rattle.std.specs.Prelude.{ℕ, ◌+◌, ◌<◌, ◌≤◌, ◌↔◌, true, false, List, length}
+use Rattle.chart.specs.Charts.{Chart, Place, LineView, BelongsTo, IsPossible}
 use Rattle.chart.specs.Order.{Before, IsCyclic}
 use Rattle.closure.specs.Faults.{IsFaulty}
 use Rattle.repair.specs.Messages.{NewMessage, IsWith, new_send, new_receive, moved, IsRace, EndsBehind, CanInform, informing, NoMessage}
+use Rattle.repair.specs.declared.best.Addition.{Addition}
+use Rattle.repair.specs.declared.pairs.RacePair.{RacePair}
+use Rattle.repair.specs.Repairs.{ArePairs, AreAdded, AreTried}
 
 -- Where the new message's receive is of its send:
 
@@ -37,3 +40,21 @@ InformingLaw = (n : ℕ) (c d : Chart) (e r s : Place) (k : ℕ) (name : List �
 abbrev pub NoMessageLaw : Type 0
 NoMessageLaw = (n : ℕ) (c : Chart) (e r s : Place) (k : ℕ) → IsPossible n c → IsRace c e r → BelongsTo c s r
     → EndsBehind (c e.instance) e.index k → (CanInform c e.instance k s → ⊥) → NoMessage n c e.instance s.instance e r
+
+-- Of messages that are added one after another, where at most so many pairs are tried:
+
+-- if it didn't stop they are those that are added with no limit
+abbrev pub NotStoppedLaw : Type 0
+NotStoppedLaw = (limit tried : ℕ) (lines end : List LineView) (additions : List Addition)
+    → AreTried limit lines additions end tried false → AreAdded lines additions end
+
+-- those that are added with no limit need so many tries, and with any limit of at least so many it doesn't stop
+abbrev pub FarLimitLaw : Type 0
+FarLimitLaw = (lines end : List LineView) (additions : List Addition) → AreAdded lines additions end
+    → (tried : ℕ) × ((limit : ℕ) → tried ≤ limit → AreTried limit lines additions end tried false)
+
+-- no more are tried than so many, and if it stopped the chart has more race pairs than are left of them
+abbrev pub StoppedLaw : Type 0
+StoppedLaw = (limit tried : ℕ) (lines end : List LineView) (additions : List Addition)
+    → AreTried limit lines additions end tried true
+    → (tried ≤ limit) × ((pairs : List RacePair) × ArePairs end pairs × (limit < tried + length pairs))

@@ -1,7 +1,8 @@
 -- Which message mends a race pair, how many pairs it leaves, and what is added one after another (this project's
 -- profile; the races are those of Alur, Holzmann and Peled 1996 in it).
-use Rattle.std.specs.Prelude.{◌≡◌, ℕ, ◌<◌, ◌≤◌, List, [], ◌∷◌, length, map, slice_get, Some}
+use Rattle.std.specs.Prelude.{◌≡◌, ℕ, ◌+◌, ◌-◌, ◌*◌, ◌<◌, ◌≤◌, Bool, true, false, List, [], ◌∷◌, length, map, slice_get, Some, All}
 use Rattle.std.specs.List.{flat_map}
+use Rattle.chart.specs.declared.instance.TheConstants.{MAX_INSTANCES}
 use Rattle.chart.specs.declared.line.TheConstants.{MAX_EVENTS}
 use Rattle.chart.specs.Charts.{Place, LineView, chart_lines}
 use Rattle.chart.specs.Reports.{ReportView, AreReports}
@@ -19,6 +20,11 @@ pairs_of_report report = map (λ e. record { earlier = e; receive = report.recei
 
 abbrev pub pairs_of : List ReportView → List RacePair
 pairs_of reports = flat_map pairs_of_report reports
+
+-- no more reports, and of none more events, than a chart can have
+pub record AreFew (reports : List ReportView) : Type 0 where
+  pub count : length reports ≤ MAX_INSTANCES * MAX_EVENTS
+  pub each : All (λ report. length report.earlier ≤ MAX_EVENTS) reports
 
 -- these are the race pairs of the chart with these lines, by instance, receive and earlier event
 abbrev pub ArePairs : List LineView → List RacePair → Type 0
@@ -87,3 +93,15 @@ pub data AreAdded : List LineView → List Addition → List LineView → Type 0
   none : {lines : List LineView} → HasNone lines → AreAdded lines [] lines
   more : {lines last : List LineView} {added : Addition} {others : List Addition} (left : ℕ) → IsBest lines added left
       → AreAdded (with_message (message_of added.message) lines) others last → AreAdded lines (added ∷ others) last
+
+-- The same where at most so many pairs are tried. For each message all race pairs of the chart are; where they are more
+-- than are left of the limit, none of them is, and it stops. So many were tried in all, and whether it stopped.
+pub data AreTried : ℕ → List LineView → List Addition → List LineView → ℕ → Bool → Type 0 where
+  last : {limit : ℕ} {lines : List LineView} (pairs : List RacePair) → ArePairs lines pairs → length pairs ≤ limit
+      → HasNone lines → AreTried limit lines [] lines (length pairs) false
+  stopped : {limit : ℕ} {lines : List LineView} (pairs : List RacePair) → ArePairs lines pairs → limit < length pairs
+      → AreTried limit lines [] lines 0 true
+  next : {limit tried : ℕ} {lines end : List LineView} {added : Addition} {others : List Addition} {is_stopped : Bool}
+      (pairs : List RacePair) (left : ℕ) → ArePairs lines pairs → length pairs ≤ limit → IsBest lines added left
+      → AreTried (limit - length pairs) (with_message (message_of added.message) lines) others end tried is_stopped
+      → AreTried limit lines (added ∷ others) end (length pairs + tried) is_stopped

@@ -60,7 +60,7 @@ fn try_pair(
         Ok(Mending::Mended(message, chart, reports)) => {
             // (what each chart keeps is said by a call)
             let _ = chart.lines();
-            let left = count_pairs(alloc, reports.as_slice())?;
+            let left = count_pairs(reports.as_slice());
             let addition = Addition {
                 pair: *pair,
                 message,

@@ -6,7 +6,8 @@
 //!
 //! One message after another ([`mend_all`]): each that is added mends the pair that leaves the fewest race pairs of
 //! all, fewer than there were; of several such pairs the first by instance, receive and earlier event. No message
-//! more would leave fewer. Each is called by the first of `ack`, `ack_2`, .. that no message has ([`free_name`]).
+//! more would leave fewer, unless it stopped, since more pairs were left than might still be tried. Each is called by
+//! the first of `ack`, `ack_2`, .. that no message has ([`free_name`]).
 #![tactic(auto)]
 
 mod adding;
@@ -28,4 +29,4 @@ pub use growing::copied;
 pub use mending::{Mending, mend, mend_race};
 pub use message::Message;
 pub use naming::{free_name, is_taken};
-pub use pairs::RacePair;
+pub use pairs::{RacePair, count_pairs};

@@ -1,6 +1,6 @@
 //! The race pairs of a chart.
 ghost use Rattle.std.specs.Prelude.{◌≡◌, ◌++◌, length, IfOk, OnOk};
-ghost use Rattle.repair.specs.Repairs.{pairs_of_report, pairs_of};
+ghost use Rattle.repair.specs.Repairs.{pairs_of_report, pairs_of, AreFew};
 
 use chart::{EventNo, Report};
 use std::alloc::{AllocError, Global};
@@ -37,10 +37,14 @@ pub(crate) fn race_pairs(alloc: Global, reports: &[Report]) -> Result<Vec<RacePa
     Ok(pairs)
 }
 
-/// How many they are.
-pub(crate) fn count_pairs(alloc: Global, reports: &[Report]) -> Result<usize, AllocError>
-    ensures { IfOk result (λ count. count ≡ length (pairs_of reports.now)) }
+/// How many race pairs these reports have, which are no more than those of a chart. It takes no memory.
+pub fn count_pairs(reports: &[Report]) -> usize
+    requires { AreFew reports.now }
+    ensures { result ≡ length (pairs_of reports.now) }
 {
-    let pairs = race_pairs(alloc, reports)?;
-    Ok(pairs.len())
+    let mut count = 0;
+    for report in reports {
+        count += report.earlier().len();
+    }
+    count
 }

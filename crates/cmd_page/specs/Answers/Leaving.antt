@@ -3,6 +3,7 @@ use Rattle.std.specs.Prelude.{◌≡◌, ℕ, List, [], Some, None}
 use Rattle.cmd_base.specs.Answers.{Answers}
 use Rattle.cmd_mend.specs.Answers.{mend_exit}
 use Rattle.cmd_mend.specs.Showing.{ShowsText}
+use Rattle.cmd_mend.specs.declared.showing.Detail.TheVariants.{Full}
 use Rattle.texts.specs.Outs.{Sink, Stored}
 use Rattle.cmd_explain_race.specs.Answers.{why_exit, witness_exit}
 use Rattle.cmd_explain_race.specs.Views.{Whys}
@@ -33,7 +34,7 @@ pub record IsWitness (bytes : List ℕ) (asked : Asked) (left : Left) : Type 0 w
   pub answers : Answers (Witnesses memory none left.out bytes asked) witness_exit memory none left.err left.status
   pub whole : IsWhole left
 
--- `mend` does, where no name is asked for
+-- `mend` does, where no name is asked for and each range of races is told
 pub record IsMend (bytes : List ℕ) (asked : Asked) (left : Left) : Type 0 where
-  pub answers : Answers (ShowsText memory none left.out (record { asked = asked; name = None }) bytes) mend_exit memory none left.err left.status
+  pub answers : Answers (ShowsText memory none left.out (record { asked = asked; name = None; detail = Full }) bytes) mend_exit memory none left.err left.status
   pub whole : IsWhole left

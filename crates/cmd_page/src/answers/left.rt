@@ -76,6 +76,7 @@ pub(crate) fn mend_left(
     let wanted = cmd_mend::Wanted {
         asked: *asked,
         name: None,
+        detail: cmd_mend::Detail::Full,
     };
     let mut out = Collected::new(alloc);
     let mut err = Collected::new(alloc);

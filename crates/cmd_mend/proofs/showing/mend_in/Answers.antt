@@ -43,7 +43,7 @@ returns-in-Ok g c =
       called = subst (λ (l : List LineView). IsMessageName l (name_asked wanted) name) c.lines-2.ensures.value c.in_ok-name.ensures.ok;
       mends = subst (λ (l : List LineView). Mends (length l) (chart_lines l) (place_of pair.earlier) (place_of pair.receive) name mending) c.in_ok-closure.ensures.closure c.in-Ok.ensures.ok;
     })
-    (subst (λ (l : List LineView). Writes g.W.Out.sink c.args.out.now c.write_mending.new.out (names, l) pair mending c.write_mending.result) c.in_ok-closure.ensures.closure c.write_mending.ensures)
+    (subst (λ (l : List LineView). Writes g.W.Out.sink c.args.out.now c.write_mending.new.out (names, l) wanted.detail pair mending c.write_mending.result) c.in_ok-closure.ensures.closure c.write_mending.ensures)
 
 pub refused-requires : goal.refused-requires
 refused-requires g c =

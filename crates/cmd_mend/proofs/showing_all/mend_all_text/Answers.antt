@@ -9,15 +9,15 @@ use Rattle.cmd_mend.proofs.showing_all.mend_all_text.Goals as goal
 pub returns-in_err-text : goal.returns-in_err-text
 returns-in_err-text g c =
     let p = err_from_is_err_and c.from_residual.result c.from_residual.ensures.1 in
-    rw (p.1, p.2) (not_read (λ e. e) (λ source done. ShowsAll g.W.Out.sink c.args.out.now c.args.out.now done (named_of source)) c.args.out.now c.args.bytes.now c.in_err-text.field-0.0 c.in_err-text.ensures)
+    rw (p.1, p.2) (not_read (λ e. e) (λ source done. ShowsAll g.W.Out.sink c.args.asked c.args.out.now c.args.out.now done (named_of source)) c.args.out.now c.args.bytes.now c.in_err-text.field-0.0 c.in_err-text.ensures)
 
 pub returns-in_err-source : goal.returns-in_err-source
 returns-in_err-source g c =
     let p = err_from_is_err_and c.from_residual-in_err-source.result c.from_residual-in_err-source.ensures.1 in
-    rw (p.1, p.2) (not_replayed (λ e. e) (λ source done. ShowsAll g.W.Out.sink c.args.out.now c.args.out.now done (named_of source)) c.args.out.now c.args.bytes.now c.in_err-source.field-0.0 c.in_err-source.ensures.memory)
+    rw (p.1, p.2) (not_replayed (λ e. e) (λ source done. ShowsAll g.W.Out.sink c.args.asked c.args.out.now c.args.out.now done (named_of source)) c.args.out.now c.args.bytes.now c.in_err-source.field-0.0 c.in_err-source.ensures.memory)
 
 pub returns : goal.returns
 returns g c =
     let source = c.in_ok-source.source in
-    was_done (λ e. e) (λ source done. ShowsAll g.W.Out.sink c.args.out.now c.mend_all_in.new.out done (named_of source)) c.args.out.now c.args.bytes.now c.mend_all_in.new.out c.in_ok-text.text source c.mend_all_in.result c.in_ok-text.ensures c.in_ok-source.ensures.source
-    (subst₂ (λ (ns : List (List ℕ)) (ls : List LineView). ShowsAll g.W.Out.sink c.args.out.now c.mend_all_in.new.out c.mend_all_in.result (ns, ls)) c.names.ensures c.chart.ensures.value c.mend_all_in.ensures)
+    was_done (λ e. e) (λ source done. ShowsAll g.W.Out.sink c.args.asked c.args.out.now c.mend_all_in.new.out done (named_of source)) c.args.out.now c.args.bytes.now c.mend_all_in.new.out c.in_ok-text.text source c.mend_all_in.result c.in_ok-text.ensures c.in_ok-source.ensures.source
+    (subst₂ (λ (ns : List (List ℕ)) (ls : List LineView). ShowsAll g.W.Out.sink c.args.asked c.args.out.now c.mend_all_in.new.out c.mend_all_in.result (ns, ls)) c.names.ensures c.chart.ensures.value c.mend_all_in.ensures)
