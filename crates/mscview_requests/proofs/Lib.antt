@@ -1,2 +1,3 @@
 pub mod GivenLemmas
+pub mod QuestionLemmas
 pub mod WordsLemmas

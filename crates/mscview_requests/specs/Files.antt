@@ -22,5 +22,7 @@ files_read (requests.Compare wanted) = 2
 files_read (requests.Races asked) = 1
 files_read (requests.LogRaces asked) = at_least_one (length asked.log.files.items)
 files_read (requests.Mend wanted) = 1
+files_read (requests.ToolQuestion wanted) = 1
+files_read (requests.LogQuestion wanted) = at_least_one (length wanted.log.files.items)
 files_read (requests.Tidy file) = 1
 files_read (requests.Explain file) = 1

@@ -3,6 +3,7 @@ pub mod Files
 pub mod Given
 pub mod Lines
 pub mod Opening
+pub mod Questions
 pub mod Readings
 pub mod Views
 pub mod Wanted

@@ -4,7 +4,7 @@ use Rattle.cmd_compare.specs.Answers.{compare_exit}
 use Rattle.cmd_compare.specs.Comparisons.{ComparesFiles}
 use Rattle.diagram_import.specs.Importing as diagrams
 use Rattle.cmd_explain_file.specs.Explaining.{Explains, explained_exit}
-use Rattle.cmd_base.specs.Answers.{Answers}
+use Rattle.cmd_base.specs.Answers.{Answers, Exit, Prints}
 use Rattle.cmd_base.specs.Refusals.{refusal_text, Tried}
 use Rattle.cmd_base.specs.Strict.{Refuses}
 use Rattle.cmd_base.specs.declared.error.ProgramError.{ProgramError}
@@ -42,6 +42,7 @@ use Rattle.cli.specs.declared.view.request.DrawWitness.{DrawWitness}
 use Rattle.cli.specs.declared.view.request.Export.{Export}
 use Rattle.cli.specs.declared.view.request.Import.{Import}
 use Rattle.cli.specs.declared.view.request.ImportLog.{ImportLog}
+use Rattle.cli.specs.declared.view.request.LogQuestion.{LogQuestion}
 use Rattle.cli.specs.declared.view.request.LogRaces.{LogRaces}
 use Rattle.cli.specs.declared.view.request.Mend as mend
 use Rattle.cli.specs.declared.view.request.Mend.TheVariants.{One, All}
@@ -53,6 +54,7 @@ use Rattle.cli.specs.declared.view.request.Races.{Races}
 use Rattle.cli.specs.declared.view.request.Reading.{Reading}
 use Rattle.cli.specs.declared.view.request.Request.{Request}
 use Rattle.cli.specs.declared.view.request.Request.TheVariants as requests
+use Rattle.cli.specs.declared.view.request.ToolQuestion.{ToolQuestion}
 use Rattle.cmd_explain_race.specs.Answers.{why_file_exit, witness_exit}
 use Rattle.cmd_explain_race.specs.Views.{WhysFile}
 use Rattle.cmd_explain_race.specs.Witnessing.{Witnesses}
@@ -61,7 +63,10 @@ use Rattle.cmd_draw.specs.Witness.Answers.{picture_exit}
 use Rattle.cmd_draw.specs.Witness.Drawing.{DrawsWitnessText}
 use Rattle.mscview_requests.specs.Given.{named_so, file_named, files_named, diagnostic_files, AreGiven, IsNotGiven}
 use Rattle.mscview_requests.specs.Lines.{RefusesWords}
-use Rattle.mscview_requests.specs.Wanted.{IsAsked, IsMend, IsPicture, IsPictureOf, IsBeside, IsNameOf, titled_path, first_path, comparison_form, AreRaces, AreJudged, IsReading, IsLog}
+use Rattle.mscview_requests.specs.Questions.{IsToolQuestion, IsLogQuestion, LeavesDiagram, LeavesLog}
+use Rattle.mscview_requests.specs.declared.questions.ReadQuestion.{ReadQuestion}
+use Rattle.mscview_requests.specs.declared.questions.ReadQuestion.TheVariants as questions
+use Rattle.mscview_requests.specs.Wanted.{IsAsked, IsMend, IsLimit, IsPicture, IsPictureOf, IsBeside, IsNameOf, titled_path, first_path, comparison_form, AreRaces, AreJudged, IsReading, IsLog}
 
 -- What commands do, by what is known of standard output and of standard error, with what they were before and are afterwards.
 module _ {S V : Type 0} (sink : S → Sink) (old new : S) (diagnostics : V → Sink) (before after : V) where
@@ -124,6 +129,35 @@ module _ {S V : Type 0} (sink : S → Sink) (old new : S) (diagnostics : V → S
   -- a message was added by which a race goes
   abbrev pub DoesMend : mend_wanted.Wanted → List ℕ → ℕ → Type 0
   DoesMend wanted text status = Answers (mends.ShowsText sink old new wanted text) mend_exit diagnostics before after status
+
+  -- messages were added as long as each leaves fewer races, within so many pairs that are tried
+  abbrev pub DoesMendAll : Option ℕ → List ℕ → ℕ → Type 0
+  DoesMendAll limit text status = Answers (mends.ShowsAllText sink limit old new text) mend_all_exit diagnostics before after status
+
+  -- what is asked about the races of a chart was answered
+  abbrev pub DoesQuestion : ReadQuestion → List ℕ → ℕ → Type 0
+  DoesQuestion (questions.Pair question asked) text status = DoesPair question asked text status
+  DoesQuestion (questions.Mend wanted) text status = DoesMend wanted text status
+  DoesQuestion (questions.MendAll limit) text status = DoesMendAll limit text status
+
+-- The same where the text is imported first.
+module _ {S V : Type 0} (sink : S → Sink) (old new : S) (diagnostics : V → Sink) (before after : V) where
+  -- by what an import leaves and tells: the command answered over the text, and what it tells comes behind what the import
+  -- does; or the import's refusal is told, and nothing was written
+  abbrev pub DoesAfter : Option (List ℕ) → Exit → ReadQuestion → ℕ → Type 0
+  DoesAfter (Some text) exit question status = (between : V) × Prints diagnostics before between exit.diagnostics
+      × DoesQuestion sink old new diagnostics between after question text status
+  DoesAfter None exit question status = (status ≡ exit.status) × Prints diagnostics before after exit.diagnostics × (new ≡ old)
+
+  -- of another tool's text
+  abbrev pub DoesOverDiagram : ReadQuestion × (Option Tool × diagrams.OptionsView) → List ℕ → ℕ → Type 0
+  DoesOverDiagram asked bytes status = (text : Option (List ℕ)) × (exit : Exit) × LeavesDiagram asked.1.0 bytes asked.1.1 text exit
+      × DoesAfter text exit asked.0 status
+
+  -- of a log; of several files the lines are told by these names
+  abbrev pub DoesOverLog : List (List ℕ) → ReadQuestion × logs.OptionsView → List (List ℕ) → ℕ → Type 0
+  DoesOverLog names asked texts status = (text : Option (List ℕ)) × (exit : Exit) × LeavesLog asked.1 texts names text exit
+      × DoesAfter text exit asked.0 status
 
 -- Of the files of a command line these may be given, by their places and names; and what is known of standard output and of
 -- standard error, with what they were before and are afterwards.
@@ -232,12 +266,13 @@ module _ {S V : Type 0} (gives : ℕ → Option (List ℕ) → Result (List ℕ)
 
   -- a message was added by which a race goes, or all by which races become fewer
   abbrev pub ViewsMend : mend.Mend → Result ℕ ProgramError → Type 0
-  ViewsMend (One name file instance earlier receive) result =
-      OfFile (IsMend (option_map (λ word. word.now) name) instance.now earlier.now receive.now)
-      (SayNothing (IsMend (option_map (λ word. word.now) name) instance.now earlier.now receive.now)) (named_so file.now)
+  ViewsMend (One name verbose file instance earlier receive) result =
+      OfFile (IsMend (option_map (λ word. word.now) name) verbose instance.now earlier.now receive.now)
+      (SayNothing (IsMend (option_map (λ word. word.now) name) verbose instance.now earlier.now receive.now)) (named_so file.now)
       (DoesMend sink old new diagnostics before after) result
-  ViewsMend (All file) result = OfFileAlone (file_named (option_map (λ word. word.now) file))
-      (λ text status. Answers (mends.ShowsAllText sink old new text) mend_all_exit diagnostics before after status) result
+  ViewsMend (All limit file) result =
+      OfFile (IsLimit (option_map (λ word. word.now) limit)) (SayNothing (IsLimit (option_map (λ word. word.now) limit)))
+      (file_named (option_map (λ word. word.now) file)) (DoesMendAll sink old new diagnostics before after) result
 
   -- the page of a file was written, called as a picture of it is
   abbrev pub ViewsPage : Page → Result ℕ ProgramError → Type 0
@@ -253,6 +288,17 @@ module _ {S V : Type 0} (gives : ℕ → Option (List ℕ) → Result (List ℕ)
   -- the page of a log was written
   abbrev pub ViewsLogPage : ImportLog → Result ℕ ProgramError → Type 0
   ViewsLogPage log = OfFiles (IsLog log) (files_named (map (λ word. word.now) log.files.items)) (DoesLogPage sink old new diagnostics before after log)
+
+  -- what is asked of another tool's text was answered
+  abbrev pub ViewsToolQuestion : ToolQuestion → Result ℕ ProgramError → Type 0
+  ViewsToolQuestion wanted = OfFile (IsToolQuestion wanted) (AreNotRead (IsToolQuestion wanted))
+      (file_named (option_map (λ word. word.now) wanted.import.file)) (DoesOverDiagram sink old new diagnostics before after)
+
+  -- what is asked of a log was answered
+  abbrev pub ViewsLogQuestion : LogQuestion → Result ℕ ProgramError → Type 0
+  ViewsLogQuestion wanted = OfFiles (IsLogQuestion wanted) (files_named (map (λ word. word.now) wanted.log.files.items))
+      (λ asked texts status. (names : List (List ℕ)) × (names ≡ diagnostic_files (map (λ word. word.now) wanted.log.files.items))
+      × DoesOverLog sink old new diagnostics before after names asked texts status)
 
   -- the exact text of what is typed in a file was written
   abbrev pub ViewsTidy : Option (List ℕ) → Result ℕ ProgramError → Type 0
@@ -277,6 +323,8 @@ module _ {S V : Type 0} (gives : ℕ → Option (List ℕ) → Result (List ℕ)
   Comes (requests.Races asked) result = ViewsRaces asked result
   Comes (requests.LogRaces asked) result = ViewsLogRaces asked result
   Comes (requests.Mend wanted) result = ViewsMend wanted result
+  Comes (requests.ToolQuestion wanted) result = ViewsToolQuestion wanted result
+  Comes (requests.LogQuestion wanted) result = ViewsLogQuestion wanted result
   Comes (requests.Tidy file) result = ViewsTidy (option_map (λ word. word.now) file) result
   Comes (requests.Explain file) result = ViewsExplanation (option_map (λ word. word.now) file) result
 

@@ -15,6 +15,8 @@ use Rattle.cmd_draw.specs.declared.windows.Rows.TheVariants as row_kinds
 use Rattle.cmd_import_log.specs.Options as logs
 use Rattle.cmd_import_log.specs.Options.FormView.{Plain, Pattern, ShiViz}
 use Rattle.log_lines.specs.declared.range.LineRange.{LineRange}
+use Rattle.cmd_mend.specs.declared.showing.Detail as mend_detail
+use Rattle.cmd_mend.specs.declared.showing.Detail.TheVariants as mend_details
 use Rattle.cmd_mend.specs.declared.showing.Wanted as mends
 use Rattle.mscview_requests.specs.Words.Hosts.{AreFirst, IsPeer}
 use Rattle.mscview_requests.specs.Words.Joins.{IsJoin}
@@ -46,10 +48,22 @@ pub record IsAsked (instance earlier receive : List ℕ) (asked : Asked) : Type 
   pub first : IsNumberIn earlier asked.earlier
   pub last : IsNumberIn receive asked.receive
 
--- the same, with the name of the message that is to be added, where a word says it
-pub record IsMend (name : Option (List ℕ)) (instance earlier receive : List ℕ) (wanted : mends.Wanted) : Type 0 where
+-- how much is told of the races that go, stay and come: each range, or the first ones and counts
+abbrev pub detail_of : Bool → mend_detail.Detail
+detail_of true = mend_details.Full
+detail_of false = mend_details.Brief
+
+-- the same, with the name of the message that is to be added, where a word says it, and how much is told
+pub record IsMend (name : Option (List ℕ)) (verbose : Bool) (instance earlier receive : List ℕ) (wanted : mends.Wanted)
+    : Type 0 where
   pub asked : IsAsked instance earlier receive wanted.asked
   pub called : option_map (λ bytes. bytes.now) wanted.name ≡ name
+  pub detail : wanted.detail ≡ detail_of verbose
+
+-- how many race pairs are tried, where a word says that
+abbrev pub IsLimit : Option (List ℕ) → Option ℕ → Type 0
+IsLimit None limit = limit ≡ None
+IsLimit (Some word) limit = (number : ℕ) × IsNumberIn word number × (limit ≡ Some number)
 
 -- the events, or the rows, that are drawn: those that a word says, or all
 abbrev pub AreDrawn : Option (List ℕ) → Events → Type 0

@@ -41,7 +41,7 @@ pub(crate) fn asked_by<'a>(
 }
 
 /// Explains the pair of events, or turns it round.
-fn answer_pair<W: Out, V: Out>(
+pub(crate) fn answer_pair<W: Out, V: Out>(
     alloc: Global,
     question: Question,
     bytes: &[u8],

@@ -19,6 +19,7 @@ pub fn many_files(request: &Request<'_>) -> usize
         Request::Compare(_) => 2,
         Request::ImportLog(log) | Request::LogPage(log) => many_logs(log),
         Request::LogRaces(asked) => many_logs(&asked.log),
+        Request::LogQuestion(wanted) => many_logs(&wanted.log),
         Request::Pair(_)
         | Request::Draw(_)
         | Request::DrawWitness(_)
@@ -28,6 +29,7 @@ pub fn many_files(request: &Request<'_>) -> usize
         | Request::Import(_)
         | Request::Races(_)
         | Request::Mend(_)
+        | Request::ToolQuestion(_)
         | Request::Tidy(_)
         | Request::Explain(_) => 1,
     }

@@ -5,14 +5,15 @@ ghost use Rattle.diagram_join.specs.Joins.{join_view};
 ghost use Rattle.diagram_import.specs.Importing.{options_view};
 ghost use Rattle.mscview_requests.specs.Readings.{read_view, skips_of};
 ghost use Rattle.mscview_requests.specs.Words.Words.{AreRead, Says, Reads};
-ghost use Rattle.mscview_requests.specs.Views.{ViewsImport, ViewsPictureOf, ViewsRacesOf, ViewsToolPage};
+ghost use Rattle.mscview_requests.specs.Views.{ViewsImport, ViewsPictureOf, ViewsRacesOf, ViewsToolPage, ViewsToolQuestion};
 ghost use Rattle.mscview_requests.specs.Wanted.{IsTool, IsSkip, IsReading};
 
 use crate::drawing::{file_title, picture_by};
 use crate::giving::{Giver, first_in};
+use crate::questions::{answer_of_diagram, question_by};
 use crate::racing::wanted_by;
 use crate::words::{JoinWord, join_words, joins_of};
-use cli::view::{Draw, Import, Races, Reading};
+use cli::view::{Draw, Import, Races, Reading, ToolQuestion};
 use cmd_base::ProgramError;
 use cmd_draw::imports::draw_of;
 use cmd_draw::{events_in, tool_in};
@@ -169,6 +170,32 @@ pub(crate) fn view_tool_page<G: Giver, W: Out, V: Out>(
     let options = options_of(&read, &joins);
     let title = file_title(wanted.file);
     Ok(page_of_drawing(alloc, read.tool, bytes.as_slice(), options, title, out, err))
+}
+
+/// Answers what is asked of another tool's text, which is imported first.
+pub(crate) fn view_tool_question<G: Giver, W: Out, V: Out>(
+    alloc: Global,
+    wanted: &ToolQuestion<'_>,
+    giver: &G,
+    out: &mut W,
+    err: &mut V,
+) -> Result<u8, ProgramError>
+    ensures { ViewsToolQuestion (G.gives giver.now) W.sink out.old out.new V.sink err.old err.new wanted.now result }
+{
+    let question = question_by(&wanted.asked)?;
+    let read = read_by(alloc, &wanted.import.reading)?;
+    let joins = joins_by(alloc, &read)?;
+    let bytes = first_in(alloc, giver, wanted.import.file)?;
+    let options = options_of(&read, &joins);
+    Ok(answer_of_diagram(
+        alloc,
+        &question,
+        read.tool,
+        bytes.as_slice(),
+        options,
+        out,
+        err,
+    ))
 }
 
 /// Shows the races of another tool's text by name. G1: luck is asked for, of which such a text tells nothing.

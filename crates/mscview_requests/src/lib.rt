@@ -26,6 +26,7 @@ mod giving;
 mod importing;
 mod log_words;
 mod mends;
+mod questions;
 mod racing;
 mod recorded;
 mod refusing;

@@ -1,29 +1,50 @@
 //! Messages by which races go.
-ghost use Rattle.std.specs.Prelude.{option_map};
+ghost use Rattle.std.specs.Prelude.{◌≡◌, option_map};
 ghost use Rattle.mscview_requests.specs.Words.Words.{Says};
 ghost use Rattle.mscview_requests.specs.Views.{ViewsMend};
-ghost use Rattle.mscview_requests.specs.Wanted.{IsMend};
+ghost use Rattle.mscview_requests.specs.Wanted.{IsMend, IsLimit, detail_of};
 
-use crate::asking::asked_by;
+use crate::asking::{asked_by, number_by};
 use crate::giving::{Giver, first_in};
 use cli::view::Mend;
 use cmd_base::ProgramError;
-use cmd_mend::{Wanted, mend, mend_all};
+use cmd_mend::{Detail, Wanted, mend, mend_all};
 use std::alloc::Global;
 use texts::Out;
 
-/// The race that is to go, and what the message is called by which it does. G1: a number isn't one.
-fn wanted_by<'a>(
+fn detail_of(verbose: bool) -> Detail
+    ensures { result ≡ detail_of verbose }
+{
+    if verbose { Detail::Full } else { Detail::Brief }
+}
+
+/// How many race pairs are tried, where a word says that. G1: it says no number.
+pub(crate) fn limit_by(word: Option<&str>) -> Result<Option<u64>, ProgramError>
+    ensures { Says (IsLimit (option_map (λ w. w.now) word.entry)) result }
+{
+    match word {
+        None => Ok(None),
+        Some(word) => {
+            let number = number_by(word)?;
+            Ok(Some(number))
+        }
+    }
+}
+
+/// The race that is to go, what the message is called by which it does, and how much is told. G1: a number isn't one.
+pub(crate) fn wanted_by<'a>(
     name: Option<&'a str>,
+    verbose: bool,
     instance: &'a str,
     earlier: &str,
     receive: &str,
 ) -> Result<Wanted<'a>, ProgramError>
-    ensures { Says (IsMend (option_map (λ w. w.now) name.entry) instance.now earlier.now receive.now) result }
+    ensures { Says (IsMend (option_map (λ w. w.now) name.entry) verbose instance.now earlier.now receive.now) result }
 {
     Ok(Wanted {
         asked: asked_by(instance, earlier, receive)?,
         name: name.map(|name| name.as_bytes()),
+        detail: detail_of(verbose),
     })
 }
 
@@ -40,18 +61,20 @@ pub(crate) fn view_mend<G: Giver, W: Out, V: Out>(
     match wanted {
         Mend::One {
             name,
+            verbose,
             file,
             instance,
             earlier,
             receive,
         } => {
-            let wanted = wanted_by(*name, *instance, *earlier, *receive)?;
+            let wanted = wanted_by(*name, *verbose, *instance, *earlier, *receive)?;
             let bytes = first_in(alloc, giver, Some(*file))?;
             Ok(mend(alloc, bytes.as_slice(), &wanted, out, err))
         }
-        Mend::All(file) => {
+        Mend::All { limit, file } => {
+            let limit = limit_by(*limit)?;
             let bytes = first_in(alloc, giver, *file)?;
-            Ok(mend_all(alloc, bytes.as_slice(), out, err))
+            Ok(mend_all(alloc, bytes.as_slice(), limit, out, err))
         }
     }
 }

@@ -3,15 +3,16 @@ ghost use Rattle.std.specs.Prelude.{◌≡◌, ◌∷◌, [], map, option_map, I
 ghost use Rattle.mscview_requests.specs.FileBytes.{bytes_of};
 ghost use Rattle.mscview_requests.specs.Given.{file_named, files_named, diagnostic_files, AreAnswered};
 ghost use Rattle.mscview_requests.specs.Opening.{OpensLog};
-ghost use Rattle.mscview_requests.specs.Views.{ViewsLog, ViewsLogPage, ViewsLogRaces};
+ghost use Rattle.mscview_requests.specs.Views.{ViewsLog, ViewsLogPage, ViewsLogQuestion, ViewsLogRaces};
 ghost use Rattle.mscview_requests.specs.Wanted.{AreJudged, IsNameOf, first_path, titled_path};
 
 use crate::drawing::file_title;
 use crate::file_bytes::FileBytes;
 use crate::giving::{Giver, first_in};
 use crate::log_words::{LogWords, log_words, options_of, peers_by};
+use crate::questions::{answer_of_log, question_by};
 use crate::racing::wanted_by;
-use cli::view::{ImportLog, LogRaces, Showing};
+use cli::view::{ImportLog, LogQuestion, LogRaces, Showing};
 use cmd_base::ProgramError;
 use cmd_import_log::import;
 use cmd_page::logs::page_of_log;
@@ -205,4 +206,24 @@ pub(crate) fn view_log_races<G: Giver, W: Out, V: Out>(
     let options = options_of(&log.words, &peers);
     let wanted = judged_by(&asked.showing);
     Ok(races_of_log(alloc, options, &slices, &log.names, &wanted, out, err))
+}
+
+/// Answers what is asked of a log, which is imported first.
+pub(crate) fn view_log_question<G: Giver, W: Out, V: Out>(
+    alloc: Global,
+    wanted: &LogQuestion<'_>,
+    giver: &G,
+    out: &mut W,
+    err: &mut V,
+) -> Result<u8, ProgramError>
+    ensures { ViewsLogQuestion (G.gives giver.now) W.sink out.old out.new V.sink err.old err.new wanted.now result }
+{
+    let question = question_by(&wanted.asked)?;
+    let log = open_log(alloc, &wanted.log, giver)?;
+    let peers = peers_by(alloc, &log.words)?;
+    let Ok(slices) = slices_of(alloc, &log.texts) else {
+        return Err(ProgramError::Memory);
+    };
+    let options = options_of(&log.words, &peers);
+    Ok(answer_of_log(alloc, &question, options, &slices, &log.names, out, err))
 }

@@ -5,10 +5,10 @@ use crate::asking::{view_comparison, view_pair};
 use crate::beside::view_beside;
 use crate::drawing::{view_export, view_picture};
 use crate::giving::Giver;
-use crate::importing::{view_import, view_tool_page};
+use crate::importing::{view_import, view_tool_page, view_tool_question};
 use crate::mends::view_mend;
 use crate::racing::view_races;
-use crate::recorded::{view_log, view_log_page, view_log_races};
+use crate::recorded::{view_log, view_log_page, view_log_question, view_log_races};
 use crate::refusing::refusal;
 use crate::writing::{view_explanation, view_page, view_tidy};
 use cli::view::{Request, requested};
@@ -41,6 +41,8 @@ fn come<G: Giver, W: Out, V: Out>(
         Request::Races(asked) => view_races(alloc, asked, giver, out, err),
         Request::LogRaces(asked) => view_log_races(alloc, asked, giver, out, err),
         Request::Mend(wanted) => view_mend(alloc, wanted, giver, out, err),
+        Request::ToolQuestion(wanted) => view_tool_question(alloc, wanted, giver, out, err),
+        Request::LogQuestion(wanted) => view_log_question(alloc, wanted, giver, out, err),
         Request::Tidy(file) => view_tidy(alloc, *file, giver, out, err),
         Request::Explain(file) => view_explanation(alloc, *file, giver, out, err),
     }

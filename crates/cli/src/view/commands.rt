@@ -8,18 +8,11 @@ const FILE: &[Word] = &[Word::Free("FILE")];
 /// Files, all of which a command may do without.
 const FILES: &[Word] = &[Word::Rest("FILE")];
 
-/// A file and the words of a `race` line.
-const PAIR: &[Word] = &[
-    Word::Needed("FILE"),
-    Word::Needed("INSTANCE"),
-    Word::Needed("EARLIER"),
-    Word::Needed("RECEIVE"),
-];
+/// Files, and behind them the words of a `race` line, of which there are three.
+const WORDS: &[Word] = &[Word::Rest("WORD")];
 
-/// The option that refuses a schedule of which a command did nothing.
-const STRICT: &[Word] = &[Word::Flag("strict")];
-
-/// The options of reading another tool's text. Without `--from` the flag is that of [`STRICT`].
+/// The options of reading another tool's text. Without `--from` the flag refuses a schedule of which a command did
+/// nothing.
 const TOOLS: &[Word] = &[
     Word::Option("from", 1),
     Word::Flag("strict"),
@@ -50,11 +43,9 @@ const DRAWING: &[Word] = &[
 /// Which message is added to a chart, or whether for all races.
 const MENDING: &[Word] = &[
     Word::Option("name", 1),
+    Word::Flag("verbose"),
     Word::Flag("all"),
-    Word::Free("FILE"),
-    Word::Free("INSTANCE"),
-    Word::Free("EARLIER"),
-    Word::Free("RECEIVE"),
+    Word::Option("limit", 1),
 ];
 
 /// Two files, and how what differs is told.
@@ -62,15 +53,15 @@ const TWO_FILES: &[Word] = &[Word::Flag("json"), Word::Needed("A"), Word::Needed
 
 /// The commands and their words. Help, the version, no command and an unknown one are all mistakes.
 pub(crate) const COMMANDS: [(&str, &[&[Word]]); 11] = [
-    ("witness", &[PAIR]),
-    ("why", &[STRICT, PAIR]),
+    ("witness", &[TOOLS, LOGS, WORDS]),
+    ("why", &[TOOLS, LOGS, WORDS]),
     ("draw", &[DRAWING, TOOLS, FILE]),
     ("page", &[TOOLS, LOGS, FILES]),
     ("export", &[&[Word::NeededOption("to")], FILE]),
     ("import", &[TOOLS, LOGS, FILES]),
     ("compare", &[TWO_FILES]),
     ("races", &[SHOWING, TOOLS, LOGS, FILES]),
-    ("mend", &[MENDING]),
+    ("mend", &[MENDING, TOOLS, LOGS, WORDS]),
     ("tidy", &[FILE]),
     ("explain", &[FILE]),
 ];

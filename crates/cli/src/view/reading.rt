@@ -1,35 +1,15 @@
 //! What the words of a command line ask for.
 use crate::view::commands::COMMANDS;
+use crate::view::questions::race_question;
 use crate::view::request::{
-    Compare, Draw, DrawWitness, Export, Import, ImportLog, LogForm, LogRaces, Mend, Page, Pair,
-    Question, Races, Reading, Request, Rows,
+    Compare, Draw, DrawWitness, Export, Import, ImportLog, LogForm, LogRaces, Page, Races, Reading,
+    Request, Rows,
 };
 use crate::view::showing::showing_of;
 use crate::{CommandLineError, program_of};
 use clap::ArgMatches;
 use std::alloc::{AllocError, Global};
 use std::convert::AsStr;
-
-/// What a command asks.
-fn question_of(command: &str) -> Option<Question> {
-    match command {
-        "witness" => Some(Question::Witness),
-        "why" => Some(Question::Why),
-        _ => None,
-    }
-}
-
-/// What a command's words ask about two events.
-fn pair_of<'a>(question: Question, words: &ArgMatches<'a>) -> Option<Request<'a>> {
-    Some(Request::Pair(Pair {
-        question,
-        strict: words.get_flag("strict"),
-        file: words.get_str("FILE")?,
-        instance: words.get_str("INSTANCE")?,
-        earlier: words.get_str("EARLIER")?,
-        receive: words.get_str("RECEIVE")?,
-    }))
-}
 
 /// The event that the words behind `--around` say.
 fn around_of<'a>(words: &[&'a str]) -> Option<Rows<'a>> {
@@ -109,12 +89,17 @@ fn export_of<'a>(words: &ArgMatches<'a>) -> Option<Request<'a>> {
 }
 
 /// The words behind each use of an option.
-fn words_of<'a>(
+pub(crate) fn words_of<'a>(
     alloc: Global,
     words: &ArgMatches<'a>,
     option: &str,
 ) -> Result<Vec<&'a str>, AllocError> {
     Vec::from_slice(alloc, words.get_strs(option).unwrap_or(&[]))
+}
+
+/// The files of a command that has no other words.
+fn files_of<'a>(alloc: Global, words: &ArgMatches<'a>) -> Result<Vec<&'a str>, AllocError> {
+    words_of(alloc, words, "FILE")
 }
 
 /// How the words of a command say that another tool's text is read.
@@ -128,7 +113,7 @@ fn reading_of<'a>(alloc: Global, words: &ArgMatches<'a>) -> Result<Reading<'a>, 
 }
 
 /// How the lines of a log are written, where the words say that one is read.
-fn log_form<'a>(words: &ArgMatches<'a>) -> Option<LogForm<'a>> {
+pub(crate) fn log_form<'a>(words: &ArgMatches<'a>) -> Option<LogForm<'a>> {
     match (words.get_str("from"), words.get_str("pattern")) {
         (Some("log"), None) => Some(LogForm::Plain),
         (Some("log"), Some(pattern)) => Some(LogForm::Pattern(pattern)),
@@ -137,11 +122,12 @@ fn log_form<'a>(words: &ArgMatches<'a>) -> Option<LogForm<'a>> {
     }
 }
 
-/// The log that the words of a command ask for. G1: there is an option for another tool's text.
-fn log_of<'a>(
+/// The log of these files that the words of a command ask for. G1: there is an option for another tool's text.
+pub(crate) fn log_of<'a>(
     alloc: Global,
     form: LogForm<'a>,
     words: &ArgMatches<'a>,
+    files: Vec<&'a str>,
 ) -> Result<ImportLog<'a>, CommandLineError> {
     let reading = reading_of(alloc, words)?;
     if reading.strict || !reading.skipped.is_empty() || !reading.joined.is_empty() {
@@ -153,7 +139,7 @@ fn log_of<'a>(
         peers: words_of(alloc, words, "peer")?,
         from_line: words.get_str("from-line"),
         to_line: words.get_str("to-line"),
-        files: words_of(alloc, words, "FILE")?,
+        files,
     })
 }
 
@@ -167,20 +153,19 @@ fn is_for_logs(words: &ArgMatches<'_>) -> bool {
 }
 
 /// The one file of a command, if there is one. G1: there are several files, or there is an option for logs.
-fn one_file<'a>(
-    alloc: Global,
+pub(crate) fn one_file<'a>(
+    files: &[&'a str],
     words: &ArgMatches<'a>,
 ) -> Result<Option<&'a str>, CommandLineError> {
-    let files = words_of(alloc, words, "FILE")?;
     if files.len() > 1 || is_for_logs(words) {
         return Err(CommandLineError::Usage);
     }
-    Ok(words.get_str("FILE"))
+    Ok(files.first().copied())
 }
 
 /// Another tool's text that the words of `import` ask for.
 fn tool_of<'a>(alloc: Global, words: &ArgMatches<'a>) -> Result<Request<'a>, CommandLineError> {
-    let file = one_file(alloc, words)?;
+    let file = one_file(&files_of(alloc, words)?, words)?;
     Ok(Request::Import(Import {
         reading: reading_of(alloc, words)?,
         file,
@@ -190,14 +175,17 @@ fn tool_of<'a>(alloc: Global, words: &ArgMatches<'a>) -> Result<Request<'a>, Com
 /// What the words of `import` ask for.
 fn import_of<'a>(alloc: Global, words: &ArgMatches<'a>) -> Result<Request<'a>, CommandLineError> {
     match log_form(words) {
-        Some(form) => Ok(Request::ImportLog(log_of(alloc, form, words)?)),
+        Some(form) => {
+            let files = files_of(alloc, words)?;
+            Ok(Request::ImportLog(log_of(alloc, form, words, files)?))
+        }
         None => tool_of(alloc, words),
     }
 }
 
 /// How a command's file is read, if it is another tool's text. G1: without `--from` there is an option of `import`, but
 /// for `--strict`, which is the command's own then.
-fn other_reading<'a>(
+pub(crate) fn other_reading<'a>(
     alloc: Global,
     words: &ArgMatches<'a>,
 ) -> Result<Option<Reading<'a>>, CommandLineError> {
@@ -225,7 +213,7 @@ fn file_races_of<'a>(
     alloc: Global,
     words: &ArgMatches<'a>,
 ) -> Result<Request<'a>, CommandLineError> {
-    let file = one_file(alloc, words)?;
+    let file = one_file(&files_of(alloc, words)?, words)?;
     Ok(Request::Races(Races {
         showing: showing_of(words),
         reading: other_reading(alloc, words)?,
@@ -239,7 +227,7 @@ fn races_of<'a>(alloc: Global, words: &ArgMatches<'a>) -> Result<Request<'a>, Co
     match log_form(words) {
         Some(form) => Ok(Request::LogRaces(LogRaces {
             showing: showing_of(words),
-            log: log_of(alloc, form, words)?,
+            log: log_of(alloc, form, words, files_of(alloc, words)?)?,
         })),
         None => file_races_of(alloc, words),
     }
@@ -250,7 +238,7 @@ fn file_page_of<'a>(
     alloc: Global,
     words: &ArgMatches<'a>,
 ) -> Result<Request<'a>, CommandLineError> {
-    let file = one_file(alloc, words)?;
+    let file = one_file(&files_of(alloc, words)?, words)?;
     match other_reading(alloc, words)? {
         Some(reading) => Ok(Request::ToolPage(Import { reading, file })),
         None => Ok(Request::Page(Page {
@@ -263,29 +251,9 @@ fn file_page_of<'a>(
 /// What the words of `page` ask for.
 fn page_of<'a>(alloc: Global, words: &ArgMatches<'a>) -> Result<Request<'a>, CommandLineError> {
     match log_form(words) {
-        Some(form) => Ok(Request::LogPage(log_of(alloc, form, words)?)),
+        Some(form) => Ok(Request::LogPage(log_of(alloc, form, words, files_of(alloc, words)?)?)),
         None => file_page_of(alloc, words),
     }
-}
-
-/// What the words of `mend` ask for. With `--all` neither a race nor a name is.
-fn mend_of<'a>(words: &ArgMatches<'a>) -> Option<Request<'a>> {
-    let name = words.get_str("name");
-    let file = words.get_str("FILE");
-    let instance = words.get_str("INSTANCE");
-    if words.get_flag("all") {
-        return match (name, instance) {
-            (None, None) => Some(Request::Mend(Mend::All(file))),
-            _ => None,
-        };
-    }
-    Some(Request::Mend(Mend::One {
-        name,
-        file: file?,
-        instance: instance?,
-        earlier: words.get_str("EARLIER")?,
-        receive: words.get_str("RECEIVE")?,
-    }))
 }
 
 /// What the words of another command ask for.
@@ -293,10 +261,9 @@ fn other_of<'a>(command: &str, words: &ArgMatches<'a>) -> Option<Request<'a>> {
     match command {
         "export" => export_of(words),
         "compare" => compare_of(words),
-        "mend" => mend_of(words),
         "tidy" => Some(Request::Tidy(words.get_str("FILE"))),
         "explain" => Some(Request::Explain(words.get_str("FILE"))),
-        _ => pair_of(question_of(command)?, words),
+        _ => None,
     }
 }
 
@@ -311,6 +278,7 @@ fn request_of<'a>(
         "import" => import_of(alloc, words),
         "races" => races_of(alloc, words),
         "page" => page_of(alloc, words),
+        "why" | "witness" | "mend" => race_question(alloc, command, words),
         _ => other_of(command, words).ok_or(CommandLineError::Usage),
     }
 }

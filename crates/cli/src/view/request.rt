@@ -14,7 +14,7 @@ pub enum Question {
 #[derive(Clone, Copy, Debug, PartialEq, Eq)]
 pub struct Pair<'a> {
     pub question: Question,
-    /// Whether `--strict` is given, which goes with `why`.
+    /// Whether `--strict` is given, which goes with `why`. With `--from` it is about the tool's text.
     pub strict: bool,
     pub file: &'a str,
     pub instance: &'a str,
@@ -170,13 +170,44 @@ pub enum Mend<'a> {
     One {
         /// The name behind `--name`.
         name: Option<&'a str>,
+        /// Whether `--verbose` is given.
+        verbose: bool,
         file: &'a str,
         instance: &'a str,
         earlier: &'a str,
         receive: &'a str,
     },
-    /// All, with `--all`. Without a file, and where it is `-`, standard input is read.
-    All(Option<&'a str>),
+    /// All, with `--all`.
+    All {
+        /// The number behind `--limit`.
+        limit: Option<&'a str>,
+        /// Without it, and where it is `-`, standard input is read.
+        file: Option<&'a str>,
+    },
+}
+
+/// What is asked about the races of a chart. Where the chart is imported first, the import has the files, and the file
+/// here is the first of them, or `-`.
+#[derive(Clone, Copy, Debug, PartialEq, Eq)]
+pub enum RaceQuestion<'a> {
+    /// By `why` or `witness`.
+    Pair(Pair<'a>),
+    /// By `mend`.
+    Mend(Mend<'a>),
+}
+
+/// What is asked about the races of another tool's diagram.
+#[derive(Debug, Drop)]
+pub struct ToolQuestion<'a> {
+    pub asked: RaceQuestion<'a>,
+    pub import: Import<'a>,
+}
+
+/// What is asked about the races of a log.
+#[derive(Debug, Drop)]
+pub struct LogQuestion<'a> {
+    pub asked: RaceQuestion<'a>,
+    pub log: ImportLog<'a>,
 }
 
 /// What a command line asks for.
@@ -209,8 +240,14 @@ pub enum Request<'a> {
     Races(Races<'a>),
     /// `races --from log|shiviz` with the options of `races` and of `import`, and `[FILE..]`.
     LogRaces(LogRaces<'a>),
-    /// `mend [--name NAME] FILE INSTANCE EARLIER RECEIVE`, or `mend --all [FILE]`.
+    /// `mend [--name NAME] [--verbose] FILE INSTANCE EARLIER RECEIVE`, or `mend --all [--limit N] [FILE]`.
     Mend(Mend<'a>),
+    /// `why`, `witness` or `mend` with `--from TOOL` and the options of `import`, and `[FILE]` before the words of a
+    /// `race` line.
+    ToolQuestion(ToolQuestion<'a>),
+    /// `why`, `witness` or `mend` with `--from log|shiviz` and the options of `import`, and `[FILE..]` before the words
+    /// of a `race` line.
+    LogQuestion(LogQuestion<'a>),
     /// `tidy [FILE]`: without the file, and where it is `-`, standard input is read.
     Tidy(Option<&'a str>),
     /// `explain [FILE]`: without the file, and where it is `-`, standard input is read.

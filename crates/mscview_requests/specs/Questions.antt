@@ -1,0 +1,77 @@
+-- What `why`, `witness` and `mend` are asked of a chart that is imported first, and what an import leaves for them (this
+-- project's own).
+use Rattle.std.specs.Prelude.{◌≡◌, ◌⊎◌, ℕ, true, false, List, Option, None, Some, option_map, Ok, Err}
+use Rattle.cli.specs.declared.view.request.LogQuestion.{LogQuestion}
+use Rattle.cli.specs.declared.view.request.Mend as mend
+use Rattle.cli.specs.declared.view.request.Mend.TheVariants.{One, All}
+use Rattle.cli.specs.declared.view.request.Pair as pairs
+use Rattle.cli.specs.declared.view.request.RaceQuestion.{RaceQuestion}
+use Rattle.cli.specs.declared.view.request.RaceQuestion.TheVariants as asked
+use Rattle.cli.specs.declared.view.request.ToolQuestion.{ToolQuestion}
+use Rattle.cmd_base.specs.Answers.{Exit, refusal}
+use Rattle.cmd_import_diagram.specs.Importing as diagrams
+use Rattle.cmd_import_diagram.specs.declared.importing.Diagnostics as diagram_told
+use Rattle.cmd_import_diagram.specs.declared.importing.ImportWriteError.TheVariants.{Diagram}
+use Rattle.cmd_import_log.specs.Importing as logs
+use Rattle.cmd_import_log.specs.Options as log_options
+use Rattle.cmd_import_log.specs.Refusals.{one_end_text}
+use Rattle.cmd_import_log.specs.declared.answers.diagnostics.Diagnostics as log_told
+use Rattle.cmd_import_log.specs.declared.importing.LogWriteError.TheVariants.{Log}
+use Rattle.cmd_page.specs.Answers.Leaving.{memory, none}
+use Rattle.diagram_import.specs.Importing.{OptionsView}
+use Rattle.diagram_import.specs.declared.error.ImportError.{ImportError}
+use Rattle.cmd_import_log.specs.declared.error.LogImportError.{LogImportError}
+use Rattle.diagram_tool.specs.declared.Tool.{Tool}
+use Rattle.mscview_requests.specs.Wanted.{IsAsked, IsMend, IsLimit, IsReading, IsLog}
+use Rattle.mscview_requests.specs.declared.questions.ReadQuestion.{ReadQuestion}
+use Rattle.mscview_requests.specs.declared.questions.ReadQuestion.TheVariants as questions
+use Rattle.texts.specs.Outs.{Stored}
+
+-- what `why` or `witness` asks about two events
+abbrev pub IsPairQuestion : pairs.Pair → ReadQuestion → Type 0
+IsPairQuestion pair (questions.Pair question events) =
+    (question ≡ pair.question) × IsAsked pair.instance.now pair.earlier.now pair.receive.now events
+IsPairQuestion pair (questions.Mend wanted) = ⊥
+IsPairQuestion pair (questions.MendAll limit) = ⊥
+
+-- what `mend` asks, of one race or of all
+abbrev pub IsMendQuestion : mend.Mend → ReadQuestion → Type 0
+IsMendQuestion (One name verbose file instance earlier receive) (questions.Mend wanted) =
+    IsMend (option_map (λ word. word.now) name) verbose instance.now earlier.now receive.now wanted
+IsMendQuestion (One name verbose file instance earlier receive) (questions.Pair question events) = ⊥
+IsMendQuestion (One name verbose file instance earlier receive) (questions.MendAll limit) = ⊥
+IsMendQuestion (All limit file) (questions.Pair question events) = ⊥
+IsMendQuestion (All limit file) (questions.Mend wanted) = ⊥
+IsMendQuestion (All limit file) (questions.MendAll tries) = IsLimit (option_map (λ word. word.now) limit) tries
+
+-- what one of the three asks, by its words
+abbrev pub IsQuestion : RaceQuestion → ReadQuestion → Type 0
+IsQuestion (asked.Pair pair) = IsPairQuestion pair
+IsQuestion (asked.Mend wanted) = IsMendQuestion wanted
+
+-- what is asked, and how the diagram is read of which it is asked
+abbrev pub IsToolQuestion : ToolQuestion → ReadQuestion × (Option Tool × OptionsView) → Type 0
+IsToolQuestion wanted read = IsQuestion wanted.asked read.0 × IsReading wanted.import.reading read.1
+
+-- what is asked, and how the log is
+abbrev pub IsLogQuestion : LogQuestion → ReadQuestion × log_options.OptionsView → Type 0
+IsLogQuestion wanted read = IsQuestion wanted.asked read.0 × IsLog wanted.log read.1
+
+-- What an import leaves that writes into memory, where it has all the memory that it needs: the text that it writes, or
+-- none, with what it tells beside it. A diagram's:
+abbrev pub LeavesDiagram : Option Tool → List ℕ → OptionsView → Option (List ℕ) → Exit → Type 0
+LeavesDiagram tool bytes options (Some text) exit = (left : Stored) × (told : diagram_told.Diagnostics)
+    × diagrams.Imports memory none left (Ok told) tool bytes options × (text ≡ left.bytes) × (exit ≡ diagrams.imported_exit (Ok told))
+LeavesDiagram tool bytes options None exit = (error : ImportError)
+    × diagrams.Imports memory none none (Err (Diagram error)) tool bytes options × (exit ≡ diagrams.imported_exit (Err (Diagram error)))
+
+-- a log's, of files with these names where there are several. A log that has one end of each message shows no race, and is
+-- refused:
+abbrev pub LeavesLog : log_options.OptionsView → List (List ℕ) → List (List ℕ) → Option (List ℕ) → Exit → Type 0
+LeavesLog options texts files (Some text) exit = (left : Stored) × (told : log_told.Diagnostics)
+    × logs.Imports memory none left (Ok told) options texts × (told.is_one_ended ≡ false) × (text ≡ left.bytes)
+    × (exit ≡ logs.imported_exit files (Ok told))
+LeavesLog options texts files None exit =
+    ((error : LogImportError) × logs.Imports memory none none (Err (Log error)) options texts × (exit ≡ logs.imported_exit files (Err (Log error))))
+    ⊎ ((left : Stored) × (told : log_told.Diagnostics) × logs.Imports memory none left (Ok told) options texts
+    × (told.is_one_ended ≡ true) × (exit ≡ refusal one_end_text))

@@ -1,0 +1,167 @@
+//! What `why`, `witness` and `mend` are asked of a chart that is imported first: the import writes the chart's text
+//! into memory, and the command answers over that text.
+ghost use Rattle.std.specs.Prelude.{◌≡◌, ◌≤◌, length, map, All, IfOk};
+ghost use Rattle.cmd_base.specs.Refusals.{Tried};
+ghost use Rattle.cmd_import_log.specs.Answers.Diagnostics.{diagnostics_text};
+ghost use Rattle.cmd_import_log.specs.Options.{options_view as log_options_view};
+ghost use Rattle.diagram_import.specs.Importing.{options_view};
+ghost use Rattle.msc_text.specs.ChartText.{chart_text};
+ghost use Rattle.mscview_requests.specs.Questions.{IsPairQuestion, IsMendQuestion, IsQuestion};
+ghost use Rattle.mscview_requests.specs.Views.{DoesQuestion, DoesOverDiagram, DoesOverLog};
+ghost use Rattle.mscview_requests.specs.Words.Words.{Says};
+
+use crate::asking::{answer_pair, asked_by};
+use crate::mends::{limit_by, wanted_by};
+use chart::{Chart, Names};
+use cli::view::{Mend, Pair, Question, RaceQuestion};
+use cmd_base::pairs::Asked;
+use cmd_base::{Answer, ProgramError};
+use cmd_import_diagram::refused_drawing;
+use cmd_import_log::answers::{Diagnostics, write_diagnostics};
+use cmd_import_log::{LogImportError, refused_log, refused_one_end};
+use cmd_mend::{Wanted, mend, mend_all};
+use diagram_import::{ImportError, Options};
+use diagram_tool::Tool;
+use std::alloc::{AllocError, Global};
+use texts::{MemoryOut, Out};
+
+/// What is asked about the races of a chart, with its words read.
+#[derive(Drop)]
+pub(crate) enum ReadQuestion<'a> {
+    /// By `why` or `witness`.
+    Pair(Question, Asked<'a>),
+    /// By `mend`, of one race.
+    Mend(Wanted<'a>),
+    /// By `mend --all`, with how many race pairs are tried, if the words say that.
+    MendAll(Option<u64>),
+}
+
+/// What `why` or `witness` asks. G1: a number isn't one.
+fn pair_by<'a>(pair: &Pair<'a>) -> Result<ReadQuestion<'a>, ProgramError>
+    ensures { Says (IsPairQuestion pair.now) result }
+{
+    let asked = asked_by(pair.instance, pair.earlier, pair.receive)?;
+    Ok(ReadQuestion::Pair(pair.question, asked))
+}
+
+/// What `mend` asks. G1: a number isn't one.
+fn mend_by<'a>(mend: &Mend<'a>) -> Result<ReadQuestion<'a>, ProgramError>
+    ensures { Says (IsMendQuestion mend.now) result }
+{
+    match mend {
+        Mend::One {
+            name,
+            verbose,
+            file: _,
+            instance,
+            earlier,
+            receive,
+        } => {
+            let wanted = wanted_by(*name, *verbose, *instance, *earlier, *receive)?;
+            Ok(ReadQuestion::Mend(wanted))
+        }
+        Mend::All { limit, file: _ } => {
+            let limit = limit_by(*limit)?;
+            Ok(ReadQuestion::MendAll(limit))
+        }
+    }
+}
+
+/// What is asked. G1: a number isn't one.
+pub(crate) fn question_by<'a>(asked: &RaceQuestion<'a>) -> Result<ReadQuestion<'a>, ProgramError>
+    ensures { Says (IsQuestion asked.now) result }
+{
+    match asked {
+        RaceQuestion::Pair(pair) => pair_by(pair),
+        RaceQuestion::Mend(mend) => mend_by(mend),
+    }
+}
+
+/// Answers what is asked of the text of a chart.
+fn answer<W: Out, V: Out>(
+    alloc: Global,
+    question: &ReadQuestion<'_>,
+    text: &[u8],
+    out: &mut W,
+    err: &mut V,
+) -> u8
+    ensures { DoesQuestion W.sink out.old out.new V.sink err.old err.new question.now text.now result }
+{
+    match question {
+        ReadQuestion::Pair(question, asked) => answer_pair(alloc, *question, text, asked, out, err),
+        ReadQuestion::Mend(wanted) => mend(alloc, text, wanted, out, err),
+        ReadQuestion::MendAll(limit) => mend_all(alloc, text, *limit, out, err),
+    }
+}
+
+/// The text of a chart, in memory.
+fn text_of(alloc: Global, names: &Names, chart: &Chart) -> Result<Vec<u8>, AllocError>
+    requires { length names.now ≡ length chart.now }
+    ensures { IfOk result (λ text. text.items ≡ chart_text names.now chart.now) }
+{
+    let mut out = MemoryOut::new(alloc);
+    match msc_text::write(names, chart, &mut out) {
+        Ok(()) => Ok(out.into_bytes()),
+        Err(_) => Err(AllocError),
+    }
+}
+
+/// Answers what is asked of the chart that an import writes of another tool's text, behind what the import tells.
+pub(crate) fn answer_of_diagram<W: Out, V: Out>(
+    alloc: Global,
+    question: &ReadQuestion<'_>,
+    tool: Option<Tool>,
+    bytes: &[u8],
+    options: Options<'_>,
+    out: &mut W,
+    err: &mut V,
+) -> u8
+    ensures { DoesOverDiagram W.sink out.old out.new V.sink err.old err.new
+        (question.now, (tool, options_view options.entry)) bytes.now result }
+{
+    let drawing = match cmd_import_diagram::drawing_in(alloc, tool, bytes, options) {
+        Ok(drawing) => drawing,
+        Err(error) => return refused_drawing(&error, err),
+    };
+    let Ok(text) = text_of(alloc, &drawing.names, &drawing.chart) else {
+        return refused_drawing(&ImportError::Memory, err);
+    };
+    drawing.diagnostics.print_diagnostics(err);
+    answer(alloc, question, &text, out, err)
+}
+
+/// Tells what an import tells of a log's chart.
+fn print_log_diagnostics<V: Out>(files: &[&[u8]], told: &Diagnostics, err: &mut V)
+    requires { All (λ e. e.instance ≤ length told.now.names) told.now.invented.items }
+    ensures { Tried V.sink err.old err.new (diagnostics_text (map (λ file. file.now) files.now) told.now) }
+{
+    let _ = write_diagnostics(files, told, err);
+}
+
+/// Answers what is asked of the chart that an import writes of a log, behind what the import tells. F52: the log has
+/// one end of each message, so it shows no race.
+pub(crate) fn answer_of_log<W: Out, V: Out>(
+    alloc: Global,
+    question: &ReadQuestion<'_>,
+    options: cmd_import_log::Options<'_>,
+    texts: &[&[u8]],
+    files: &[&[u8]],
+    out: &mut W,
+    err: &mut V,
+) -> u8
+    ensures { DoesOverLog W.sink out.old out.new V.sink err.old err.new (map (λ file. file.now) files.now)
+        (question.now, log_options_view options.entry) (map (λ text. text.now) texts.now) result }
+{
+    let drawing = match cmd_import_log::drawing_in(alloc, options, texts) {
+        Ok(drawing) => drawing,
+        Err(error) => return refused_log(files, &error, err),
+    };
+    if drawing.diagnostics.is_one_ended {
+        return refused_one_end(err);
+    }
+    let Ok(text) = text_of(alloc, &drawing.diagnostics.names, &drawing.chart) else {
+        return refused_log(files, &LogImportError::Memory, err);
+    };
+    print_log_diagnostics(files, &drawing.diagnostics, err);
+    answer(alloc, question, &text, out, err)
+}
