@@ -1,7 +1,7 @@
 # shellcheck shell=bash
 # Read by ./mscrun and ./mscview, and by what ./install puts into PREFIX/bin. They set `usages` to the folder with the usage
 # texts and `version` to the file with the version, and define `at_once`, whether the program of a name answers at once. They
-# read spent_turns.sh too. They call `answer` with the program's name, a command that runs the program of a name with words,
+# read spent_turns.sh and words_behind.sh too. They call `answer` with the program's name, a command that runs the program of a name with words,
 # and the words of the command line.
 
 # Whether the words ask for help.
@@ -107,15 +107,27 @@ file_among() {
 # one. Behind --around there are two, and behind --witness three.
 is_no_file() {
   local word=$1 before=$2 earlier=$3 before_that=$4
-  local takes_value='^--(seed|turns|only|events|rows|around|witness|title|to|from|skip|join|name|pattern|hosts|peer|from-line|to-line)$'
+  local takes_value='^--(seed|turns|only|events|rows|around|witness|title|to|from|skip|join|name|pattern|hosts|peer|from-line|to-line|limit)$'
   [[ $word == -?* || $before =~ $takes_value || $earlier =~ ^--(around|witness)$ || $before_that == --witness ]]
 }
 
-# How many files the words of a command line name at most: two to compare, and of a log any number.
+# How many words of a command line are neither its command nor an option or a value of one.
+free_words() {
+  local before='' earlier='' before_that='' word many=0
+  for word in "${@:2}"; do
+    is_no_file "$word" "$before" "$earlier" "$before_that" || many=$((many + 1))
+    before_that=$earlier earlier=$before before=$word
+  done
+  echo "$many"
+}
+
+# How many files the words of a command line name at most: two to compare, and of a log any number. Those about a race have
+# its three words behind the files.
 most_files() {
   case ${1-} in
     compare) echo 2 ;;
     import | races | page) echo $# ;;
+    why | witness | mend) [[ " $* " == *' --all '* ]] && echo $# || echo $(($(free_words "$@") - 3)) ;;
     *) echo 1 ;;
   esac
 }
@@ -192,6 +204,9 @@ tell_unknown() {
       mapfile -t known < <(sed -n "s/^value $command $option //p" <<<"$parts" | tr ' ' '\n' | awk '!has[$0]++')
       if ((${#known[@]} > 0)) && [[ ${known[0]} != - && -n $value ]] && ! is_among "$value" "${known[@]}"; then
         echo "$option takes no $(quoted "$value"): it takes $(listed or "${known[@]}")"
+        # (a log becomes a chart first)
+        [[ ! "$name $option $value" =~ ^mscview\ --from\ (log|shiviz)$ ]] ||
+          echo "try: $(typed mscview) import --from $value FILE.. >run.msc; $(typed mscview) $command run.msc"
         return
       fi
       ((${#known[@]} == 0 || $# == 1)) || [[ $1 == *=* ]] || shift
@@ -293,7 +308,7 @@ tell_of_options() {
   fi
 }
 
-# Tells on a terminal which event, pair or name a refusal is about.
+# Tells on a terminal which event or pair a refusal is about.
 tell_missing() {
   local refusal=$1 name count
   case $refusal in
@@ -304,7 +319,6 @@ tell_missing() {
     'refused: F31 NoSuchEvent') echo 'the chart has no instance of this name' ;;
     'refused: F32 NotAPair '*) echo "event ${refusal##* } is a send, and a race ends in a receive" ;;
     'refused: F32 NotAPair') echo 'the first of the two events has to be the earlier one' ;;
-    'refused: F34 NoSuchName') echo 'each name has to be that of an instance, and is given once' ;;
   esac
 }
 
@@ -342,11 +356,11 @@ tell_notes() {
 }
 
 # Answers the words of a command line: the usage and the version where it asks for them, which takes no program. What the
-# program refuses as a command line has the usage behind it, and which word isn't known; what it refuses as a text has what to
+# program refuses as a command line has the usage behind it, and which word isn't known, or doesn't apply; what it refuses as a text has what to
 # try, and on a terminal a file that can't be read its name. There is also told what says why commands of a schedule did nothing,
 # and what instances on threads waited for.
 answer() {
-  local name=$1 program=$2 status said kept=''
+  local name=$1 program=$2 status said kept='' hint
   shift 2
   if asks_for_help "$@"; then
     usage_of "$name" "$([[ ${1-} == help ]] && echo "${2-}" || echo "${1-}")"
@@ -364,11 +378,15 @@ answer() {
   status=$?
   if [[ $status == 2 && $said == 'refused: G1 Usage' ]]; then
     usage_of "$name" "$1" >&2
-    tell_unknown "$name" "$@" >&2
+    hint=$(tell_unknown "$name" "$@")
+    [[ -n $hint ]] || hint=$(tell_misapplied "$name" "$@")
+    [[ -z $hint ]] || echo "$hint" >&2
   elif [[ $status == 2 && $said == 'refused: G2 File' && -t 2 ]]; then
     tell_unread "$@"
   elif [[ $status == 2 ]] && refuses_text "$said "; then
     tell_what_to_try "$name" "$program" "$said " "$@"
+  elif [[ $status == 2 && $name == mscview && $said == 'refused: F34 NoSuchName' ]]; then
+    tell_names "$program" "$@" >&2
   elif [[ $status == 2 && $name == mscview && -t 2 ]]; then
     tell_missing "$said" >&2
   elif [[ $status != 2 && $name == mscview && $said =~ ' of the schedule did nothing, ' && -t 2 ]]; then

@@ -121,8 +121,11 @@ run_kept() {
   return 2
 }
 
-# Whether a command of mscview reads standard input where no file is named.
-may_lack_file() { [[ $1 =~ ^(draw|page|export|import|mend|races|tidy|explain)$ ]]; }
+# Whether a command line of mscview reads standard input where no file is named.
+may_lack_file() {
+  [[ $1 =~ ^(draw|page|export|import|races|tidy|explain)$ ]] ||
+    [[ $1 =~ ^(why|witness|mend)$ && " ${*:2} " =~ ' --'(from|all)[\ =] ]]
+}
 
 # Passes on lines, with the file's own name in the place of each copy's before a colon.
 with_own_names() {
@@ -137,7 +140,7 @@ with_own_names() {
 # word that names a file is changed to the name of a copy of it, and so is standard input. The last lines on standard error
 # are rt's, and not the program's.
 run_tried() {
-  local name=$1 before='' earlier='' before_that='' word copy status files named='' kit_at digest
+  local name=$1 before='' earlier='' before_that='' word copy status files named=0 kit_at digest
   local -a words=() data=()
   local -A own_names=()
   shift
@@ -147,29 +150,29 @@ run_tried() {
   files=$(most_files "$@")
   for word; do
     copy=file${#words[@]}
-    # (the first word is a command)
-    if ((${#words[@]} == 0)) || is_no_file "$word" "$before" "$earlier" "$before_that"; then
+    # (the first word is a command, and the words of a race come behind the files)
+    if ((${#words[@]} == 0 || named >= files)) || is_no_file "$word" "$before" "$earlier" "$before_that"; then
       words+=("$word")
-    elif ((${#data[@]} < 2 * files)) && [[ $name == mscview && $word == - && $1 != compare ]]; then
-      cat >"$room/$copy"
-      data+=(--data "$copy=$room/$copy")
-      words+=("$copy")
-      named=1
-    elif ((${#data[@]} < 2 * files)) && [[ -r $word && ! -d $word ]] && cat -- "$word" >"$room/$copy"; then
-      data+=(--data "$copy=$room/$copy")
-      words+=("$copy")
-      own_names[$copy]=$word
-      named=1
     else
-      words+=("$word")
-      named=1
+      named=$((named + 1))
+      if [[ $name == mscview && $word == - && $1 != compare ]]; then
+        cat >"$room/$copy"
+        data+=(--data "$copy=$room/$copy")
+        words+=("$copy")
+      elif [[ -r $word && ! -d $word ]] && cat -- "$word" >"$room/$copy"; then
+        data+=(--data "$copy=$room/$copy")
+        words+=("$copy")
+        own_names[$copy]=$word
+      else
+        words+=("$word")
+      fi
     fi
     before_that=$earlier earlier=$before before=$word
   done
-  if [[ $name == mscview && -z $named ]] && may_lack_file "$1"; then
+  if [[ $name == mscview && $named == 0 ]] && may_lack_file "$@"; then
     cat >"$room/input"
     data+=(--data "input=$room/input")
-    words+=(input)
+    words=("${words[0]}" input "${words[@]:1}")
   fi
   kit_at=$(place_of_kit)
   digest=
