@@ -1,8 +1,8 @@
 # shellcheck shell=bash
 # Read by ./mscrun and ./mscview, and by what ./install puts into PREFIX/bin. They set `usages` to the folder with the usage
 # texts and `version` to the file with the version, and define `at_once`, whether the program of a name answers at once. They
-# read spent_turns.sh and words_behind.sh too. They call `answer` with the program's name, a command that runs the program of a name with words,
-# and the words of the command line.
+# read spent_turns.sh and words_behind.sh too. They call `answer` with the program's name, a command that runs the program of a
+# name with words, and the words of the command line.
 
 # Whether the words ask for help.
 asks_for_help() {
@@ -356,9 +356,9 @@ tell_notes() {
 }
 
 # Answers the words of a command line: the usage and the version where it asks for them, which takes no program. What the
-# program refuses as a command line has the usage behind it, and which word isn't known, or doesn't apply; what it refuses as a text has what to
-# try, and on a terminal a file that can't be read its name. There is also told what says why commands of a schedule did nothing,
-# and what instances on threads waited for.
+# program refuses as a command line has the usage behind it, and which word isn't known, or doesn't apply. What it refuses as a
+# text has what to try, and on a terminal a file that can't be read its name. There is also told what says why commands of a
+# schedule did nothing, and what instances on threads waited for.
 answer() {
   local name=$1 program=$2 status said kept='' hint
   shift 2

@@ -19,16 +19,20 @@ value_among() {
 }
 
 # Tells of a refused command line of mscview, whose words are all known, the first option that doesn't apply to what is read,
-# and to what it does. Luck isn't known of each log, so a log is refused with --luck too.
+# and to what it does. Luck isn't known of charts, and not of each log: so --luck is told there if no other option is.
 tell_misapplied() {
-  local name=$1 command=${2-} from word
+  local name=$1 command=${2-} from word of_luck=
   [[ $name == mscview && $command =~ ^(import|races|draw|page)$ ]] || return 0
   shift 2
   from=$(value_among --from "$@")
   for word; do
     case ${word%%=*}:$from in
       --:*) return ;;
-      --luck:*) echo '--luck applies to a schedule, and to --from log without captured messages or vector time' ;;
+      --luck:*)
+        of_luck='--luck applies to a schedule, and to --from log without captured messages or vector time'
+        [[ -n $from && $from != log ]] || continue
+        echo "$of_luck"
+        ;;
       --pattern:log) continue ;;
       --pattern:*) echo '--pattern applies to --from log' ;;
       --hosts:log | --peer:log | --from-line:log | --to-line:log) continue ;;
@@ -44,6 +48,7 @@ tell_misapplied() {
     esac
     return
   done
+  [[ -z $of_luck ]] || echo "$of_luck"
 }
 
 # The instances of a file, which is a schedule or a chart, one on each line; nothing where mscview doesn't answer at once.
