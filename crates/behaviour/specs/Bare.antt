@@ -1,4 +1,4 @@
--- What is left of acts and answers without the bodies of their messages and without reports (this project's profile).
+-- Acts and answers without the bodies of their messages and without reports (this project's profile).
 use Rattle.std.specs.Prelude.{[]}
 use Rattle.behaviour.specs.declared.act.Act.{Act}
 use Rattle.behaviour.specs.declared.act.Act.TheVariants as act
@@ -19,7 +19,7 @@ bare_act act.Open = Open
 bare_act act.Shut = Shut
 bare_act act.Stop = Stop
 
--- the act of this kind, partner and message's name whose message has no bytes in its body
+-- the act with this kind, partner and message's name, and with no bytes in its message's body
 abbrev pub with_empty_body : BareAct → Act
 with_empty_body (Send to name) = act.Send to (record { name = name; body = [] })
 with_empty_body (Receive from) = act.Receive from
@@ -29,7 +29,7 @@ with_empty_body Open = act.Open
 with_empty_body Shut = act.Shut
 with_empty_body Stop = act.Stop
 
--- an answer by its kind and its event or refusal; of a message that came, its sender too
+-- an answer by its kind and its event or refusal; for a received message, also by its sender
 abbrev pub bare_answer : Answer → BareAnswer
 bare_answer answer.Start = Start
 bare_answer (answer.Sent event) = Sent event

@@ -10,13 +10,13 @@ use Rattle.behaviour.specs.declared.bare_answer.BareAnswer.{BareAnswer}
 use Rattle.behaviour.specs.declared.bare_answer.BareAnswer.TheVariants.{Start, Unsent, Nothing, Unreceived}
 use Rattle.behaviour.specs.Bare.{with_empty_body, bare_answer}
 
--- its acts, and at which of them it is, from 0
+-- its acts, and the place of the present one, from 0
 pub record ScriptView : Type 0 where
   pub acts : List BareAct
   pub place : ℕ
 
--- At which of so many acts a script is after this answer: at the same one after `Start`, where its lane was full and
--- where nothing waited; past the last one where memory was refused; and else at the next one.
+-- The place of a script with `many` acts after this answer. It stays the same after `Start`, and if the lane was full
+-- or nothing waited. It is past the last act if memory was refused, and otherwise the next one.
 abbrev pub script_next : ℕ → ℕ → BareAnswer → ℕ
 script_next many place Start = place
 script_next many place Nothing = place
@@ -29,6 +29,6 @@ script_next many place _ = min many (place + 1)
 abbrev pub script_after : ScriptView → Answer → ScriptView
 script_after script last = record script { place = script_next (length script.acts) script.place (bare_answer last) }
 
--- the act that it is at, with an empty body, and past the last one that it stops
+-- the act at the script's place, with an empty body; past the last act, it stops
 abbrev pub script_act : ScriptView → Act
 script_act script = with_empty_body (slice_index_or script.acts script.place Stop)

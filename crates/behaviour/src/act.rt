@@ -5,20 +5,20 @@ ghost use Rattle.behaviour.specs.Bare.{bare_act};
 use crate::bare_act::BareAct;
 use chart::{InstanceNo, Message};
 
-/// One act of an instance: a call of its mailbox, or the last one, that it stops.
+/// One act of an instance: a call of its mailbox, or its stop, the last act.
 #[derive(Debug, Drop)]
 pub enum Act {
     /// Send the message to an instance.
     Send(InstanceNo, Message),
     /// Receive the first message that waits on the lane from an instance.
     Receive(InstanceNo),
-    /// Receive the first message that is found on the lanes from all instances.
+    /// Receive the first message that is found on the lanes from the other instances.
     Any,
     /// Close the lane to an instance.
     Close(InstanceNo),
     /// Open a coregion.
     Open,
-    /// Close the coregion that is open.
+    /// Close the open coregion.
     Shut,
     /// Do nothing more.
     Stop,

@@ -1,4 +1,4 @@
-//! What a behaviour is told.
+//! The answers that a behaviour gets.
 ghost use Rattle.std.specs.Prelude.{◌≡◌};
 ghost use Rattle.behaviour.specs.Bare.{bare_answer};
 
@@ -6,16 +6,16 @@ use crate::bare_answer::BareAnswer;
 use board::{Arrival, CloseError, RegionError, SendError, TakeError};
 use chart::{EventNo, Message};
 
-/// What came of a behaviour's last act.
+/// The answer to a behaviour's last act.
 #[derive(Debug, Drop)]
 pub enum Answer {
     /// There was no act before.
     Start,
-    /// The message was sent; the send is this event, the last of the sender's line.
+    /// The message was sent. The send is this event, the last of the sender's line.
     Sent(EventNo),
     /// The message wasn't sent, and comes back.
     Unsent(Message, SendError),
-    /// A message came, with the races of its receive.
+    /// A message was received, with the races of its receive.
     Got(Arrival),
     /// No message waits, and one may still come.
     Nothing,
@@ -27,14 +27,14 @@ pub enum Answer {
     NowClosed,
     /// The lane wasn't closed by this act.
     Unclosed(CloseError),
-    /// The coregion begins, or ended.
+    /// The coregion was opened, or closed.
     Marked,
-    /// No coregion begins, and none ended.
+    /// No coregion was opened, and none was closed.
     Unmarked(RegionError),
 }
 
 impl Answer {
-    /// The answer without its message and its report: of a message that came are left its sender and its receive.
+    /// The answer without its message and its report. Of a received message, only the sender and the receive remain.
     pub fn bare(&self) -> BareAnswer
         ensures { result ≡ bare_answer self.now }
     {

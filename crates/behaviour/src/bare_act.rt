@@ -9,31 +9,31 @@ use std::alloc::Global;
 /// An [`Act`] by its kind, its partner and its message's name.
 #[derive(Clone, Copy, Debug, PartialEq, Eq)]
 pub enum BareAct {
-    /// Send a message of this name to an instance.
+    /// Send a message with this name to an instance.
     Send(InstanceNo, Name),
     /// Receive the first message that waits on the lane from an instance.
     Receive(InstanceNo),
-    /// Receive the first message that is found on the lanes from all instances.
+    /// Receive the first message that is found on the lanes from the other instances.
     Any,
     /// Close the lane to an instance.
     Close(InstanceNo),
     /// Open a coregion.
     Open,
-    /// Close the coregion that is open.
+    /// Close the open coregion.
     Shut,
     /// Do nothing more.
     Stop,
 }
 
 impl BareAct {
-    /// Whether it is this one.
+    /// Whether the two acts are equal.
     pub fn is(&self, other: &BareAct) -> bool
         ensures { IsTrue result ↔ (self.now ≡ other.now) }
     {
         self == other
     }
 
-    /// The act, whose message has an empty body. It takes no memory.
+    /// The act with an empty body in its message. The call takes no memory.
     pub fn with_empty_body(self, alloc: Global) -> Act
         ensures { result ≡ with_empty_body self }
     {

@@ -13,7 +13,7 @@ pub enum BareAnswer {
     Sent(EventNo),
     /// The message wasn't sent.
     Unsent(SendError),
-    /// A message of this instance came; its receive is this event.
+    /// A message from this instance was received, by this event.
     Got(InstanceNo, EventNo),
     /// No message waits, and one may still come.
     Nothing,
@@ -25,14 +25,14 @@ pub enum BareAnswer {
     NowClosed,
     /// The lane wasn't closed by this act.
     Unclosed(CloseError),
-    /// The coregion begins, or ended.
+    /// The coregion was opened, or closed.
     Marked,
-    /// No coregion begins, and none ended.
+    /// No coregion was opened, and none was closed.
     Unmarked(RegionError),
 }
 
 impl BareAnswer {
-    /// Whether it is this one.
+    /// Whether the two answers are equal.
     pub fn is(&self, other: &BareAnswer) -> bool
         ensures { IsTrue result ↔ (self.now ≡ other.now) }
     {

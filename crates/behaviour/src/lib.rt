@@ -1,10 +1,10 @@
 //! Behaviours: what an instance does next, by the answer to what it did last.
 //!
-//! A [`Behaviour`] is asked for an [`Act`] and told the [`Answer`] to its last one; whoever drives it hands the act
-//! to the instance's mailbox. Its ghost members say what it does: for a state and an answer the act and the new
-//! state. A [`Script`] is a list of acts whose messages have no bodies. [`BareAct`] and [`BareAnswer`] are what a
-//! record of a run keeps: all but the messages' bodies and the reports. `specs/Bare.antt` says what they keep,
-//! `Scripts` what a script does.
+//! A [`Behaviour`] is asked for an [`Act`], and gets the [`Answer`] to its last one. Its driver passes the act to the
+//! instance's mailbox. Its ghost members define what it does: the act and the new state, for a state and an answer. A
+//! [`Script`] is a list of acts whose messages have no bodies. The record of a run keeps [`BareAct`] and
+//! [`BareAnswer`], which are everything except the messages' bodies and the reports. `specs/Bare.antt` defines these,
+//! and `Scripts` what a script does.
 #![tactic(auto)]
 
 mod act;

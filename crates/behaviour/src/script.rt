@@ -10,10 +10,10 @@ use crate::behaviour::Behaviour;
 use board::{SendError, TakeError};
 use std::marker::Model;
 
-/// A behaviour that does these acts in their order, whose messages have empty bodies, and then stops.
+/// A behaviour that does these acts in their order, and then stops. Their messages have empty bodies.
 ///
-/// It does an act again where its lane was full (F11) or nothing waited, stops where memory was refused (F6), and goes
-/// on to the next act after every other answer. A contract sees its acts and at which of them it is, from 0.
+/// It repeats an act if its lane was full (F11) or nothing waited. It stops if memory was refused (F6), and goes on to
+/// the next act after every other answer. A contract sees its acts, and the place of the present one, from 0.
 #[derive(Debug, Drop)]
 pub struct Script {
     acts: Vec<BareAct>,
@@ -31,9 +31,9 @@ impl Model for Script {
     ghost invariant = { λ script. script.place ≤ length script.acts.items };
 }
 
-/// At which of so many acts a script is after this answer to the one at a place, from 0: at the same one after
-/// [`BareAnswer::Start`], where its lane was full and where nothing waited; past the last one where memory was refused;
-/// and else at the next one.
+/// The place of a script with `acts` acts after the answer `last` to the act at `place`, from 0. It stays the same
+/// after [`BareAnswer::Start`], and if the lane was full or nothing waited. It is past the last act if memory was
+/// refused, and otherwise the next place.
 pub fn next_place(acts: usize, place: usize, last: BareAnswer) -> usize
     ensures { result ≡ script_next acts place last }
 {
@@ -48,21 +48,21 @@ pub fn next_place(acts: usize, place: usize, last: BareAnswer) -> usize
 }
 
 impl Script {
-    /// A script that is at the first of these acts. It takes no memory.
+    /// A script at the first of these acts. The call takes no memory.
     pub fn new(acts: Vec<BareAct>) -> Script
         ensures { result ≡ record { acts = acts.items; place = 0 } }
     {
         Script { acts, place: 0 }
     }
 
-    /// At which act it is after this answer.
+    /// The place of the script after this answer.
     fn next_place(&self, last: BareAnswer) -> usize
         ensures { result ≡ script_next (length self.now.acts) self.now.place last }
     {
         next_place(self.acts.len(), self.place, last)
     }
 
-    /// The act at which it is, and past the last one that it stops.
+    /// The act at the script's place; past the last act, it stops.
     fn act(&self) -> Act
         ensures { result ≡ script_act self.now }
     {

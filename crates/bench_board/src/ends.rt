@@ -1,15 +1,15 @@
-//! What an instance passes messages by in a round: a post of a board, or rings by hand.
+//! The end through which an instance passes messages in a round: a post of a board, or rings by hand.
 use crate::rings::{Instance, Message as HandMessage, make_instances};
 use board::{Board, Post, SendError, Taken, TakenMany};
 use chart::{InstanceNo, Message, Name, Report};
 use std::alloc::Global;
 
-/// A message could not be made, or not be passed. (A result with `anyhow`'s error has some 300 bytes, which would be
+/// A message could not be made or not be passed. (A result with an error of `anyhow` has some 300 bytes, which would be
 /// timed.)
 #[derive(Clone, Copy)]
 pub struct Stopped;
 
-/// What reports list: how many events, and the sum of their ranges' first numbers.
+/// The contents of reports: how many events they list, and the sum of the first numbers of their ranges.
 #[derive(Clone, Copy)]
 pub struct Seen {
     pub listed: u64,
@@ -17,7 +17,7 @@ pub struct Seen {
 }
 
 impl Seen {
-    /// A report lists a range of so many events more, the first of which has this number.
+    /// Adds a range of a report, with the number of its first event and the number of its events.
     #[inline(always)]
     fn add(&mut self, first: u32, count: u64) {
         self.listed = self.listed.saturating_add(count);
@@ -25,15 +25,15 @@ impl Seen {
     }
 }
 
-/// Instances are named by their places, from 0. All messages have one name.
+/// An instance's end. Instances are named by their places, from 0. All messages have one name.
 pub trait End {
-    /// Sends a message with this body. Answers whether the lane had a slot.
+    /// Sends a message with this body. It returns whether the lane had a slot.
     fn send(&mut self, to: usize, body: Vec<u8>) -> Result<bool, Stopped>;
 
-    /// Receives a message, and looks through its report. Answers whether one waited.
+    /// Receives a message, and adds its report to `seen`. It returns whether a message waited.
     fn receive(&mut self, from: usize, seen: &mut Seen) -> Result<bool, Stopped>;
 
-    /// Sends so many messages, with bodies of so many bytes, by one call where there is one for it.
+    /// Sends this number of messages, with bodies of `body` bytes, by one call if there is such a call.
     fn send_batch(
         &mut self,
         alloc: Global,
@@ -42,7 +42,7 @@ pub trait End {
         many: usize,
     ) -> Result<(), Stopped>;
 
-    /// Receives so many messages, by one call where there is one for it, and looks through their reports.
+    /// Receives this number of messages, by one call if there is such a call, and adds their reports to `seen`.
     fn receive_batch(&mut self, from: usize, many: usize, seen: &mut Seen) -> Result<(), Stopped>;
 }
 
@@ -53,7 +53,7 @@ pub struct PostEnd<'a> {
     name: Name,
 }
 
-/// So many messages, with bodies of so many bytes.
+/// This number of messages, with bodies of `body` bytes.
 fn messages_of(
     alloc: Global,
     name: Name,
@@ -72,7 +72,7 @@ fn messages_of(
     Ok(messages)
 }
 
-/// A message with a body of so many bytes.
+/// A message with a body of this number of bytes.
 fn message_of(alloc: Global, name: Name, body: usize) -> Result<Message, Stopped> {
     let Ok(body) = body_of(alloc, body) else {
         return Err(Stopped);
@@ -83,7 +83,7 @@ fn message_of(alloc: Global, name: Name, body: usize) -> Result<Message, Stopped
     }
 }
 
-/// A body of so many bytes.
+/// A body of this number of bytes.
 pub fn body_of(alloc: Global, bytes: usize) -> Result<Vec<u8>, Stopped> {
     match vec![in alloc; 0; bytes] {
         Ok(body) => Ok(body),
@@ -91,7 +91,7 @@ pub fn body_of(alloc: Global, bytes: usize) -> Result<Vec<u8>, Stopped> {
     }
 }
 
-/// Looks through a report.
+/// Adds a report to `seen`.
 #[inline(always)]
 fn see(report: &Report, seen: &mut Seen) {
     for range in report.earlier().as_slice() {
@@ -163,7 +163,7 @@ impl<'a> End for PostEnd<'a> {
     }
 }
 
-/// The posts of a board, in order of their instances.
+/// The posts of a board, in the order of their instances.
 pub fn post_ends(alloc: Global, board: &mut Board) -> anyhow::Result<Vec<PostEnd<'_>>> {
     let name = Name::new(b"m")?;
     let mut ends = Vec::new(alloc);
@@ -173,7 +173,7 @@ pub fn post_ends(alloc: Global, board: &mut Board) -> anyhow::Result<Vec<PostEnd
     Ok(ends)
 }
 
-/// An instance over rings.
+/// An instance with rings.
 #[derive(Drop)]
 pub struct HandEnd {
     instance: Instance,
@@ -232,7 +232,7 @@ impl End for HandEnd {
     }
 }
 
-/// So many instances over rings, in their order.
+/// This number of instances with rings, in their order.
 pub fn hand_ends(alloc: Global, instances: usize, capacity: usize) -> anyhow::Result<Vec<HandEnd>> {
     let mut name = [0; 32];
     name[0] = b'm';

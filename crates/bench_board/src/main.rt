@@ -1,6 +1,6 @@
-//! What a message costs over a board's lanes, beside the same by hand over the kit's rings. With the word `round` and
-//! eight words more it tells the times of single rounds over a board or over rings; without words only which messages
-//! would pass, and what their reports list.
+//! Measures what a message costs over a board's lanes, and the same by hand over the kit's rings. With the word `round`
+//! and eight more words it prints the times of single rounds over a board or over rings. Without words it only prints
+//! which messages would pass, and what their reports list.
 #![tactic(auto)]
 
 mod ends;
@@ -17,7 +17,7 @@ use std::rt::Env;
 use std::thread::Threads;
 use std::time::Clock;
 
-/// Rounds of 4,000 messages by turns: their traffic, instances and slots.
+/// Rounds of 4,000 messages on one thread: their traffic, instances and slots.
 const ROUNDS: [(Traffic, usize, usize); 5] = [
     (Traffic::Burst, 32, 8),
     (Traffic::Batch, 2, 40),
@@ -26,7 +26,8 @@ const ROUNDS: [(Traffic, usize, usize); 5] = [
     (Traffic::AllToAll, 4, 8),
 ];
 
-/// Passes a round by turns, and tells how many messages came and what their reports list, which the traffic decides.
+/// Passes a round on one thread. It prints how many messages came and what their reports list, which only depends on
+/// the traffic.
 fn print_report<R: Threads + Sync + Clock + AllocGlobal + Print>(
     rt: &R,
     peer: Peer,
@@ -44,7 +45,7 @@ fn print_report<R: Threads + Sync + Clock + AllocGlobal + Print>(
     Ok(())
 }
 
-/// The same of each of the rounds.
+/// The same for each of the rounds.
 fn print_reports<R: Threads + Sync + Clock + AllocGlobal + Print>(
     rt: &R,
     peer: Peer,
@@ -63,12 +64,12 @@ fn print_reports<R: Threads + Sync + Clock + AllocGlobal + Print>(
     Ok(())
 }
 
-/// What the words after the program's name ask for.
+/// The request in the words after the program's name.
 #[derive(Clone, Copy)]
 enum Asked {
-    /// What reports list.
+    /// To print what reports list.
     Reports,
-    /// So many rounds of a plan.
+    /// To run this number of rounds of a plan.
     Rounds {
         peer: Peer,
         plan: Plan,
@@ -111,7 +112,7 @@ fn numbers_in(words: &[String]) -> anyhow::Result<[usize; 5]> {
     Ok(numbers)
 }
 
-/// What the words of a round ask for: PEER TRAFFIC threads|turns INSTANCES SLOTS BODY MESSAGES ROUNDS.
+/// The request for rounds in these words: `PEER TRAFFIC threads|turns INSTANCES SLOTS BODY MESSAGES ROUNDS`.
 fn rounds_in(words: &[String]) -> anyhow::Result<Asked> {
     let [peer, traffic, how, numbers @ ..] = words else {
         anyhow::bail!("a round has eight words");
@@ -134,7 +135,7 @@ fn rounds_in(words: &[String]) -> anyhow::Result<Asked> {
     Ok(Asked::Rounds { peer, plan, rounds })
 }
 
-/// What is asked for.
+/// The request in the program's words.
 fn read_words<R: Env + AllocGlobal>(rt: &R) -> anyhow::Result<Asked> {
     let words: Vec<String> = env::args(rt)?.collect(rt.alloc())?;
     match words.as_slice() {
@@ -143,7 +144,7 @@ fn read_words<R: Env + AllocGlobal>(rt: &R) -> anyhow::Result<Asked> {
     }
 }
 
-/// Runs so many rounds, and tells of each the nanoseconds, how many messages came, and what their reports list.
+/// Runs this number of rounds. For each it prints the nanoseconds, how many messages came, and what their reports list.
 fn print_rounds<R: Threads + Sync + Clock + AllocGlobal + Print>(
     rt: &R,
     peer: Peer,

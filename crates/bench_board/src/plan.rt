@@ -1,23 +1,24 @@
-//! What a round passes: its traffic, over what, how many messages, and what came of it.
+//! The plan of a round: its traffic, what it is passed over, the number of messages, and the outcome.
 use crate::ends::Seen;
 use std::fmt;
 
-/// Which messages go in a round.
+/// The messages of a round.
 #[derive(Clone, Copy, PartialEq, Eq)]
 pub enum Traffic {
-    /// The first instance sends as many as the lane has slots to the second, and then they are received. On one thread.
+    /// The first instance sends the second one as many messages as the lane has slots, and then they are received. Both
+    /// are on one thread.
     Burst,
-    /// The same, by one call that sends and one that receives.
+    /// The same, with one call that sends and one that receives.
     Batch,
     /// The first instance sends to the second.
     OneWay,
-    /// The first two instances answer each other's messages.
+    /// The first two instances reply to each other's messages.
     PingPong,
     /// Each instance sends to each other one.
     AllToAll,
 }
 
-/// What a round passes messages over.
+/// What a round passes its messages over.
 #[derive(Clone, Copy)]
 pub enum Peer {
     Board,
@@ -49,7 +50,7 @@ impl fmt::Display for Peer {
 #[derive(Clone, Copy)]
 pub struct Plan {
     pub traffic: Traffic,
-    /// Each instance on a thread of its own, or all of them on one, a step of each in its turn.
+    /// Whether each instance has a thread of its own. Otherwise all of them are on one thread, and make a step in turn.
     pub on_threads: bool,
     pub instances: usize,
     pub capacity: usize,
@@ -57,7 +58,7 @@ pub struct Plan {
     pub messages: usize,
 }
 
-/// What came of a round.
+/// The outcome of a round.
 #[derive(Clone, Copy)]
 pub struct Outcome {
     pub nanoseconds: u64,
@@ -66,7 +67,7 @@ pub struct Outcome {
 }
 
 impl Plan {
-    /// How many messages go from one instance to another one.
+    /// The number of messages from one instance to another.
     pub fn share(&self, from: usize, to: usize) -> usize {
         if from == to {
             return 0;

@@ -1,9 +1,8 @@
-//! What a board does for a message, as one would write it by hand over the kit's rings: the peer in Rattle that a
-//! board's times are compared with.
+//! What a board does for a message, written by hand over the kit's rings: the peer in Rattle with which a board's times
+//! are compared.
 //!
-//! Each instance records its own line: the events, what it knows of the others (its clock, an array of numbers),
-//! and a report for each receive, by ranges of neighbouring events. The peer in C, `bench/peers/ring.h`, does the
-//! same.
+//! Each instance records its own line: the events, and a report for each receive, in ranges of neighbouring events. Its
+//! clock, an array of numbers, is what it knows of the others. The peer in C, `bench/peers/ring.h`, does the same.
 use rtrb::{Consumer, Producer, RingBuffer};
 use std::alloc::{AllocError, AllocFailed, Global};
 
@@ -13,14 +12,14 @@ const MAX_INSTANCES: usize = 32;
 /// The most events on a line.
 const MAX_EVENTS: usize = 4096;
 
-/// A message: its name, and its body.
+/// A message: its name and its body.
 #[derive(Drop)]
 pub struct Message {
     pub name: [u8; 32],
     pub body: Vec<u8>,
 }
 
-/// What a slot of a ring has.
+/// The content of a slot of a ring.
 #[derive(Drop)]
 struct Parcel {
     message: Message,
@@ -38,20 +37,20 @@ enum Kind {
 struct Event {
     kind: Kind,
     partner: u8,
-    /// Of a receive, how many events are ahead of the neighbouring receives from its sender, so that a report passes
-    /// all of them in one step.
+    /// For a receive: how many events precede its run of neighbouring receives from its sender. So a report can pass
+    /// over the whole run in one step.
     run_start: u32,
     name: [u8; 32],
 }
 
-/// So many neighbouring events of a line, the first of which has this number, from 1.
+/// Neighbouring events of a line: the number of the first one, from 1, and how many there are.
 #[derive(Clone, Copy)]
 pub struct Range {
     pub first: u32,
     pub count: u32,
 }
 
-/// The races of a receive, the first of the line first.
+/// The races of a receive, in the order of the line.
 #[derive(Drop)]
 pub struct Report {
     pub receive: u32,
@@ -78,7 +77,7 @@ impl<T: Drop> From<AllocFailed<T>> for Refusal {
     }
 }
 
-/// An instance with its ends of rings, by the other instance's place. There is no ring to itself.
+/// An instance with its ends of rings, at the places of the other instances. It has no ring to itself.
 #[derive(Drop)]
 pub struct Instance {
     alloc: Global,
@@ -91,7 +90,7 @@ pub struct Instance {
     incoming: Vec<Option<Consumer<Parcel>>>,
 }
 
-/// Takes the greater of each two entries.
+/// Takes the greater one of each pair of entries.
 fn merge(clock: &mut [u32; MAX_INSTANCES], other: &[u32; MAX_INSTANCES], instances: usize) {
     for (entry, other) in clock.iter_mut().zip(other.iter()).take(instances) {
         *entry = (*entry).max(*other);
@@ -104,7 +103,7 @@ impl Event {
     }
 }
 
-/// How many events are ahead of the neighbouring receives from this sender that a next receive would end.
+/// How many events precede the run of receives from this sender that the next receive would end.
 fn next_run_start(events: &[Event], count: u32, from: u8) -> u32 {
     match events.last() {
         Some(last) if last.is_receive_from(from) => last.run_start,
@@ -112,7 +111,7 @@ fn next_run_start(events: &[Event], count: u32, from: u8) -> u32 {
     }
 }
 
-/// Adds a range ahead of all others of a report that is made backwards.
+/// Adds a range before all others of a report, which is made backwards.
 fn add_range(ranges: &mut Vec<Range>, first: u32, last: u32) -> Result<(), AllocError> {
     let count = last.saturating_sub(first).saturating_add(1);
     if let Some(next) = ranges.last_mut() {
@@ -126,8 +125,8 @@ fn add_range(ranges: &mut Vec<Range>, first: u32, last: u32) -> Result<(), Alloc
     Ok(())
 }
 
-/// The races of a receive that comes next, of a message whose send knows so many of these events. It goes back over the
-/// later ones, a run of receives from one sender at a step.
+/// The races of the next receive, whose message's send knows the first `known` of these events. It goes back over the
+/// later events, and over a run of receives from one sender in one step.
 fn find_races(
     alloc: Global,
     events: &[Event],
@@ -158,7 +157,7 @@ fn find_races(
 }
 
 impl Instance {
-    /// Sends a message to another instance. It comes back where the ring is full.
+    /// Sends a message to another instance. The message comes back if the ring is full.
     #[inline(always)]
     pub fn send(&mut self, to: usize, message: Message) -> Result<Option<Message>, Refusal> {
         let Some(Some(producer)) = self.outgoing.get_mut(to) else {
@@ -186,7 +185,7 @@ impl Instance {
         Ok(None)
     }
 
-    /// Receives the first message that waits from another instance, if one does.
+    /// Receives the first message that waits from another instance, if there is one.
     #[inline(always)]
     pub fn receive(&mut self, from: usize) -> Result<Option<Message>, Refusal> {
         let Some(Some(consumer)) = self.incoming.get_mut(from) else {
@@ -242,7 +241,7 @@ fn alone(alloc: Global, own: usize, instances: usize) -> Instance {
     }
 }
 
-/// The two ends of a ring from one instance to another. There is none to itself.
+/// The two ends of a ring from one instance to another. An instance has no ring to itself.
 fn ends_of_ring(
     alloc: Global,
     from: usize,
@@ -274,7 +273,7 @@ fn connect(
     Ok(())
 }
 
-/// So many instances, with a ring for each two of them, each way.
+/// This number of instances, with a ring each way between any two of them.
 pub fn make_instances(
     alloc: Global,
     instances: usize,

@@ -9,7 +9,7 @@ use std::thread;
 use std::thread::Threads;
 use std::time::{Clock, Instant};
 
-/// What goes between an instance and another one, and what went.
+/// The messages between an instance and another one: how many are to pass, and how many have passed.
 #[derive(Clone, Copy)]
 struct Passed {
     to_send: usize,
@@ -18,13 +18,13 @@ struct Passed {
     got: usize,
 }
 
-/// An instance, and what it has passed.
+/// An instance, and the messages that it has passed.
 #[derive(Drop)]
 struct Player<E> {
     end: E,
     alloc: Global,
     body: usize,
-    /// It sends only as answers: the first instance when it has the other's last one.
+    /// Whether it only sends replies. The first instance sends once it has the reply to its last message.
     answers: bool,
     is_first: bool,
     lanes: Vec<Passed>,
@@ -32,7 +32,7 @@ struct Player<E> {
     seen: Seen,
 }
 
-/// What goes between an instance and each other one.
+/// The messages between an instance and each other one.
 fn lanes_of(alloc: Global, plan: &Plan, own: usize) -> Result<Vec<Passed>, AllocError> {
     let mut lanes = Vec::new(alloc);
     for other in 0..plan.instances {
@@ -46,7 +46,7 @@ fn lanes_of(alloc: Global, plan: &Plan, own: usize) -> Result<Vec<Passed>, Alloc
     Ok(lanes)
 }
 
-/// An instance, before it has passed anything.
+/// An instance that hasn't passed any messages yet.
 fn new_player<E>(alloc: Global, plan: &Plan, own: usize, end: E, lanes: Vec<Passed>) -> Player<E> {
     let mut left = 0usize;
     for lane in &lanes {
@@ -83,7 +83,7 @@ fn make_players<E: Drop>(
     Ok(players)
 }
 
-/// Sends one message, whose body is made for it.
+/// Sends one message, and makes its body first.
 #[inline(always)]
 fn send_one<E: End>(
     end: &mut E,
@@ -95,7 +95,7 @@ fn send_one<E: End>(
 }
 
 impl<E: End> Player<E> {
-    /// Tries each lane once. Answers how many messages it passed.
+    /// Tries each lane once. It returns how many messages were passed.
     fn step(&mut self) -> Result<usize, Stopped> {
         let before = self.left;
         for (other, lane) in self.lanes.iter_mut().enumerate() {
@@ -120,7 +120,7 @@ impl<E: End> Player<E> {
         Ok(before.saturating_sub(self.left))
     }
 
-    /// Steps until all is passed.
+    /// Makes steps until all messages have passed.
     fn pass_all(&mut self) -> Result<(), Stopped> {
         for _ in 0..MOST_STEPS {
             if self.left == 0 {
@@ -134,10 +134,10 @@ impl<E: End> Player<E> {
     }
 }
 
-/// How many steps there are at most, and how often a thread looks whether the others are there.
+/// The most steps, and the most times that a thread checks whether the others are there.
 const MOST_STEPS: u64 = 1 << 40;
 
-/// Runs all instances on this thread, a step of each in its turn.
+/// Runs all instances on this thread. Each of them makes a step in turn.
 fn pass_by_turns<E: End>(players: &mut [Player<E>]) -> Result<(), Stopped> {
     for _ in 0..MOST_STEPS {
         let mut passed = 0usize;
@@ -188,7 +188,7 @@ fn pass_batches<E: End>(
     Ok(())
 }
 
-/// The outcome of instances that have passed all, in so many nanoseconds.
+/// The outcome of instances that have passed all messages in this number of nanoseconds.
 fn print_outcome<E>(
     plan: &Plan,
     players: &Vec<Player<E>>,
@@ -218,7 +218,7 @@ fn print_outcome<E>(
     })
 }
 
-/// The first two of these.
+/// The first two players.
 fn first_two<E>(players: &mut [Player<E>]) -> Result<(&mut Player<E>, &mut Player<E>), Stopped> {
     match players {
         [first, second, ..] => Ok((first, second)),
@@ -241,7 +241,7 @@ fn pass_here<E: End>(plan: &Plan, players: &mut [Player<E>]) -> Result<(), Stopp
     }
 }
 
-/// How many nanoseconds that took.
+/// The nanoseconds that it takes to pass all messages on this thread.
 fn time_here<R: Clock, E: End>(
     rt: &R,
     plan: &Plan,
@@ -256,7 +256,7 @@ fn time_here<R: Clock, E: End>(
     Ok(u64::try_from(took.as_nanos())?)
 }
 
-/// Passes all messages on this thread, and tells of it.
+/// Passes all messages on this thread. It returns the outcome.
 fn run_here<R: Clock, E: End + Drop>(
     rt: &R,
     plan: &Plan,
@@ -266,7 +266,8 @@ fn run_here<R: Clock, E: End + Drop>(
     print_outcome(plan, &players, nanoseconds)
 }
 
-/// Waits until all threads are there, and passes the messages of an instance. Answers how many nanoseconds it took.
+/// Waits until all threads are there, and passes the messages of an instance. It returns the nanoseconds that this
+/// took.
 fn time_player<R: Clock, E: End>(
     rt: &R,
     player: &mut Player<E>,
@@ -289,7 +290,7 @@ fn time_player<R: Clock, E: End>(
     Ok(u64::try_from(took.as_nanos())?)
 }
 
-/// The same, and gives the instance back.
+/// The same, and returns the instance too.
 fn run_player<R: Clock, E: End + Drop>(
     rt: &R,
     mut player: Player<E>,
@@ -300,7 +301,7 @@ fn run_player<R: Clock, E: End + Drop>(
     Ok((player, nanoseconds))
 }
 
-/// Passes all messages, each instance on a thread of its own. The slowest one counts.
+/// Passes all messages, each instance on a thread of its own. The slowest instance counts.
 fn run_threads<R: Threads + Sync + Clock, E: End + Send + Drop>(
     rt: &R,
     alloc: Global,

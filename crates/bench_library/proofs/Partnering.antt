@@ -6,7 +6,7 @@ use Rattle.line_recorder.specs.Recorders.{RecorderView, after_send, after_receiv
 use Rattle.clock.proofs.EntryLemmas.{length-with_entry}
 use Rattle.bench_library.specs.Partners.{ArePartners}
 
--- whichever is named first
+-- in either order
 pub swapped : (a b : RecorderView) → ArePartners a b → ArePartners b a
 swapped a b h = record {
   different = λ same. h.different (sym same);
@@ -15,7 +15,7 @@ swapped a b h = record {
   has_second = h.has_first;
 }
 
--- after a send of the first
+-- after a send of the first recorder
 pub sent : (a b : RecorderView) (to : ℕ) (name : List ℕ) → ArePartners a b → ArePartners (after_send a to name) b
 sent a b to name h =
     let kept = length-with_entry a.knowledge a.line.instance (length a.line.events + 1) in
@@ -26,7 +26,7 @@ sent a b to name h =
       has_second = h.has_second;
     }
 
--- after a receive of the second
+-- after a receive of the second recorder
 pub received : (a b : RecorderView) (from : ℕ) (name : List ℕ) (region : ℕ) (clock : List ℕ) (report : ReportView) → length clock ≡ length b.knowledge → ArePartners a b → ArePartners a (after_receive b from name region clock report)
 received a b from name region clock report same h =
     let kept = length-merged b.knowledge clock (sym same) in

@@ -2,7 +2,8 @@
 use Rattle.std.specs.Prelude.{◌≡◌, ◌≢◌, ◌≤◌, length}
 use Rattle.line_recorder.specs.Recorders.{RecorderView}
 
--- they are of two instances, whose clocks have an entry for each of the same instances, for both of these among them
+-- they are of two different instances; both clocks have an entry for each of the same instances, and these two are
+-- among them
 pub record ArePartners (a b : RecorderView) : Type 0 where
   pub different : a.line.instance ≢ b.line.instance
   pub entries : length a.knowledge ≡ length b.knowledge

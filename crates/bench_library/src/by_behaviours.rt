@@ -1,4 +1,4 @@
-//! Messages that behaviours pass, run on threads.
+//! Messages that behaviours pass on threads.
 ghost use Rattle.board.specs.Meeting.{AreOfOneBoard};
 
 use crate::load::{Load, events_of};
@@ -12,7 +12,8 @@ use std::alloc::Global;
 use std::thread::Threads;
 use std::time::{Clock, Instant};
 
-/// The nanoseconds from before the threads are made until the board is gathered, whose lines have so many events then.
+/// The nanoseconds from before the threads are made until the board is gathered. Its lines then have this number of
+/// events.
 fn time_run<R: Threads + Sync + Clock>(
     rt: &R,
     posts: Vec<Post>,
@@ -29,7 +30,7 @@ fn time_run<R: Threads + Sync + Clock>(
     when_all(took, events_of(&ran.gathered.chart), events)
 }
 
-/// How many nanoseconds it takes behaviours to pass these messages, on a fresh board.
+/// The nanoseconds that behaviours take to pass these messages, on a fresh board.
 pub fn time_behaviours<R: Threads + Sync + Clock>(
     rt: &R,
     alloc: Global,

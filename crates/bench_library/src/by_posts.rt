@@ -1,4 +1,4 @@
-//! The same messages passed by posts alone: each holds its post itself, in a job of its own.
+//! The same messages passed by posts without behaviours. Each job has a post of its own.
 ghost use Rattle.std.specs.Prelude.{◌≡◌};
 ghost use Rattle.board.specs.Meeting.{AreOfOneBoard};
 
@@ -12,14 +12,14 @@ use std::thread;
 use std::thread::Threads;
 use std::time::{Clock, Instant};
 
-/// How often an act is tried at most.
+/// The most times that an act is tried.
 const LOOKS: u32 = 1_000_000;
 
-/// What came of an act.
+/// The result of an act.
 #[derive(Clone, Copy, Debug, PartialEq, Eq)]
 enum Tried {
     Done,
-    /// The lane is full, or nothing waits.
+    /// The lane is full, or no message waits.
     Waits,
     Refused,
 }
@@ -48,7 +48,7 @@ fn try_act(alloc: Global, post: &mut Post, act: &BareAct) -> Tried
     }
 }
 
-/// Does an act, as soon as it can be done. Answers whether it was.
+/// Does an act as soon as possible. It returns whether the act was done.
 fn do_act(alloc: Global, post: &mut Post, act: &BareAct) -> bool
     ensures { post.new.board ≡ post.old.board }
 {
@@ -62,7 +62,7 @@ fn do_act(alloc: Global, post: &mut Post, act: &BareAct) -> bool
     false
 }
 
-/// Does the acts of the post's instance, up to one that is refused.
+/// Does the acts of the post's instance, up to the first that is refused.
 fn do_all<'a>(alloc: Global, mut post: Post<'a>, lists: &[Vec<BareAct>]) -> Post<'a>
     ensures { result.board ≡ post.entry.board }
 {
@@ -96,7 +96,7 @@ fn lists(alloc: Global, load: Load) -> anyhow::Result<Vec<Vec<BareAct>>> {
     Ok(lists)
 }
 
-/// How many events a board's posts come to.
+/// The number of events on a board with these posts.
 fn gathered_events(alloc: Global, posts: Vec<Post>) -> anyhow::Result<usize>
     requires { AreOfOneBoard posts.items }
 {
@@ -106,7 +106,7 @@ fn gathered_events(alloc: Global, posts: Vec<Post>) -> anyhow::Result<usize>
     }
 }
 
-/// How many events the posts come to, each of which does its acts in a job of its own.
+/// The number of events on a board with these posts, after each of them has done its acts in a job of its own.
 fn events_by_lists<R: Threads + Sync>(
     rt: &R,
     alloc: Global,
@@ -122,7 +122,8 @@ fn events_by_lists<R: Threads + Sync>(
     gathered_events(alloc, left)
 }
 
-/// The nanoseconds from before the threads are made until the board is gathered, whose lines have so many events then.
+/// The nanoseconds from before the threads are made until the board is gathered. Its lines then have this number of
+/// events.
 fn time_lists<R: Threads + Sync + Clock>(
     rt: &R,
     alloc: Global,
@@ -138,7 +139,7 @@ fn time_lists<R: Threads + Sync + Clock>(
     when_all(took, had, events)
 }
 
-/// How many nanoseconds it takes posts to pass these messages, on a fresh board.
+/// The nanoseconds that posts take to pass these messages, on a fresh board.
 pub fn time_posts<R: Threads + Sync + Clock>(
     rt: &R,
     alloc: Global,

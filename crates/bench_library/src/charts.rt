@@ -1,4 +1,4 @@
-//! What it costs to read the text of a chart, to search it and to write it again.
+//! Measures what it costs to read the text of a chart, to search the chart and to write it again.
 ghost use Rattle.std.specs.Prelude.{◌≡◌, length, IfOk};
 
 use crate::patterns::{Pattern, write_chart};
@@ -13,10 +13,10 @@ use std::io;
 use std::time::{Clock, Instant};
 use texts::StreamOut;
 
-/// How often each is timed; the median is told.
+/// How often each of these is timed. The median is printed.
 const REPETITIONS: usize = 5;
 
-/// The names and the chart that the text says.
+/// The names and the chart in a text.
 fn chart_in(alloc: Global, text: &[u8]) -> anyhow::Result<(Names, Chart)>
     ensures { IfOk result (λ read. length read.0 ≡ length read.1) }
 {
@@ -26,7 +26,7 @@ fn chart_in(alloc: Global, text: &[u8]) -> anyhow::Result<(Names, Chart)>
     }
 }
 
-/// How many races these reports tell.
+/// The number of races in these reports.
 fn races_of(reports: &[Report]) -> usize {
     let mut races = 0usize;
     for report in reports {
@@ -35,7 +35,7 @@ fn races_of(reports: &[Report]) -> usize {
     races
 }
 
-/// How many races the chart has.
+/// The number of races of the chart.
 fn races_in(alloc: Global, chart: &Chart) -> anyhow::Result<usize> {
     let Ok(closure) = Closure::of(alloc, chart) else {
         bail!("the chart isn't possible");
@@ -44,14 +44,14 @@ fn races_in(alloc: Global, chart: &Chart) -> anyhow::Result<usize> {
     Ok(races_of(reports.as_slice()))
 }
 
-/// What reading the text takes once, in nanoseconds.
+/// The nanoseconds of reading the text once.
 fn read_once<R: Clock + AllocGlobal>(rt: &R, text: &[u8]) -> anyhow::Result<u64> {
     let start = Instant::now(rt)?;
     let _read = chart_in(rt.alloc(), text)?;
     nanoseconds_since(rt, &start)
 }
 
-/// What reading the text takes, in microseconds.
+/// The microseconds of reading the text: the median of several times.
 fn time_reading<R: Clock + AllocGlobal>(rt: &R, text: &[u8]) -> anyhow::Result<u64> {
     let mut took = [0u64; REPETITIONS];
     for place in 0..REPETITIONS {
@@ -60,14 +60,14 @@ fn time_reading<R: Clock + AllocGlobal>(rt: &R, text: &[u8]) -> anyhow::Result<u
     Ok(median(took.as_mut_slice()) / 1000)
 }
 
-/// What searching the chart takes once, in nanoseconds.
+/// The nanoseconds of searching the chart once.
 fn search_once<R: Clock + AllocGlobal>(rt: &R, chart: &Chart) -> anyhow::Result<u64> {
     let start = Instant::now(rt)?;
     let _races = races_in(rt.alloc(), chart)?;
     nanoseconds_since(rt, &start)
 }
 
-/// What searching the chart takes, in microseconds.
+/// The microseconds of searching the chart: the median of several times.
 fn time_searching<R: Clock + AllocGlobal>(rt: &R, chart: &Chart) -> anyhow::Result<u64> {
     let mut took = [0u64; REPETITIONS];
     for place in 0..REPETITIONS {
@@ -76,7 +76,7 @@ fn time_searching<R: Clock + AllocGlobal>(rt: &R, chart: &Chart) -> anyhow::Resu
     Ok(median(took.as_mut_slice()) / 1000)
 }
 
-/// Writes the text of the chart to standard output, and answers whether it was written.
+/// Writes the text of the chart to standard output. It returns whether the text was written.
 fn is_written<R: Print>(rt: &R, names: &Names, chart: &Chart) -> bool
     requires { length names.now ≡ length chart.now }
 {
@@ -84,7 +84,7 @@ fn is_written<R: Print>(rt: &R, names: &Names, chart: &Chart) -> bool
     write(names, chart, &mut out).is_ok()
 }
 
-/// What writing its text to standard output takes once, in nanoseconds.
+/// The nanoseconds of writing the chart's text to standard output once.
 fn write_once<R: Clock + Print>(rt: &R, names: &Names, chart: &Chart) -> anyhow::Result<u64>
     requires { length names.now ≡ length chart.now }
 {
@@ -95,7 +95,7 @@ fn write_once<R: Clock + Print>(rt: &R, names: &Names, chart: &Chart) -> anyhow:
     nanoseconds_since(rt, &start)
 }
 
-/// What writing its text to standard output takes, in microseconds.
+/// The microseconds of writing the chart's text to standard output: the median of several times.
 fn time_writing<R: Clock + Print>(rt: &R, names: &Names, chart: &Chart) -> anyhow::Result<u64>
     requires { length names.now ≡ length chart.now }
 {
@@ -115,7 +115,7 @@ pub fn make_chart<R: Print>(rt: &R, pattern: Pattern) -> anyhow::Result<()> {
     Ok(())
 }
 
-/// Tells the times on standard error and writes the text to standard output.
+/// Prints the times on standard error, and writes the text to standard output.
 fn print_times<R: Clock + AllocGlobal + Print + Eprint>(
     rt: &R,
     text: &[u8],
@@ -131,7 +131,7 @@ fn print_times<R: Clock + AllocGlobal + Print + Eprint>(
     Ok(())
 }
 
-/// Tells how many races there are.
+/// Prints the number of races.
 fn print_races<R: AllocGlobal + Print>(rt: &R, chart: &Chart) -> anyhow::Result<()> {
     let instances = chart.lines().len();
     let races = races_in(rt.alloc(), chart)?;
@@ -139,7 +139,7 @@ fn print_races<R: AllocGlobal + Print>(rt: &R, chart: &Chart) -> anyhow::Result<
     Ok(())
 }
 
-/// Tells the times and writes the text, or else tells how many races there are.
+/// Prints the times and writes the text, or else prints the number of races.
 pub fn print_charts<R: Clock + AllocGlobal + Print + Eprint>(
     rt: &R,
     text: &[u8],

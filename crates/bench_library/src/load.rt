@@ -1,16 +1,16 @@
-//! Which messages are passed, among how many instances, on lanes of how many slots.
+//! The load of a board: which messages are passed, among how many instances, on lanes of how many slots.
 use anyhow::bail;
 use behaviour::BareAct;
 use chart::{Chart, InstanceNo, MAX_EVENTS, Name};
 use std::alloc::Global;
 use std::fmt;
 
-/// Which way the messages go.
+/// The directions of the messages.
 #[derive(Clone, Copy, Debug, PartialEq, Eq)]
 pub enum Pattern {
-    /// The first of each two instances sends to the second.
+    /// The first instance of each pair sends to the second.
     OneWay,
-    /// Each two instances send to each other by turns.
+    /// The two instances of each pair send to each other in turn.
     ToAndFro,
     /// Each instance sends to each other one, and then receives from each.
     AllToAll,
@@ -26,7 +26,7 @@ impl fmt::Display for Pattern {
     }
 }
 
-/// A pattern among so many instances, an even number of them, on lanes of so many slots, so many rounds at most.
+/// A pattern among an even number of instances, on lanes with this number of slots, for at most this number of rounds.
 #[derive(Clone, Copy, Debug)]
 pub struct Load {
     pub pattern: Pattern,
@@ -47,7 +47,7 @@ impl fmt::Display for Load {
     }
 }
 
-/// How many events a chart has.
+/// The number of events of a chart.
 pub fn events_of(chart: &Chart) -> usize {
     let mut events = 0usize;
     for line in chart.lines() {
@@ -56,7 +56,7 @@ pub fn events_of(chart: &Chart) -> usize {
     events
 }
 
-/// The instance at a place, from 0.
+/// The instance at this place, from 0.
 fn instance(place: usize) -> anyhow::Result<InstanceNo> {
     match InstanceNo::new(place.saturating_add(1)) {
         Some(instance) => Ok(instance),
@@ -64,7 +64,7 @@ fn instance(place: usize) -> anyhow::Result<InstanceNo> {
     }
 }
 
-/// A send of this name to the partner, or with no name a receive from it.
+/// A send with this name to the partner, or without a name a receive from it.
 fn act_with(partner: InstanceNo, name: Option<Name>) -> BareAct {
     match name {
         Some(name) => BareAct::Send(partner, name),
@@ -77,7 +77,7 @@ fn listed(alloc: Global, acts: &[BareAct]) -> anyhow::Result<Vec<BareAct>> {
 }
 
 impl Load {
-    /// How many others an instance passes messages to or from.
+    /// The number of other instances with which an instance exchanges messages.
     fn others(self) -> usize {
         match self.pattern {
             Pattern::OneWay | Pattern::ToAndFro => 1,
@@ -85,7 +85,7 @@ impl Load {
         }
     }
 
-    /// How many messages an instance sends and receives in a round.
+    /// The number of messages that an instance sends and receives in a round.
     fn in_a_round(self) -> usize {
         match self.pattern {
             Pattern::OneWay => 1,
@@ -93,23 +93,23 @@ impl Load {
         }
     }
 
-    /// How many rounds there are: as many as a line has slots for, or as are asked for.
+    /// The number of rounds: as many as a line has room for, but at most `most`.
     fn rounds(self) -> usize {
         self.most.min(MAX_EVENTS / self.in_a_round().max(1))
     }
 
-    /// How many events all instances have in the end.
+    /// The number of events of all instances at the end.
     pub fn events(self) -> usize {
         let each = self.in_a_round().saturating_mul(self.rounds());
         self.instances.saturating_mul(each)
     }
 
-    /// How many messages are passed.
+    /// The number of messages that are passed.
     pub fn messages(self) -> usize {
         self.events() / 2
     }
 
-    /// The partner of the instance at a place: the other one of the same two.
+    /// The partner of the instance at this place: the other one of the pair.
     fn partner(place: usize) -> anyhow::Result<InstanceNo> {
         if place % 2 == 0 {
             instance(place.saturating_add(1))
@@ -118,7 +118,7 @@ impl Load {
         }
     }
 
-    /// Adds the sends of this name to all others, or the receives from all of them.
+    /// Adds sends with this name to all others, or receives from all of them.
     fn add_each(
         self,
         acts: &mut Vec<BareAct>,
@@ -133,7 +133,7 @@ impl Load {
         Ok(())
     }
 
-    /// The sends to all others, and then the receives from all of them.
+    /// Sends to all others, and then receives from all of them.
     fn with_all(self, alloc: Global, place: usize, name: Name) -> anyhow::Result<Vec<BareAct>> {
         let mut acts = Vec::new(alloc);
         self.add_each(&mut acts, place, Some(name))?;
@@ -141,7 +141,7 @@ impl Load {
         Ok(acts)
     }
 
-    /// What the instance at a place does in a round.
+    /// The acts of the instance at this place in a round.
     fn round(self, alloc: Global, place: usize) -> anyhow::Result<Vec<BareAct>> {
         let name = Name::new(b"m")?;
         let partner = Load::partner(place)?;
@@ -156,7 +156,7 @@ impl Load {
         }
     }
 
-    /// What the instance at a place does.
+    /// All acts of the instance at this place.
     pub fn acts(self, alloc: Global, place: usize) -> anyhow::Result<Vec<BareAct>> {
         let round = self.round(alloc, place)?;
         let mut acts = Vec::new(alloc);

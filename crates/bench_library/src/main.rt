@@ -1,13 +1,13 @@
-//! What the library's parts cost: recorders, messages on threads, replays, and the reading, searching and writing
-//! of a chart. With a word that asks for times it tells them, and else what it would time, which doesn't depend on
-//! the machine.
+//! Measures what parts of the library cost: recorders, messages on threads, replays, and the reading, searching and
+//! writing of a chart. With a word that asks for times it prints them. Without it, it prints what it would time, which
+//! doesn't depend on the machine.
 //!
-//! - `recorders` and `threads`, with `time` behind: recorders on short and on long lines, and messages that
+//! - `recorders` and `threads`, optionally followed by `time`: recorders on short and on long lines, and messages that
 //!   behaviours and posts pass.
-//! - `replays FILE`, with `time NUMBER` behind: so many replays of a schedule.
-//! - `charts FILE`, with `time` behind: the text of a chart, which is written to standard output then.
-//! - `make` and `token`, `mixed` or `bursts` writes the text of a large chart with such traffic.
-//! - `all CHART SCHEDULE` tells what each of the four would time.
+//! - `replays FILE`, optionally followed by `time NUMBER`: this number of replays of a schedule.
+//! - `charts FILE`, optionally followed by `time`: the text of a chart, which `time` also writes to standard output.
+//! - `make token`, `make mixed` and `make bursts`: the text of a large chart with this traffic is written.
+//! - `all CHART SCHEDULE`: it prints what each of the first four would time.
 #![tactic(auto)]
 
 mod by_behaviours;
@@ -34,7 +34,7 @@ use std::time::Clock;
 use std::{env, fs};
 use threads::print_threads;
 
-/// Whether times are asked for: by the one word `time`.
+/// Whether times are requested, by the single word `time`.
 fn is_timed(words: &[String]) -> anyhow::Result<bool> {
     match words {
         [] => Ok(false),
@@ -43,7 +43,7 @@ fn is_timed(words: &[String]) -> anyhow::Result<bool> {
     }
 }
 
-/// How many replays are timed, if times are asked for.
+/// How many replays are timed, if times are requested.
 fn times_in(words: &[String]) -> anyhow::Result<Option<u32>> {
     match words {
         [] => Ok(None),
@@ -52,7 +52,7 @@ fn times_in(words: &[String]) -> anyhow::Result<Option<u32>> {
     }
 }
 
-/// Tells of the replays of a schedule that is in a file.
+/// Prints the times or the counts of replays of the schedule in a file.
 fn replays_of<R: Clock + AllocGlobal + Print + Eprint + Files>(
     rt: &R,
     file: &str,
@@ -62,7 +62,7 @@ fn replays_of<R: Clock + AllocGlobal + Print + Eprint + Files>(
     print_replays(rt, text.as_slice(), times)
 }
 
-/// Tells of a chart that is in a file.
+/// Prints the times or the races of the chart in a file.
 fn charts_of<R: Clock + AllocGlobal + Print + Eprint + Files>(
     rt: &R,
     file: &str,
@@ -72,7 +72,7 @@ fn charts_of<R: Clock + AllocGlobal + Print + Eprint + Files>(
     print_charts(rt, text.as_slice(), timed)
 }
 
-/// Writes the chart with the traffic of this name.
+/// Writes the chart with the traffic that has this name.
 fn make_named<R: Print>(rt: &R, name: &str) -> anyhow::Result<()> {
     match pattern_in(name) {
         Some(pattern) => make_chart(rt, pattern),
@@ -80,7 +80,7 @@ fn make_named<R: Print>(rt: &R, name: &str) -> anyhow::Result<()> {
     }
 }
 
-/// Tells what each of the four would time.
+/// Prints what each of the four would time.
 fn print_all<R: Threads + Sync + Clock + AllocGlobal + Print + Eprint>(
     rt: &R,
     chart: &[u8],
@@ -92,7 +92,7 @@ fn print_all<R: Threads + Sync + Clock + AllocGlobal + Print + Eprint>(
     print_charts(rt, chart, false)
 }
 
-/// The same of a chart and a schedule that are in files.
+/// The same for a chart and a schedule in files.
 fn all<R: Threads + Sync + Clock + AllocGlobal + Print + Eprint + Files>(
     rt: &R,
     chart: &str,
@@ -103,7 +103,7 @@ fn all<R: Threads + Sync + Clock + AllocGlobal + Print + Eprint + Files>(
     print_all(rt, chart.as_slice(), schedule.as_slice())
 }
 
-/// Does what the words say.
+/// Executes the command in these words.
 fn print_group<R: Threads + Sync + Clock + AllocGlobal + Print + Eprint + Files>(
     rt: &R,
     words: &[String],

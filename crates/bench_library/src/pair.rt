@@ -8,12 +8,12 @@ use line_recorder::{RecordError, Recorder};
 use std::alloc::{AllocError, Global};
 use std::fmt;
 
-/// Which way the messages go.
+/// The directions of the messages.
 #[derive(Clone, Copy, Debug, PartialEq, Eq)]
 pub enum Pattern {
-    /// From the first to the second: its line is one run of receives from one sender.
+    /// From the first instance to the second. The second line is a single run of receives from one sender.
     OneWay,
-    /// To and fro: each line has sends and receives in turn.
+    /// To and fro. Each line has sends and receives in turn.
     Replies,
 }
 
@@ -26,7 +26,7 @@ impl fmt::Display for Pattern {
     }
 }
 
-/// The recorders of the first two of so many instances, 2 to [`MAX_INSTANCES`].
+/// The recorders of the first two of this number of instances, 2 to [`MAX_INSTANCES`].
 pub fn partners(alloc: Global, instances: usize) -> Result<(Recorder, Recorder), AllocError>
     requires at_least_two { 2 ≤ instances }
     requires at_most { instances ≤ MAX_INSTANCES }
@@ -39,7 +39,7 @@ pub fn partners(alloc: Global, instances: usize) -> Result<(Recorder, Recorder),
     Ok((first, second))
 }
 
-/// Passes a message, and answers whether its receive has races.
+/// Passes a message. It returns whether its receive has races.
 #[tactic(auto, using(crate::proofs::Partnering::sent, crate::proofs::Partnering::received))]
 fn pass(from: &mut Recorder, to: &mut Recorder, name: Name) -> Result<bool, RecordError>
     requires { ArePartners from.old to.old }
@@ -50,7 +50,7 @@ fn pass(from: &mut Recorder, to: &mut Recorder, name: Name) -> Result<bool, Reco
     Ok(!report.earlier().is_empty())
 }
 
-/// Passes so many messages, and answers how many of their receives have races.
+/// Passes this number of messages. It returns how many of their receives have races.
 pub fn exchange(
     first: &mut Recorder,
     second: &mut Recorder,

@@ -1,10 +1,10 @@
-//! Scripts for busy machines: one that has to wait lets other threads go first.
+//! Scripts for busy machines: a script that has to wait lets other threads run first.
 use behaviour::{Act, Answer, Behaviour, Script};
 use board::SendError;
 use std::thread;
 
-/// A script that lets other threads go first before it does an act again. So while it waits for one of them it spends
-/// few turns, however busy the machine is. It does what its script does.
+/// A script that lets other threads run first before it repeats an act. So it spends few turns while it waits for one
+/// of them, even on a busy machine. Its acts are those of its script.
 #[derive(Drop)]
 pub struct PatientScript {
     pub script: Script,

@@ -1,27 +1,27 @@
-//! Charts of 32 lines with 4,096 events each, which a program makes: what messages go where.
+//! Charts of 32 lines with 4,096 events each, by the traffic on them.
 ghost use Rattle.std.specs.Prelude.{◌<◌};
 
 use std::convert::AsStr;
 use texts::{Out, TextBuffer, WriteError};
 
-/// How many instances there are.
+/// The number of instances.
 const LINES: usize = 32;
 
-/// How many events a line has.
+/// The number of events of a line.
 const EVENTS: usize = 4096;
 
-/// How many messages follow one another in a burst.
+/// The number of messages in a burst.
 const BURST: usize = 64;
 
-/// What traffic a chart has.
+/// The traffic of a chart.
 #[derive(Clone, Copy, Debug, PartialEq, Eq)]
 pub enum Pattern {
-    /// A token goes round: no receive has a race.
+    /// A token goes round. No receive has a race.
     Token,
-    /// In each turn every instance sends to one, and receives from one: some races.
+    /// In each turn every instance sends to one instance, and receives from one. There are some races.
     Mixed,
-    /// Half of the instances send bursts to the other half, from where nothing comes back: nearly every pair of
-    /// receives of a line is a race.
+    /// Half of the instances send bursts to the other half, which sends nothing. Nearly every pair of receives of a
+    /// line is a race.
     Bursts,
 }
 
@@ -31,7 +31,7 @@ enum Step {
     Receive(usize),
 }
 
-/// The traffic of this name.
+/// The traffic with this name.
 pub fn pattern_in(word: &str) -> Option<Pattern> {
     match word {
         "token" => Some(Pattern::Token),
@@ -52,7 +52,7 @@ fn token_step(line: usize, index: usize) -> Step
     }
 }
 
-/// In each turn messages go by another number of instances.
+/// In each turn the distance from the sender to the receiver is another one.
 fn mixed_step(line: usize, index: usize) -> Step
     requires line { line < LINES }
     requires index { index < EVENTS }
@@ -65,7 +65,7 @@ fn mixed_step(line: usize, index: usize) -> Step
     }
 }
 
-/// The receivers come first, and the senders are the other half.
+/// The first half of the instances receive, and the other half send.
 fn bursts_step(line: usize, index: usize) -> Step
     requires { line < LINES }
 {

@@ -1,4 +1,4 @@
-//! What a send and a receive with its report cost on short and on long lines.
+//! Measures what a send and a receive with its report cost, on short and on long lines.
 ghost use Rattle.chart.specs.declared.instance.TheConstants.{MAX_INSTANCES};
 ghost use Rattle.bench_library.specs.Partners.{ArePartners};
 ghost use Rattle.std.specs.Prelude.{◌≤◌};
@@ -11,28 +11,30 @@ use clock::INLINE_ENTRIES;
 use line_recorder::Recorder;
 use std::time::{Clock, Instant};
 
-/// How many events the short lines have, and the long ones.
+/// The numbers of events of short and of long lines.
 const SHORT: usize = 64;
 
 const LONG: usize = 4000;
 
-/// Messages that are timed on each pair of lines. One more goes before them: it makes a line of 64 events grow.
+/// The number of messages that are timed on each pair of lines. One more message precedes them, since it makes a line
+/// of 64 events grow.
 const TIMED: usize = 63;
 
-/// Fresh pairs of lines in a repetition.
+/// The number of fresh pairs of lines in a repetition.
 const FRESH: usize = 64;
 
-/// Repetitions, whose median is told.
+/// The number of repetitions. Their median is printed.
 const REPETITIONS: usize = 15;
 
-/// What is timed: which way messages go, among how many instances.
+/// The messages that are timed: their directions, and the number of instances.
 #[derive(Clone, Copy)]
 struct Load {
     pattern: Pattern,
     instances: usize,
 }
 
-/// The nanoseconds that the timed messages between these two took, with so many events on each line before them.
+/// The nanoseconds of the timed messages between these two. Each line has this number of events, and one more, before
+/// them.
 fn time_messages<R: Clock>(
     rt: &R,
     first: &mut Recorder,
@@ -53,7 +55,8 @@ fn time_messages<R: Clock>(
     Ok(took)
 }
 
-/// The nanoseconds that the timed messages of two fresh lines took, with so many events on each line before them.
+/// The nanoseconds of the timed messages on two fresh lines. Each line has this number of events, and one more, before
+/// them.
 fn time_pair<R: Clock + AllocGlobal>(rt: &R, load: Load, events: usize) -> anyhow::Result<u64>
     requires at_least_two { 2 ≤ load.instances }
     requires at_most { load.instances ≤ MAX_INSTANCES }
@@ -62,7 +65,8 @@ fn time_pair<R: Clock + AllocGlobal>(rt: &R, load: Load, events: usize) -> anyho
     time_messages(rt, &mut first, &mut second, load.pattern, events)
 }
 
-/// The nanoseconds that the timed messages of fresh lines took in all, with so many events on each line before them.
+/// The total nanoseconds of the timed messages on all fresh lines. Each line has this number of events, and one more,
+/// before them.
 fn repetition<R: Clock + AllocGlobal>(rt: &R, load: Load, events: usize) -> anyhow::Result<u64>
     requires at_least_two { 2 ≤ load.instances }
     requires at_most { load.instances ≤ MAX_INSTANCES }
@@ -74,7 +78,7 @@ fn repetition<R: Clock + AllocGlobal>(rt: &R, load: Load, events: usize) -> anyh
     Ok(nanoseconds)
 }
 
-/// Tells what a message costs on short lines and on long ones, which are timed in turn.
+/// Prints what a message costs on short lines and on long lines, which are timed in turn.
 fn print_times<R: Clock + AllocGlobal + Print>(rt: &R, load: Load) -> anyhow::Result<()>
     requires at_least_two { 2 ≤ load.instances }
     requires at_most { load.instances ≤ MAX_INSTANCES }
@@ -96,7 +100,7 @@ fn print_times<R: Clock + AllocGlobal + Print>(rt: &R, load: Load) -> anyhow::Re
     Ok(())
 }
 
-/// Passes the messages once, and tells how many would be timed.
+/// Passes the messages once, and prints how many would be timed.
 fn print_messages<R: Clock + AllocGlobal + Print>(rt: &R, load: Load) -> anyhow::Result<()>
     requires at_least_two { 2 ≤ load.instances }
     requires at_most { load.instances ≤ MAX_INSTANCES }
@@ -111,7 +115,7 @@ fn print_messages<R: Clock + AllocGlobal + Print>(rt: &R, load: Load) -> anyhow:
     Ok(())
 }
 
-/// Tells of both patterns among so many instances.
+/// Prints the results of both patterns among this number of instances.
 fn print_among<R: Clock + AllocGlobal + Print>(
     rt: &R,
     timed: bool,
@@ -131,7 +135,8 @@ fn print_among<R: Clock + AllocGlobal + Print>(
     Ok(())
 }
 
-/// Tells of recorders among two instances, as many as a clock keeps without memory, and one more.
+/// Prints the results of recorders among two instances, among as many as a clock stores without memory, and among one
+/// more.
 pub fn print_recorders<R: Clock + AllocGlobal + Print>(rt: &R, timed: bool) -> anyhow::Result<()> {
     print_among(rt, timed, 2)?;
     print_among(rt, timed, INLINE_ENTRIES)?;

@@ -1,4 +1,4 @@
-//! What it costs to replay a schedule.
+//! Measures what it costs to replay a schedule.
 use crate::load::events_of;
 use crate::timing::{median, nanoseconds_since};
 use anyhow::bail;
@@ -7,7 +7,7 @@ use schedule_replay::replay;
 use std::alloc::Global;
 use std::time::{Clock, Instant};
 
-/// How often so many replays are timed; the median is told.
+/// How often the replays are timed. The median is printed.
 const REPETITIONS: usize = 5;
 
 fn schedule_in(alloc: Global, text: &[u8]) -> anyhow::Result<Schedule> {
@@ -17,7 +17,7 @@ fn schedule_in(alloc: Global, text: &[u8]) -> anyhow::Result<Schedule> {
     }
 }
 
-/// What so many replays take once, in nanoseconds.
+/// The nanoseconds of this number of replays, timed once.
 fn time_once<R: Clock + AllocGlobal>(
     rt: &R,
     schedule: &Schedule,
@@ -30,7 +30,7 @@ fn time_once<R: Clock + AllocGlobal>(
     nanoseconds_since(rt, &start)
 }
 
-/// What so many replays take, in microseconds: the median of some repetitions.
+/// The microseconds of this number of replays: the median of several times.
 fn time<R: Clock + AllocGlobal>(rt: &R, schedule: &Schedule, times: u32) -> anyhow::Result<u64> {
     let mut took = [0u64; REPETITIONS];
     for place in 0..REPETITIONS {
@@ -39,7 +39,7 @@ fn time<R: Clock + AllocGlobal>(rt: &R, schedule: &Schedule, times: u32) -> anyh
     Ok(median(took.as_mut_slice()) / 1000)
 }
 
-/// Tells on standard error what so many replays take.
+/// Prints on standard error how long this number of replays takes.
 fn print_times<R: Clock + AllocGlobal + Eprint>(
     rt: &R,
     schedule: &Schedule,
@@ -50,7 +50,7 @@ fn print_times<R: Clock + AllocGlobal + Eprint>(
     Ok(())
 }
 
-/// Tells what the schedule comes to: how many events, and how many notes.
+/// Prints how many events and notes the outcome of the schedule has.
 fn print_counts<R: AllocGlobal + Print>(rt: &R, schedule: &Schedule) -> anyhow::Result<()> {
     let outcome = replay(rt.alloc(), schedule)?;
     let events = events_of(outcome.chart());
@@ -59,7 +59,7 @@ fn print_counts<R: AllocGlobal + Print>(rt: &R, schedule: &Schedule) -> anyhow::
     Ok(())
 }
 
-/// Tells what so many replays take, or else what the schedule comes to.
+/// Prints how long this number of replays takes, or else the counts of the outcome.
 pub fn print_replays<R: Clock + AllocGlobal + Print + Eprint>(
     rt: &R,
     text: &[u8],

@@ -1,4 +1,4 @@
-//! What messages between threads cost that behaviours pass, beside the same messages that posts alone pass.
+//! Measures what messages between threads cost if behaviours pass them, beside the same messages passed by posts alone.
 use crate::by_behaviours::time_behaviours;
 use crate::by_posts::time_posts;
 use crate::load::{Load, Pattern};
@@ -7,10 +7,10 @@ use chart::MAX_EVENTS;
 use std::thread::Threads;
 use std::time::Clock;
 
-/// Runs of each kind, whose median is told.
+/// The number of runs of each kind. Their median is printed.
 const RUNS: usize = 15;
 
-/// Rounds that are passed where nothing is timed.
+/// The number of rounds that are passed if nothing is timed.
 const FEW: usize = 16;
 
 const PATTERNS: [Pattern; 3] = [Pattern::OneWay, Pattern::ToAndFro, Pattern::AllToAll];
@@ -19,10 +19,11 @@ const INSTANCES: [usize; 3] = [2, 4, 8];
 
 const CAPACITIES: [usize; 3] = [1, 8, 64];
 
-/// Each pattern among so many instances, on lanes of so many slots.
+/// The number of loads: each pattern, with each number of instances and of slots.
 const LOADS: usize = 27;
 
-/// The load of this number, from 0: of three patterns, three numbers of instances and three of slots.
+/// The load with this number, from 0: one of three patterns, of three numbers of instances, and of three numbers of
+/// slots.
 fn load_at(number: usize) -> Load {
     Load {
         pattern: PATTERNS[number / 9 % 3],
@@ -32,12 +33,12 @@ fn load_at(number: usize) -> Load {
     }
 }
 
-/// How many of these a second, where so many took so many nanoseconds.
+/// How many a second, if this many took this number of nanoseconds.
 fn per_second(many: usize, took: u64) -> u64 {
     (many as u64).saturating_mul(1_000_000_000) / took.max(1)
 }
 
-/// Tells how many messages and events a second are passed, by behaviours and by posts in turn.
+/// Prints how many messages and events are passed in a second, by behaviours and by posts in turn.
 fn print_times<R: Threads + Sync + Clock + AllocGlobal + Print>(
     rt: &R,
     load: Load,
@@ -58,7 +59,7 @@ fn print_times<R: Threads + Sync + Clock + AllocGlobal + Print>(
     Ok(())
 }
 
-/// Passes some of the messages once by each, and tells how many would be timed.
+/// Passes some of the messages once in each way, and prints how many would be timed.
 fn print_messages<R: Threads + Sync + Clock + AllocGlobal + Print>(
     rt: &R,
     load: Load,
@@ -70,7 +71,7 @@ fn print_messages<R: Threads + Sync + Clock + AllocGlobal + Print>(
     Ok(())
 }
 
-/// Tells of each pattern among few and several instances, on lanes of few and of many slots.
+/// Prints the results of each pattern among few and several instances, on lanes with few and with many slots.
 pub fn print_threads<R: Threads + Sync + Clock + AllocGlobal + Print>(
     rt: &R,
     timed: bool,

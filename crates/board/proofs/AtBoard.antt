@@ -13,7 +13,7 @@ middle : (done : List PostView) (post : PostView) (rest : List PostView) → sli
 middle [] post rest = refl
 middle (x ∷ done) post rest = middle done post rest
 
--- the next of these is
+-- the next of these posts is at the board too
 pub next_at : (key : Shape) (table : TableId) (posts done left rest : List PostView) (post : PostView) → AreAtBoard key table posts → done ++ left ≡ posts → left ≡ post ∷ rest → IsAtBoard key table post
 next_at key table posts done left rest post all whole next = all (length done) post (subst (λ (xs : List PostView). slice_get xs (length done) ≡ Some post) (ap (λ (xs : List PostView). done ++ xs) (sym next) ∙ whole) (middle done post rest))
 
@@ -24,7 +24,7 @@ stays_at key table old new sound at = record {
   board = subst (λ (b : BoardView). IsBoard b.size b.capacity key table) (sym sound.same.board) at.board;
 }
 
--- one of several posts that are at their board, and another one in its place
+-- one of several posts that are at their board is too
 pub at_index : (key : Shape) (table : TableId) (posts : List PostView) (i : ℕ) (d : PostView) → AreAtBoard key table posts → i < length posts → IsAtBoard key table (get_or posts i d)
 at_index key table posts i d all within = all i (get_or posts i d) (slice_get-get_or posts i d within)
 

@@ -19,11 +19,11 @@ use Rattle.board.specs.Parts.{HasSlots, HasNoSlots}
 use Rattle.board.proofs.EndLemmas.{outgoing_later}
 use Rattle.board.proofs.DidLemmas.{waiting_many}
 
--- as many were put as were known to be taken
+-- no more messages are known to be taken than were put
 pub known_least : (n k : ℕ) (h : List Occurrence) (p q : ℕ) (o : Outgoing) → IsLegal n k h → IsOutgoing n h p q o → o.known_taken ≤ o.put
 known_least n k h p q o legal end = let few = received-le n k h legal p q in omega (arith, end.known, end.put)
 
--- slots are back: the post rests
+-- the slots are back, so the post rests
 pub rests_back : (n k p : ℕ) (m w : Mine) → IsPost n k p m → PutsBack m w → Rests n k p w
 rests_back n k p m w post back = subst (λ x. Rests n k p x) (sym back) (record {
   post = record { alone = refl; instances = post.instances; capacity = post.capacity; number = post.number };
@@ -78,11 +78,11 @@ module _ (l : LaneView) (m w : Mine) (o : Outgoing) (many : ℕ) (legal : IsLega
         looked = subst (λ (x : Mine). (held m).looks < (held x).looks) (sym back) (omega (arith, anew.looks));
       }
 
-  -- the end is the same when the slots are back
+  -- the end stays the same when the slots are back
   pub back_end : (v : Mine) (u : Outgoing) → PutsBack w v → IsOutgoing l.instances (held w).seen l.sender l.receiver u → IsOutgoing l.instances (held v).seen l.sender l.receiver u
   back_end v u back old = subst (λ (x : Mine). IsOutgoing l.instances (held x).seen l.sender l.receiver u) (sym back) old
 
--- the clock of the last, with one more
+-- the clock of the last parcel, with one more
 pub last_clock-push : (base : List ℕ) (xs : List Parcel) (x : Parcel) → last_clock base (xs ++ x ∷ []) ≡ x.clock
 last_clock-push base [] x = refl
 last_clock-push base (y ∷ ys) x = last_clock-push y.clock ys x

@@ -14,7 +14,7 @@ use Rattle.board.specs.Gathering.{AreJoint, LaneEnds, lane_to, is_closed_lane, c
 use Rattle.board.specs.Parting.{IsAmong, AreOf, AreClosed}
 use Rattle.board.proofs.RoomsMade.{joint_legal}
 
--- no lane leads back
+-- no instance has closed a lane to itself
 back_closed : (n k : ℕ) (h : List Occurrence) → IsLegal n k h → (p : ℕ) → is_closed h p p ≡ false
 back_closed n k [] legal p = refl
 back_closed n k (Send a b m ∷ h) legal p = back_closed n k h legal.1 p
@@ -28,7 +28,7 @@ back_closed n k (Close a b ∷ h) legal p = go (dec_eq p a) (back_closed n k h l
 pub none_back : (n k : ℕ) (posts : List PostView) → AreOf n k posts → (number : ℕ) → 1 ≤ number → number ≤ n → (h : List Occurrence) → AreJoint h posts → is_closed_lane h (lane_to number number) ≡ false
 none_back n k posts are number low high h joint = back_closed n k h (joint_legal n k posts are number low high h joint) number
 
--- what a post closed is closed in each history that the posts have in common
+-- a lane is closed in each history that the posts have in common exactly if its sender's post closed it
 pub closed_is : (posts : List PostView) (post : PostView) → IsAmong posts post → (q p : ℕ) → post.number ≡ q → (its : Bool) → its ≡ is_closed post.made post.number p → (h : List Occurrence) → AreJoint h posts → is_closed_lane h (lane_to q p) ≡ its
 closed_is posts post among q p number its same h joint =
     ap (λ (x : ℕ). is_closed h x p) (sym number) ∙ sym (closed_own h post.number p) ∙ ap (λ (g : List Occurrence). is_closed g post.number p) (joint among.0 post among.1).own ∙ sym same

@@ -24,7 +24,7 @@ use Rattle.board.proofs.DidLemmas.{did_nothing, did_move}
 use Rattle.board.proofs.Claiming.{sent_within}
 use Rattle.board.proofs.PostLemmas.{knowledge, with_outgoing}
 
--- a line is no longer than it may be
+-- a line has at most MAX_EVENTS events
 pub line_short : (n k : ℕ) (h : List Occurrence) → IsLegal n k h → (p : ℕ) → length (chart_of h p) ≤ MAX_EVENTS
 line_short n k [] legal p = omega arith
 line_short n k (Send a b m ∷ h) legal p = go (a == p) refl (line_short n k h legal.1 p)
@@ -44,7 +44,7 @@ line_short n k (Receive a b c ∷ h) legal p = go (a == p) refl (waiting h b a) 
     go false e ms before = simp append-nil before
 line_short n k (Close a b ∷ h) legal p = simp append-nil (line_short n k h legal.1 p)
 
--- what was put is no more than a line may have
+-- no more messages were put on a lane than a line may have events
 pub put_few : (n k : ℕ) (h : List Occurrence) (p q : ℕ) (o : Outgoing) → IsLegal n k h → IsOutgoing n h p q o → o.put ≤ MAX_EVENTS
 put_few n k h p q o legal end = let within = sent_within h p q in let short = line_short n k h legal p in omega (arith, end.put)
 

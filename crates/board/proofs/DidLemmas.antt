@@ -1,4 +1,4 @@
--- What a call's steps make of what its seat knows, one after another.
+-- What a call's steps add to what its seat knows, one after another.
 use Rattle.std.proofs.Common.{◌≡◌, ℕ, ◌+◌, ◌≤◌, List, [], ◌++◌, length, refl, sym, ap, ◌∙◌, subst, arith, length-drop}
 use Rattle.chart.specs.declared.history.Occurrence.{Occurrence}
 use Rattle.chart.specs.Histories.{own, sent, received, waiting, IsLegal}
@@ -62,10 +62,10 @@ did_move n k p e f g before events many did number are moves =
       looks = let same = moves.looks in omega (arith, did.looks);
     }
 
--- what was seen before has the same events of p's own
+-- what was seen before the call's events has the same events of p
 pub did_same : (n k p : ℕ) (e f : Held) (before events : List Occurrence) → own e.seen p ≡ e.made → Did n k p e f before events → own before p ≡ own e.seen p
 did_same n k p e f before events its did = did.own_before ∙ sym its
 
--- how many wait
+-- how many messages wait
 pub waiting_many : (n k : ℕ) (h : List Occurrence) (q p : ℕ) → IsLegal n k h → length (waiting h q p) + received h q p ≡ length (sent h q p)
 waiting_many n k h q p legal = let few = received-le n k h legal q p in omega (arith, length-drop (received h q p) (sent h q p))

@@ -32,7 +32,7 @@ senders_append p lanes more =
     ap (map (λ (x : LaneEnds). x.sender)) (filter-append (λ (x : LaneEnds). x.receiver == p) lanes more)
     ∙ map-append (λ (x : LaneEnds). x.sender) (filter (λ (x : LaneEnds). x.receiver == p) lanes) (filter (λ (x : LaneEnds). x.receiver == p) more)
 
--- more slots behind are none of these
+-- more slots at the end change nothing
 next_more : (n k p : ℕ) (h : List Occurrence) (qs : List ℕ) (slots more : Slots) → AreNext n k p h qs slots → AreNext n k p h qs (slots ++ more)
 next_more n k p h [] slots more next = tt
 next_more n k p h (q ∷ qs) slots more (packets, others, come, stated, later) =
@@ -40,7 +40,7 @@ next_more n k p h (q ∷ qs) slots more (packets, others, come, stated, later) =
 
 -- At first all that left is ready.
 
--- of one sender's lanes none leads to p, or one
+-- none of a sender's lanes leads to p, or exactly one does
 module _ (h : List Occurrence) (q p : ℕ) where
   abbrev block : ℕ → ℕ → List LaneEnds
   block a many = filter (is_waiting h) (map (lane_to q) (range_with_len a many))
@@ -138,7 +138,7 @@ module _ (n k : ℕ) (table : TableId) (h : List Occurrence) (room : Room) (lane
         (at_set leavers j i after one there);
   }
 
--- before the first of these rooms is filled
+-- the first of these rooms, before all its messages are drawn
 pub record IsNow (n k : ℕ) (table : TableId) (h : List Occurrence) (room : Room) (rooms : List Room) (leavers : List Leaver) (j : ℕ) (leaver : Leaver) : Type 0 where
   pub ready : AreReady n k table h (room_lane room ∷ map room_lane rooms) leavers
   pub its : IsLaneRoom h n k room

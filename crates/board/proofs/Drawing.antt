@@ -10,7 +10,7 @@ use Rattle.board_table.specs.Carrying.{full_slots}
 use Rattle.board_table.specs.Leaving.{ComeFirst}
 use Rattle.board.specs.Parting.{Slots, messages_in, HasDrained}
 
--- a list behind its first elements
+-- a list after its first elements
 split_next : {X : Type 0} (i : ℕ) (xs : List X) (y : X) (ys : List X) → drop i xs ≡ y ∷ ys → (take (suc i) xs ≡ take i xs ++ y ∷ []) × (drop (suc i) xs ≡ ys)
 split_next zero [] y ys at = absurd (omega (arith, ap length at))
 split_next zero (x ∷ xs) y ys at = (ap (take 1) at, ap (drop 1) at)

@@ -1,4 +1,4 @@
--- A post's ends of its lanes, when the history goes on.
+-- A post's ends of its lanes as the history goes on.
 use Rattle.std.proofs.Common.{◌≡◌, ℕ, suc, ◌≤◌, List, ◌∷◌, length, take, replicate, sym, ap, ap₂, ◌∙◌, arith}
 use Rattle.std.proofs.lemmas.List.{take-append-le}
 use Rattle.chart.specs.declared.history.Occurrence.{Occurrence}
@@ -14,7 +14,7 @@ use Rattle.board.specs.Known.{IsOutgoing, IsIncoming, AreEndsBut, AreEnds}
 use Rattle.board.specs.declared.ends.Outgoing.{Outgoing}
 use Rattle.board.specs.declared.ends.Incoming.{Incoming}
 
--- An end, when others did something.
+-- An end after an event of others.
 
 pub outgoing_later : (n : ℕ) (h g : List Occurrence) (p q : ℕ) (o : Outgoing) → Begins h g → own g p ≡ own h p → IsOutgoing n h p q o → IsOutgoing n g p q o
 outgoing_later n h g p q o begins same old = record {
@@ -46,7 +46,7 @@ module _ (n k : ℕ) (h g : List Occurrence) (p to_one from_one : ℕ) (outgoing
     takes = λ j i ne other at_j. incoming_later n k h g p (suc j) i legal begins same (old.takes j i ne other at_j);
   }
 
--- The other ends, when one end did something.
+-- The other ends after an event at one end.
 
 pub ends_sent : (n : ℕ) (h : List Occurrence) (p q from_one : ℕ) (m : Content) (outgoing : List Outgoing) (incoming : List Incoming) → AreEndsBut n h p q from_one outgoing incoming → AreEndsBut n (Send p q m ∷ h) p q from_one outgoing incoming
 ends_sent n h p q from_one m outgoing incoming old = record {
@@ -89,7 +89,7 @@ ends_closed n h p q from_one outgoing incoming old = record {
       record { taken = its.taken; known = its.known; base = its.base; long = its.long };
 }
 
--- But for some ends, they are as all are.
+-- All ends are as the history has them, so all but some are too.
 pub ends_but : (n : ℕ) (h : List Occurrence) (p to_one from_one : ℕ) (outgoing : List Outgoing) (incoming : List Incoming) → AreEnds n h p outgoing incoming → AreEndsBut n h p to_one from_one outgoing incoming
 ends_but n h p to_one from_one outgoing incoming old = record {
   as_many = old.as_many;

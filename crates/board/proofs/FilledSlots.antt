@@ -17,7 +17,7 @@ use Rattle.board_table.specs.Carrying.{Carries, AreCarried, last_clock}
 use Rattle.board_table.proofs.Carried.{carried_append}
 use Rattle.board.specs.SendingMany.{IsDiffTo, AreFilled}
 
--- the recorder of this instance may go on with so many sends, directly after one
+-- the recorder of instance p may record `many` more sends, directly after a send
 pub record GoesOn (p many : ℕ) (r : RecorderView) : Type 0 where
   pub its : r.line.instance ≡ p
   pub among : p ≤ length r.knowledge
@@ -25,7 +25,7 @@ pub record GoesOn (p many : ℕ) (r : RecorderView) : Type 0 where
   pub short : length r.line.events + many ≤ MAX_EVENTS
   pub room : many ≤ r.room
 
--- after one of them
+-- after one of these sends
 pub goes_on : (p many to : ℕ) (name : List ℕ) (r : RecorderView) → 1 ≤ p → r.line.instance ≡ p → p ≤ length r.knowledge → length r.line.events + suc many ≤ MAX_EVENTS → suc many ≤ r.room → GoesOn p many (after_send r to name)
 goes_on p many to name r low its among short room =
     let longer = length_push r.line.events (send_event to name) in
@@ -39,7 +39,7 @@ goes_on p many to name r low its among short room =
       room = omega (arith, room);
     }
 
--- the clock of the last of several sends is what is known after them
+-- the clock of the last of several sends is the recorder's knowledge after them
 last_known : (r : RecorderView) (to : ℕ) (ys : List Parcel) → HaveClocks r to ys → last_clock r.knowledge ys ≡ (after_sends r to (names ys)).knowledge
 last_known r to [] clocks = refl
 last_known r to (y ∷ ys) clocks = ap (λ (c : List ℕ). last_clock c ys) clocks.0 ∙ last_known (after_send r to y.message.name) to ys clocks.1
@@ -48,7 +48,7 @@ last_known r to (y ∷ ys) clocks = ap (λ (c : List ℕ). last_clock c ys) cloc
 pub filled_none : (r : RecorderView) (to : ℕ) → AreFilled r.knowledge r to [] [] r
 filled_none r to = record { parcels = []; messages_are = refl; clocks = tt; carried = tt; recorded = refl }
 
--- one slot more
+-- one more slot
 pub filled_more : (r v : RecorderView) (to : ℕ) (ms : List Content) (xs : List Packet) (m : Content) (x : Packet) → AreFilled r.knowledge r to ms xs v → Carries v.knowledge x (record { message = m; clock = send_clock v }) → AreFilled r.knowledge r to (ms ++ m ∷ []) (xs ++ x ∷ []) (after_send v to m.name)
 filled_more r v to ms xs m x are carries =
     let y : Parcel = record { message = m; clock = send_clock v } in
@@ -62,7 +62,7 @@ filled_more r v to ms xs m x are carries =
       recorded = ap (λ (z : RecorderView). after_send z to m.name) are.recorded ∙ sym (after_sends-push r to (names ys) m.name) ∙ ap (after_sends r to) (sym (map-append (λ (z : Parcel). z.message.name) ys (y ∷ [])));
     }
 
--- a first one before them, over another base
+-- a first slot before them, over another base
 pub filled_first : (base : List ℕ) (r v : RecorderView) (to : ℕ) (m : Content) (ms : List Content) (diff : List Change) (xs : List Packet) → IsDiffTo base diff (send_clock r) → AreFilled (send_clock r) (after_send r to m.name) to ms xs v → AreFilled base r to (m ∷ ms) (record { message = m; diff = diff } ∷ xs) v
 filled_first base r v to m ms diff xs first are = record {
   parcels = record { message = m; clock = send_clock r } ∷ are.parcels;

@@ -77,6 +77,6 @@ module _ (l : LaneView) (m w : Mine) (o : Incoming) (legal : IsLegal l.instances
     pub nothing : (v : Mine) → PutsBack w v → word / 2 ≤ o.taken → word % 2 ≢ 1 → HasNone l false m v
     nothing v back less even = none v false back less (is_clear (is_closed (held w).seen l.sender l.receiver) (λ e. even (omega (arith, bit_is))))
 
-  -- the end is the same when the slots are back
+  -- the end stays the same when the slots are back
   pub back_end : (v : Mine) (u : Incoming) → PutsBack w v → IsIncoming l.instances (held w).seen l.receiver l.sender u → IsIncoming l.instances (held v).seen l.receiver l.sender u
   back_end v u back old = subst (λ (x : Mine). IsIncoming l.instances (held x).seen l.receiver l.sender u) (sym back) old

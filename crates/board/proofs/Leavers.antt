@@ -21,7 +21,7 @@ none_there y never = cc
 some_one : (x y : PostView) → Some x ≡ Some y → x ≡ y
 some_one x y same = cc
 
--- what is left was there
+-- a post that is left was there before
 pub kept_there : (posts : List PostView) (place i : ℕ) (post : PostView) → slice_get (take place posts ++ drop (suc place) posts) i ≡ Some post → IsAmong posts post
 kept_there [] zero i post at = absurd (none_there post at)
 kept_there [] (suc place) i post at = absurd (none_there post at)
@@ -29,7 +29,7 @@ kept_there (x ∷ posts) zero i post at = (suc i, at)
 kept_there (x ∷ posts) (suc place) zero post at = (0, at)
 kept_there (x ∷ posts) (suc place) (suc i) post at = let its = kept_there posts place i post at in (suc its.0, its.1)
 
--- another one than that which was taken is still there
+-- a post other than the one taken is still there
 pub others_there : (posts : List PostView) (place : ℕ) (taken : PostView) (p : ℕ) → slice_get posts place ≡ Some taken → p ≢ taken.number → HasPost posts p → HasPost (take place posts ++ drop (suc place) posts) p
 others_there [] place taken p at ne (i, post, there, same) = absurd (none_there post there)
 others_there (x ∷ posts) zero taken p at ne (zero, post, there, same) = absurd (ne (sym same ∙ ap (λ (z : PostView). z.number) (some_one post taken (sym there ∙ at))))
@@ -44,7 +44,7 @@ no_element x never = cc
 one_element : {X : Type 0} (x y : X) → Some x ≡ Some y → x ≡ y
 one_element x y same = cc
 
--- an element of a list with one more
+-- an element of a list with one more at its end
 at_push : {X : Type 0} (xs : List X) (x y : X) (i : ℕ) → slice_get (xs ++ x ∷ []) i ≡ Some y → (slice_get xs i ≡ Some y) ⊎ ((i ≡ length xs) × (x ≡ y))
 at_push [] x y zero at = inr (refl, one_element x y at)
 at_push [] x y (suc i) at = absurd (no_element y at)
@@ -63,7 +63,7 @@ module _ (n k : ℕ) (table : TableId) (h : List Occurrence) (place : ℕ) where
     line_is : (line : LineView) → line ≡ record { instance = post.number; events = line_of post } → line ≡ history_line h (place + 1)
     line_is line same = same ∙ ap₂ (λ (p : ℕ) (g : List Occurrence). record { instance = p; events = chart_of g p }) number met.seen
 
-    -- a list for the line that is next has room for its events
+    -- a list for the next line has room for its events
     pub line_fits : (events : Vec Event) → IsForLine h (place + 1) events → length (line_of post) ≤ vec_capacity events
     line_fits events its = omega (arith, its.exact, ap length (ap₂ (λ (p : ℕ) (g : List Occurrence). chart_of g p) number met.seen))
 

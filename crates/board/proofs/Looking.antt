@@ -17,7 +17,7 @@ use Rattle.board.proofs.DidLemmas.{did_see, waiting_many}
 use Rattle.board.proofs.Finding.{nil_of, bit_small, is_set, is_clear}
 use Rattle.board.proofs.ReceiveAnswers.{did_onward}
 
--- a message that is known of waits
+-- a known message waits
 pub known_waits : (n k : ℕ) (h : List Occurrence) (p q : ℕ) (o : Incoming) → IsLegal n k h → IsIncoming n h p q o → o.taken < o.known_put → 0 < length (waiting h q p)
 known_waits n k h p q o legal end more = let now = waiting_many n k h q p legal in omega (arith, more, now, end.taken, end.known)
 
@@ -44,7 +44,7 @@ module _ (l : LaneView) (m w : Mine) (o : Incoming) (legal : IsLegal l.instances
   pub look_fresh : IsIncoming l.instances (held w).seen l.receiver l.sender (record o { known_put = word / 2 })
   look_fresh = let kept = look_end in record { taken = kept.taken; known = omega (arith, put_is); base = kept.base; long = kept.long }
 
-  -- the word isn't less than what was received says
+  -- the word is at least twice the number of received messages
   pub look_twice : 2 * o.taken ≤ word
   look_twice =
       let now = waiting_many l.instances l.capacity (held w).seen l.sender l.receiver looks.sees.legal in
@@ -73,7 +73,7 @@ module _ (l : LaneView) (m w : Mine) (o : Incoming) (legal : IsLegal l.instances
   pub look_nothing : word / 2 ≤ o.taken → word % 2 ≢ 1 → HasNone l false m w
   look_nothing less even = none false less (is_clear (is_closed (held w).seen l.sender l.receiver) (λ e. even (omega (arith, e, bit_is))))
 
-  -- what is found then
+  -- what the look finds
   module _ (v : Mine) (did : Did l.instances l.capacity l.receiver (held w) (held v) (held v).seen []) where
     pub then_did : Did l.instances l.capacity l.receiver (held m) (held v) (held v).seen []
     then_did = did_onward l.instances l.capacity l.receiver (held m) (held w) (held v) (held v).seen [] look_did did

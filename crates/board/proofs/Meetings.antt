@@ -21,7 +21,7 @@ none_there x never = cc
 some_one : {X : Type 0} (x y : X) → Some x ≡ Some y → x ≡ y
 some_one x y same = cc
 
--- what isn't put stays
+-- the other elements stay
 pub set_apart : {X : Type 0} (xs : List X) (j i : ℕ) (e : X) → i ≢ j → slice_get (set xs j e) i ≡ slice_get xs i
 set_apart [] j i e ne = refl
 set_apart (x ∷ xs) zero zero e ne = absurd (ne refl)
@@ -29,21 +29,21 @@ set_apart (x ∷ xs) zero (suc i) e ne = refl
 set_apart (x ∷ xs) (suc j) zero e ne = refl
 set_apart (x ∷ xs) (suc j) (suc i) e ne = set_apart xs j i e (λ same. ne (ap suc same))
 
--- what is there is within
+-- the place of an element is less than the length
 pub at_within : {X : Type 0} (xs : List X) (i : ℕ) (x : X) → slice_get xs i ≡ Some x → i < length xs
 at_within [] i x at = absurd (none_there x at)
 at_within (y ∷ xs) zero x at = omega arith
 at_within (y ∷ xs) (suc i) x at = let its = at_within xs i x at in omega (arith, its)
 
--- one is at a place
+-- only one post is at a place
 pub one_ahead : (posts : List PostView) (i : ℕ) (x y : PostView) → slice_get posts i ≡ Some x → slice_get posts i ≡ Some y → x ≡ y
 one_ahead posts i x y at there = some_one x y (sym at ∙ there)
 
--- what was read at a place is there
+-- the post that was read at a place is there
 pub one_post : (posts : List PostView) (i : ℕ) (x y : PostView) → x ≡ get_or posts i x → slice_get posts i ≡ Some y → x ≡ y
 one_post posts i x y is at = one_ahead posts i x y (slice_get-get_or posts i x (at_within posts i y at) ∙ ap (λ (post : PostView). Some post) (sym is)) at
 
--- lists are one where each element is
+-- lists of one length are equal if all their elements are
 pub same_map : {X : Type 0} (f : X → X) (xs ys : List X) → length ys ≡ length xs → ((i : ℕ) (x : X) → slice_get xs i ≡ Some x → slice_get ys i ≡ Some (f x)) → ys ≡ map f xs
 same_map f [] [] many each = refl
 same_map f [] (y ∷ ys) many each = absurd (omega (arith, many))
@@ -51,11 +51,11 @@ same_map f (x ∷ xs) [] many each = absurd (omega (arith, many))
 same_map f (x ∷ xs) (y ∷ ys) many each =
     ap (λ z. z ∷ ys) (some_one y (f x) (each 0 x refl)) ∙ ap (λ zs. f x ∷ zs) (same_map f xs ys (omega (arith, many)) (λ i z at. each (suc i) z at))
 
--- of a history and its beginning the longer is the history
+-- the longer of a history and its beginning is the history
 pub longer_settled : (g h : List Occurrence) → Begins g h → longer g h ≡ h
 longer_settled g h (more, same) = ⊎_elim (λ its. its.0) (λ its. absurd (omega (arith, its.1, ap length same, length-append more g))) (longer_is g h)
 
--- one post more has heard
+-- one more post has heard the note
 pub heard_next : (i : ℕ) (old now : List PostView) (first known after : List Occurrence) (x y : PostView) → HaveHeard i old first now known → slice_get now i ≡ Some x → Hears known x y → after ≡ y.seen → HaveHeard (suc i) old first (set now i y) after
 heard_next i old now first known after x y its at hears same = record {
   as_many = length-set now i y ∙ its.as_many;
@@ -100,7 +100,7 @@ heard_next i old now first known after x y its at hears same = record {
     settle j b lt before seen (inl (here, new)) = ap (λ z. z.seen) (sym new) ∙ seen
     settle j b lt before seen (inr (ne, there)) = before j b (omega (arith, lt, ne)) there
 
--- before the first has
+-- before the first post has heard it
 pub heard_none : (old : List PostView) (first : List Occurrence) → HaveHeard 0 old first old first
 heard_none old first = record {
   as_many = refl;
@@ -109,7 +109,7 @@ heard_none old first = record {
   settled = λ all. (refl, λ i y lt. absurd (omega (arith, lt)));
 }
 
--- after two rounds they have met
+-- after two rounds the posts have met
 pub have_met : (old mid new : List PostView) (first known last : List Occurrence) → HaveHeard (length old) old first mid known → HaveHeard (length mid) mid known new last → HaveMet old new
 have_met old mid new first known last one two = record {
   history = known;
@@ -165,7 +165,7 @@ note_for t u m w x y one two its = record {
       (subst (λ (z : ℕ). IsNote x.board.size z w) (sym one.note.post.capacity ∙ two.note.post.capacity) its.note);
 }
 
--- after one round too, where the note told of all that they had seen
+-- one round is enough if the note had all that they had seen
 module _ (old new : List PostView) (first known : List Occurrence) (one : HaveHeard (length old) old first new known) (all : (i : ℕ) (x : PostView) → slice_get old i ≡ Some x → Begins x.seen first) where
   at_new : (i : ℕ) (x : PostView) → slice_get old i ≡ Some x → slice_get new i ≡ Some (get_or new i x)
   at_new i x at = let lt = at_within old i x at in slice_get-get_or new i x (omega (arith, lt, one.as_many))
@@ -199,7 +199,7 @@ still_notes old mid first known t m its notes i post at =
     let note = notes i (get_or old i post) was in
     subst (λ (z : PostView). IsNoteOf t m z) (sym rest) (record { same = note.same; note = note.note })
 
--- Whether all posts are there.
+-- Whether all posts of the board are there.
 
 pub are_all : (posts : List PostView) (x : PostView) → slice_get posts 0 ≡ Some x → ((p : ℕ) → 1 ≤ p → p ≤ x.board.size → HasPost posts p) → AreAll posts
 are_all [] x at each = absurd (none_there x at)

@@ -1,4 +1,5 @@
--- Posts of one board: new ones, those at its words, those that are left when the last have left, and those that have met.
+-- Posts of one board: new posts, posts with its words, posts that remain when the last ones have left, and posts that
+-- have met.
 use Rattle.std.proofs.Common.{◌≡◌, ℕ, suc, zero, List, [], ◌∷◌, ◌++◌, refl, sym, ap, ◌∙◌, subst}
 use Rattle.std.specs.Prelude.{slice_get, None, Some, map, Result, Ok, Err}
 use Rattle.std.proofs.lemmas.Option.{slice_get_within}
@@ -17,7 +18,7 @@ none_there y never = cc
 some_one : (x y : PostView) → Some x ≡ Some y → x ≡ y
 some_one x y same = cc
 
--- one of the posts is of the same board
+-- one of the posts is of the same board as this post
 record HasFellow (posts : List PostView) (post : PostView) : Type 0 where
   place : ℕ
   fellow : PostView
@@ -30,7 +31,7 @@ fellows old new each one i j x y at_i at_j =
     let b = each j y at_j in
     sym a.same ∙ one a.place b.place a.fellow b.fellow a.at b.at ∙ b.same
 
--- a board's posts
+-- the new posts of a board
 pub one_board-new : (board : BoardView) (posts : List PostView) → AreNewPosts board posts → AreOfOneBoard posts
 one_board-new board posts new i j x y at_i at_j = ap (λ (post : PostView). post.board) (new.each i x at_i) ∙ sym (ap (λ (post : PostView). post.board) (new.each j y at_j))
 
@@ -47,16 +48,16 @@ mapped f keeps (x ∷ xs) (suc i) y at =
     let its = mapped f keeps xs i y at in
     record { place = suc its.place; fellow = its.fellow; at = its.at; same = its.same }
 
--- they have met
+-- the posts have met
 pub one_board-met : (old new : List PostView) → HaveMet old new → AreOfOneBoard old → AreOfOneBoard new
 one_board-met old new met one = fellows old new (λ i y at. mapped (λ (post : PostView). record post { seen = met.history }) (λ x. refl) old i y (subst (λ (posts : List PostView). slice_get posts i ≡ Some y) met.seen at)) one
 
--- they meet, or not
+-- the posts meet, or are refused
 pub one_board-meets : (old new : List PostView) (answer : Result (Unit {0}) MeetError) → MeetsAll old answer new → AreOfOneBoard old → AreOfOneBoard new
 one_board-meets old new (Ok done) its one = one_board-met old new its.1 one
 one_board-meets old new (Err error) its one = subst (λ (posts : List PostView). AreOfOneBoard posts) (sym its.1) one
 
--- posts at the same words are of one board
+-- posts with the same words are of one board
 at_words : (key : Shape) (table : TableId) (b : BoardView) → b.table ≡ table → key.instances ≡ b.size → key.capacity ≡ b.capacity → b ≡ record { table = table; size = key.instances; capacity = key.capacity }
 at_words key table b its size capacity =
     ap (λ (t : TableId). record { table = t; size = b.size; capacity = b.capacity }) its

@@ -1,4 +1,4 @@
--- What a sender has when its call only saw something.
+-- What a sender has after a call that only saw something.
 use Rattle.std.proofs.Common.{◌≡◌, ℕ, ◌<◌, List, [], length, sym, ap, ◌∙◌, arith}
 use Rattle.chart.specs.declared.history.Occurrence.{Occurrence}
 use Rattle.chart.specs.declared.line.TheConstants.{MAX_EVENTS}
@@ -13,11 +13,11 @@ use Rattle.board.specs.declared.ends.Outgoing.{Outgoing}
 use Rattle.board.specs.Known.{IsOutgoing, Did}
 use Rattle.board.proofs.Claiming.{sent_within}
 
--- the recorder knows of as many instances as there are
+-- the recorder's knowledge has an entry for each instance
 pub known_many : (n k : ℕ) (h : List Occurrence) (p : ℕ) (r : RecorderView) → IsLegal n k h → IsRecorder n h p r → length r.knowledge ≡ n
 known_many n k h p r legal its = ap length its.knowledge ∙ (carried_right n k h legal).known_long p
 
--- where the call only saw
+-- the call only saw something
 module _ (n k p : ℕ) (e f : Held) (legal : IsLegal n k e.seen) (its : own e.seen p ≡ e.made) (did : Did n k p e f f.seen []) where
   pub saw_same : own f.seen p ≡ own e.seen p
   saw_same = did.own ∙ did.made ∙ sym its
@@ -31,6 +31,6 @@ module _ (n k p : ℕ) (e f : Held) (legal : IsLegal n k e.seen) (its : own e.se
   pub closed_saw : (q : ℕ) → is_closed f.seen p q ≡ is_closed e.seen p q
   closed_saw q = same_closed e.seen f.seen p q saw_same
 
--- fewer were put than a line has events
+-- fewer messages were put on a lane than a line may have events
 pub put_less : (n : ℕ) (h : List Occurrence) (p q : ℕ) (o : Outgoing) → IsOutgoing n h p q o → length (chart_of h p) < MAX_EVENTS → o.put < MAX_EVENTS
 put_less n h p q o end short = let within = sent_within h p q in omega (arith, end.put)

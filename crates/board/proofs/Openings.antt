@@ -16,7 +16,7 @@ use Rattle.board.specs.Views.{BoardView, PostView}
 use Rattle.board.specs.Boards.{AreNewEnds, FirstPosts, AreLeft, new_seat, new_seats, new_outgoing, new_incoming, new_post}
 use Rattle.board.proofs.PostLemmas.{knowledge}
 
--- An end of a lane on which nothing was sent.
+-- The ends of a lane on which nothing was sent.
 
 outgoing_new : (n p q : ℕ) → IsOutgoing n [] p q (new_outgoing n)
 outgoing_new n p q = record { put = refl; known = omega arith; unsent = refl; base = refl; long = length-replicate n 0 }
@@ -43,14 +43,14 @@ post_at n k p outgoing incoming sized low high ends = record {
   made = refl;
 }
 
--- a post is made
+-- a new post
 pub post_new : (me : Mine) (n k p : ℕ) (r : RecorderView) (outgoing : List Outgoing) (incoming : List Incoming) → IsSized n k → ◌≡◌ {A = Mine} me (new_seat n k p) → 1 ≤ p → p ≤ n → AreNewEnds n n outgoing incoming → r ≡ new_recorder p n → IsPost me n k p (knowledge r 0 outgoing incoming)
 post_new me n k p r outgoing incoming sized seat low high ends recorder =
     subst (λ (m : Mine). IsPost m n k p (knowledge r 0 outgoing incoming)) (sym seat)
     (subst (λ (u : RecorderView). IsPost (new_seat n k p) n k p (knowledge u 0 outgoing incoming)) (sym recorder)
     (post_at n k p outgoing incoming sized low high ends))
 
--- the first of the posts that are left
+-- the seat of the next post, and of the posts after it
 pub deal_next : (n k dealt next : ℕ) (m : Mine) → AreLeft n k dealt m → dealt < n → suc dealt ≡ next → (m.0 ≡ held m ∷ later_helds m) × (held m ≡ new_held n k (suc dealt)) × AreLeft n k next (later_helds m, m.1)
 deal_next n k dealt next m its less onward = go its.left its.as_many its.seats
   where
@@ -59,7 +59,7 @@ deal_next n k dealt next m its less onward = go its.left its.as_many its.seats
     go (suc left) many seats = subst (λ (x : Mine). (x.0 ≡ held x ∷ later_helds x) × (held x ≡ new_held n k (suc dealt)) × AreLeft n k next (later_helds x, x.1)) (sym seats)
         (refl, refl, subst (λ (z : ℕ). AreLeft n k z (new_seats n k (suc (suc dealt)) left)) onward (record { left = left; as_many = omega (arith, many); seats = refl }))
 
--- one post more is dealt a seat
+-- one more post is dealt a seat
 pub first_next : (many next : ℕ) (board : BoardView) (posts : List PostView) (post : PostView) → FirstPosts many board posts → post ≡ new_post board (suc many) → suc many ≡ next → FirstPosts next board (posts ++ post ∷ [])
 first_next many next board posts post its new onward = record {
   as_many = length_push posts post ∙ omega (arith, its.as_many, onward);
@@ -74,7 +74,7 @@ board_of n k key table number m same board = record {
   slots = subst (λ e. table.slots ≡ slot_count e.instances e.capacity) (sym same) board.slots;
 }
 
--- before the first
+-- no post yet
 pub first_none : (board : BoardView) → FirstPosts 0 board []
 first_none board = record { as_many = refl; each = λ i x at. absurd (none_there x at) }
   where

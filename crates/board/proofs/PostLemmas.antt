@@ -20,7 +20,7 @@ use Rattle.board.proofs.SeveralSends.{sends_after, sends_are, ends_sends}
 abbrev pub knowledge : RecorderView → ℕ → List Outgoing → List Incoming → Knowledge
 knowledge recorder region outgoing incoming = record { recorder = recorder; region = region; outgoing = outgoing; incoming = incoming }
 
--- an element of a list in which one was put is this one, or another that was there before
+-- an element of a list after one was put into it is this one, or another that was there before
 pub at_set : {X : Type 0} (xs : List X) (j i : ℕ) (e o : X) → slice_get (set xs j e) i ≡ Some o → ((i ≡ j) × (e ≡ o)) ⊎ ((i ≢ j) × (slice_get xs i ≡ Some o))
 at_set [] j i e o at_i = absurd (none_there at_i)
   where
@@ -35,7 +35,7 @@ at_set (x ∷ xs) (suc j) (suc i) e o at_i = go (at_set xs j i e o at_i)
     go (inl (here, same)) = inl (ap suc here, same)
     go (inr (ne, there)) = inr ((λ same. ne (omega arith)), there)
 
--- an end is put in its place
+-- an end is put at its place
 pub with_outgoing : (n : ℕ) (h : List Occurrence) (p j : ℕ) (e : Outgoing) (outgoing : List Outgoing) (incoming : List Incoming) → j < length outgoing → AreEndsBut n h p (suc j) 0 outgoing incoming → IsOutgoing n h p (suc j) e → AreEnds n h p (set outgoing j e) incoming
 with_outgoing n h p j e outgoing incoming within old its = record {
   as_many = length-set outgoing j e ∙ old.as_many;
@@ -49,7 +49,7 @@ with_outgoing n h p j e outgoing incoming within old its = record {
     go i o ne (inr (other, there)) = old.sends i o ne (λ same. other (omega arith)) there
 
 module _ (m w : Mine) (n k p : ℕ) (r u : RecorderView) (region : ℕ) (outgoing : List Outgoing) (incoming : List Incoming) (post : IsPost m n k p (knowledge r region outgoing incoming)) (rests : Rests n k p w) (recorder : IsRecorder n (held w).seen p u) (j : ℕ) (e : Outgoing) (within : j < length outgoing) (end : IsOutgoing n (held w).seen p (suc j) e) where
-  -- the call that touched this end saw, and made nothing
+  -- the call that changed this end only saw, and made nothing
   pub post_saw : Did n k p (held m) (held w) (held w).seen [] → IsPost w n k p (knowledge u region (set outgoing j e) incoming)
   post_saw did =
       let same = saw_same n k p (held m) (held w) post.knows.legal post.made did in
@@ -68,7 +68,7 @@ module _ (m w : Mine) (n k p : ℕ) (r u : RecorderView) (region : ℕ) (outgoin
         made = did.own;
       }
 
-  -- it sent these messages
+  -- the call sent these messages
   pub post_sends : (before : List Occurrence) (ms : List Content) → region ≡ 0 → Did n k p (held m) (held w) before (sends_of p (suc j) ms) → IsPost w n k p (knowledge u region (set outgoing j e) incoming)
   post_sends before ms outside did =
       let same : own before p ≡ own (held m).seen p = did.own_before ∙ sym post.made in

@@ -1,10 +1,10 @@
--- What is told of sends of several messages, made one after another.
+-- The answers for sends of several messages, made one after another.
 use Rattle.std.proofs.Common.{◌≡◌, ℕ, zero, suc, ◌+◌, ◌<◌, List, [], ◌∷◌, ◌++◌, length, take, ap, ◌∙◌, subst, arith}
 use Rattle.chart.specs.Messages.{Content}
 use Rattle.chart.specs.declared.instance.EventNo.{EventNo}
 use Rattle.board.specs.Sending.{numbered}
 
--- the number of one event more
+-- the number of one more event
 numbered_push : (p index place : ℕ) (messages : List Content) → place < length messages → numbered p index (take (suc place) messages) ≡ numbered p index (take place messages) ++ record { instance = p; index = index + place } ∷ []
 numbered_push p index place [] within = absurd (omega arith)
 numbered_push p index zero (m ∷ ms) within = let same : index ≡ index + zero = omega arith in ap (λ (i : ℕ). record { instance = p; index = i } ∷ []) same

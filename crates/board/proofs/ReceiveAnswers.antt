@@ -37,7 +37,7 @@ use Rattle.board.proofs.OneSend.{saw_same, line_saw, recorder_saw}
 use Rattle.board.proofs.PostLemmas.{knowledge, at_set}
 use Rattle.board.proofs.SendAnswers.{did_makes}
 
--- the call saw, and then did this
+-- the call first only saw, and then did this
 pub did_onward : (n k p : ℕ) (e f g : Held) (before events : List Occurrence) → Did n k p e f f.seen [] → Did n k p f g before events → Did n k p e g before events
 did_onward n k p e f g before events saw did = record {
   later = begins_onward e.seen f.seen before saw.later did.later;
@@ -57,17 +57,17 @@ may_one n k p q c h legal may = go (first_message (waiting h q p) legal.0.1)
     go : (m : Content) × (rest : List Content) × (waiting h q p ≡ m ∷ rest) → MayHaveRegion (chart_of (Receive p q c ∷ h) p) c
     go (m, rest, first) = subst (λ l. MayHaveRegion l c) (sym (line_after_receive h p q c m rest first)) (may-again (chart_of h p) (receive_event q m.name c) may)
 
--- and after several
+-- and after several receives
 may_several : (n k p q c many : ℕ) (h : List Occurrence) → IsLegal n k (replicate (suc many) (Receive p q c) ++ h) → MayHaveRegion (chart_of h p) c → MayHaveRegion (chart_of (replicate (suc many) (Receive p q c) ++ h) p) c
 may_several n k p q c zero h legal may = may_one n k p q c h legal may
 may_several n k p q c (suc many) h legal may = may_one n k p q c (replicate (suc many) (Receive p q c) ++ h) legal (may_several n k p q c many h legal.1 may)
 
--- the other ends, when several were received on one
+-- the other ends after several receives at one end
 ends_several : (n p q to_one c : ℕ) (outgoing : List Outgoing) (incoming : List Incoming) (many : ℕ) (h : List Occurrence) → AreEndsBut n h p to_one q outgoing incoming → AreEndsBut n (replicate many (Receive p q c) ++ h) p to_one q outgoing incoming
 ends_several n p q to_one c outgoing incoming zero h old = old
 ends_several n p q to_one c outgoing incoming (suc many) h old = ends_received n (replicate many (Receive p q c) ++ h) p q to_one c outgoing incoming (ends_several n p q to_one c outgoing incoming many h old)
 
--- an end is put in its place
+-- an end is put at its place
 with_incoming : (n : ℕ) (h : List Occurrence) (p j : ℕ) (e : Incoming) (outgoing : List Outgoing) (incoming : List Incoming) → j < length incoming → AreEndsBut n h p 0 (suc j) outgoing incoming → IsIncoming n h p (suc j) e → AreEnds n h p outgoing (set incoming j e)
 with_incoming n h p j e outgoing incoming within old its = record {
   as_many = old.as_many;
@@ -88,7 +88,7 @@ module _ (m : Mine) (n k p : ℕ) (r : RecorderView) (region : ℕ) (outgoing : 
       let its : IsIncoming n (held m).seen p (suc j) i = post.knows.ends.takes j i (λ e. ne (place ∙ e)) (λ e. absurd (omega arith)) (slice_get-get_or incoming j i within ∙ ap Some (sym read)) in
       subst (λ (x : ℕ). IsIncoming n (held m).seen p x i) (sym place) its
 
-  -- what it has when it saw s
+  -- the post after it saw what s has seen
   module _ (s : Mine) (did : Did n k p (held m) (held s) (held s).seen []) where
     pub recorder_then : IsRecorder n (held s).seen p r
     recorder_then = recorder_saw n k p (held m) (held s) post.knows.legal post.made did r post.knows.own.recorder
@@ -96,12 +96,12 @@ module _ (m : Mine) (n k p : ℕ) (r : RecorderView) (region : ℕ) (outgoing : 
     pub region_then : MayHaveRegion (chart_of (held s).seen p) region
     region_then = subst (λ l. MayHaveRegion l region) (sym (line_saw n k p (held m) (held s) post.knows.legal post.made did)) post.knows.own.region_fits
 
-    -- it may receive what it found
+    -- the post may receive the found messages
     pub may_receive : (from : ℕ) (e : Incoming) → AreTwo n p from → HasMessages (record { instances = n; capacity = k; sender = from; receiver = p }) s → IsIncoming n (held s).seen p from e → MayReceive (record { instances = n; capacity = k; sender = from; receiver = p }) region s e r
     may_receive from e two found end = record { found = found; legal = did.legal; own = did.own; incoming = end; recorded = recorder_then; coregion = region_then; two = two }
 
   module _ (w : Mine) (u : RecorderView) (rests : Rests n k p w) (recorder : IsRecorder n (held w).seen p u) (j : ℕ) (e : Incoming) (within : j < length incoming) (end : IsIncoming n (held w).seen p (suc j) e) where
-    -- the call that touched this end saw, and made nothing
+    -- the call that changed this end only saw, and made nothing
     pub post_looked : Did n k p (held m) (held w) (held w).seen [] → IsPost w n k p (knowledge u region outgoing (set incoming j e))
     post_looked did =
         let same = saw_same n k p (held m) (held w) post.knows.legal post.made did in
@@ -120,7 +120,7 @@ module _ (m : Mine) (n k p : ℕ) (r : RecorderView) (region : ℕ) (outgoing : 
           made = did.own;
         }
 
-    -- it received one message or more
+    -- the call received one message or more
     pub post_received : (before : List Occurrence) (many : ℕ) → Did n k p (held m) (held w) before (replicate (suc many) (Receive p (suc j) region)) → IsPost w n k p (knowledge u region outgoing (set incoming j e))
     post_received before many did =
         let same : own before p ≡ own (held m).seen p = did.own_before ∙ sym post.made in
@@ -143,7 +143,7 @@ module _ (m : Mine) (n k p : ℕ) (r : RecorderView) (region : ℕ) (outgoing : 
           made = did.own;
         }
 
-  -- What it answers.
+  -- What the call answers.
   module _ (table : TableId) (from : ℕ) (two : AreTwo n p from) where
     abbrev lane : LaneView
     lane = record { instances = n; capacity = k; sender = from; receiver = p }

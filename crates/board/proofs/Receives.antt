@@ -51,22 +51,22 @@ use Rattle.board.proofs.Closes.{line_short}
 use Rattle.board.proofs.Finding.{nil_of}
 use Rattle.board.proofs.OneSend.{known_many}
 
--- the only element of one list is that of the other
+-- equal lists of one element have equal elements
 one_is : {X : Type 0} (x y : X) → x ∷ [] ≡ y ∷ [] → x ≡ y
 one_is x y e = ap (λ xs. get_or xs 0 x) e
 
--- so many and one more
+-- the first `r` elements and one more
 take_first : {X : Type 0} (r : ℕ) (xs : List X) (y : X) (ys : List X) → drop r xs ≡ y ∷ ys → take (suc r) xs ≡ take r xs ++ y ∷ []
 take_first zero xs y ys e = ap (take 1) e
 take_first (suc r) [] y ys e = absurd (omega (arith, ap length e))
 take_first (suc r) (x ∷ xs) y ys e = ap (λ zs. x ∷ zs) (take_first r xs y ys e)
 
--- what is so of all is so of those behind some
+-- what holds for all elements holds for the last ones
 all_behind : {X : Type 0} (P : X → Type 0) (xs ys : List X) → All P (xs ++ ys) → All P ys
 all_behind P [] ys are = are
 all_behind P (x ∷ xs) ys are = all_behind P xs ys (All-tail P x (xs ++ ys) are)
 
--- of each that a list was mapped to
+-- what holds for all elements of a mapped list holds for each image
 all_mapped : {X Y : Type 0} (P : Y → Type 0) (f : X → Y) (xs : List X) → All P (map f xs) → All (λ x. P (f x)) xs
 all_mapped P f [] are = All-nil (λ x. P (f x))
 all_mapped P f (x ∷ xs) are = All-cons (λ x. P (f x)) x xs (All-head P (f x) (map f xs) are) (all_mapped P f xs (All-tail P (f x) (map f xs) are))
@@ -85,7 +85,7 @@ received_these : (p q c : ℕ) (xs : List Parcel) (h : List Occurrence) → with
 received_these p q c [] h = refl
 received_these p q c (x ∷ xs) h = received_these p q c xs (Receive p q c ∷ h)
 
--- What a recorder has answered and is, with one receive more.
+-- A recorder's answers and state, with one more receive.
 
 module _ (q c : ℕ) where
   answers-push : (r : RecorderView) (xs : List Parcel) (reports : List ReportView) (x : Parcel) (report : ReportView) → AreAnswers r q c xs reports → IsReportOf (after_receives r q c xs reports) q c x.clock report → AreAnswers r q c (xs ++ x ∷ []) (reports ++ report ∷ [])
@@ -100,7 +100,7 @@ module _ (q c : ℕ) where
   after-push r (y ∷ ys) [] x report are = absurd are
   after-push r (y ∷ ys) (other ∷ reports) x report are = after-push (after_receive r q y.message.name c y.clock other) ys reports x report are.1
 
-  -- its line has an event more for each
+  -- its line has one more event for each receive
   after_many : (r : RecorderView) (xs : List Parcel) (reports : List ReportView) → AreAnswers r q c xs reports → length (after_receives r q c xs reports).line.events ≡ length r.line.events + length xs
   after_many r [] [] are = omega arith
   after_many r [] (other ∷ reports) are = absurd are
@@ -109,14 +109,14 @@ module _ (q c : ℕ) where
       let rest = after_many (after_receive r q y.message.name c y.clock other) ys reports are.1 in
       omega (arith, rest, length_push r.line.events (receive_event q y.message.name c))
 
-  -- and its room has a place fewer for each
+  -- its room has one place fewer for each receive
   room_many : (r : RecorderView) (xs : List Parcel) (reports : List ReportView) → AreAnswers r q c xs reports → (after_receives r q c xs reports).room ≡ r.room - length xs
   room_many r [] [] are = omega arith
   room_many r [] (other ∷ reports) are = absurd are
   room_many r (y ∷ ys) [] are = absurd are
   room_many r (y ∷ ys) (other ∷ reports) are = let rest = room_many (after_receive r q y.message.name c y.clock other) ys reports are.1 in omega (arith, rest)
 
-  -- and they are numbered by these
+  -- the receives are numbered by these events
   answers_numbered : (r : RecorderView) (xs : List Parcel) (reports : List ReportView) (index : ℕ) → length r.line.events + 1 ≡ index → AreAnswers r q c xs reports → map (λ (report : ReportView). report.receive) reports ≡ numbered r.line.instance index (map (λ (x : Parcel). x.message) xs)
   answers_numbered r [] [] index at are = refl
   answers_numbered r [] (other ∷ reports) index at are = absurd are
@@ -158,7 +158,7 @@ module _ (l : LaneView) (t : Mine) (o : Incoming) (taking : IsTaking l t o) (leg
   pub taken_few : o.taken ≤ MAX_EVENTS
   taken_few = omega (arith, taking.taken, taking.emptying.waiting, sent_within (held t).seen l.sender l.receiver, line_short l.instances l.capacity (held t).seen legal l.sender)
 
-  -- the first is taken out, as w has it
+  -- the first message is taken out, as w has it
   pub next_taken : (w : Mine) (x : Packet) (clock : List ℕ) (region : ℕ) (r v : RecorderView) (arrival : Arrival) → IsEmptying l w → held w ≡ held t → packets_out t ≡ x ∷ packets_out w → vacant_out w ≡ suc (vacant_out t) → IsRecorded (packets_out t) o.base r (record { from = l.sender; region = region; clock = clock; report = arrival.report }) v → arrival.from ≡ l.sender → arrival.message ≡ x.message
       → IsTaken l region (receiving t o r) arrival (receiving w (record o { taken = o.taken + 1; base = clock }) v)
   next_taken w x clock region r v arrival emptying kept took vacant recorded sender message =
@@ -204,7 +204,7 @@ module _ (l : LaneView) (region : ℕ) (s : Mine) (u : Incoming) (r : RecorderVi
         long = may.incoming.long;
       }
 
-  -- they are back, for this cause
+  -- the messages are back in their slots, for this cause
   pub back_unreceived : (t v : Mine) (error : TakeError) → held t ≡ held s → PutsBack t v → IsUnrecorded (length r.line.events) error → IsUnreceived l s v error
   back_unreceived t v error kept back cause =
       let same : v ≡ (at_rest (held s) ∷ [], []) = back ∙ ap (λ (e : Held). (at_rest e ∷ [], [])) kept in
@@ -214,13 +214,13 @@ module _ (l : LaneView) (region : ℕ) (s : Mine) (u : Incoming) (r : RecorderVi
         cause = subst (λ (i : ℕ). IsUnrecorded i error) (ap (λ (line : LineView). length line.events) may.recorded.line) cause;
       })
 
-  -- and the recorder is as it was
+  -- the recorder is as it was
   pub back_recorder : (t v : Mine) → held t ≡ held s → PutsBack t v → IsRecorder l.instances (held v).seen l.receiver r
   back_recorder t v kept back =
       subst (λ (x : Mine). IsRecorder l.instances (held x).seen l.receiver r) (sym back)
       (subst (λ (e : Held). IsRecorder l.instances e.seen l.receiver r) (sym kept) may.recorded)
 
-  -- none was taken out yet
+  -- no message was taken out yet
   pub none_taken : AreTaken l region (receiving s u r) [] (receiving s u r)
   none_taken =
       let none : received (held s).seen l.sender l.receiver ≡ received (held s).seen l.sender l.receiver + vacant_out s = omega (arith, may.found.untaken) in
@@ -238,12 +238,12 @@ module _ (l : LaneView) (region : ℕ) (s : Mine) (u : Incoming) (r : RecorderVi
         known = refl;
       }
 
-  -- These were taken out, as t has it.
+  -- These messages were taken out, as t has it.
   module _ (arrivals : List Arrival) (t : Mine) (o : Incoming) (v : RecorderView) (are : AreTaken l region (receiving s u r) arrivals (receiving t o v)) where
     pub as_many : length are.parcels ≡ length arrivals
     as_many = sym (length-map are.parcels (λ (x : Parcel). x.message)) ∙ ap length (sym are.messages) ∙ length-map arrivals (λ (arrival : Arrival). arrival.message)
 
-    -- none was, and so nothing is recorded
+    -- no message was taken out, and so nothing is recorded
     pub none_recorded : length arrivals ≡ 0 → v ≡ r
     none_recorded none = are.recorder_is ∙ go are.parcels (as_many ∙ none)
       where
@@ -262,7 +262,7 @@ module _ (l : LaneView) (region : ℕ) (s : Mine) (u : Incoming) (r : RecorderVi
         let grown = ap (λ (x : RecorderView). length x.line.events) are.recorder_is ∙ after_many l.sender region r are.parcels (reports_of arrivals) are.answers in
         omega (arith, line, grown, as_many)
 
-    -- what their receives make of a history that p's recorder is at
+    -- the history and recorder after their receives, from a history that the recorder has recorded
     receives_at : (h : List Occurrence) (more : List Parcel) → IsLegal l.instances l.capacity h → IsInstance l.instances h l.receiver r region → chart_of h l.receiver ≡ chart_of (held s).seen l.receiver → drop (received h l.sender l.receiver) (goods l.instances h l.sender l.receiver) ≡ are.parcels ++ more
         → Received l.instances l.capacity l.sender l.receiver region (length are.parcels) h (with_receives h l.receiver l.sender region are.parcels) (after_receives r l.sender region are.parcels (reports_of arrivals))
     receives_at h more legal_h its line next =
@@ -280,14 +280,14 @@ module _ (l : LaneView) (region : ℕ) (s : Mine) (u : Incoming) (r : RecorderVi
           region_fits = subst (λ (line : LineView). MayHaveRegion line.events region) (sym its.line) done.own.region_fits;
         })
 
-    -- one that is known of is still out
+    -- a known message is still out
     pub more_out : length arrivals < u.known_put - u.taken → 0 < length (packets_out t)
     more_out less =
         let there = ap (λ (e : Held). length (sent e.seen l.sender l.receiver)) are.kept in
         let here = ap (λ (e : Held). received e.seen l.sender l.receiver) are.kept in
         omega (arith, less, there, here, are.taking.emptying.waiting, are.out, may.incoming.taken, may.incoming.known)
 
-    -- the next one may be taken out
+    -- the next message may be taken out
     pub may_take : 0 < length (packets_out t) → length v.line.events < MAX_EVENTS → MayTake l region t o v
     may_take some short = record {
       taking = are.taking;
@@ -298,7 +298,7 @@ module _ (l : LaneView) (region : ℕ) (s : Mine) (u : Incoming) (r : RecorderVi
       two = may.two;
     }
 
-    -- one more is taken out
+    -- one more message is taken out
     pub one_more : (w : Mine) (i : Incoming) (x : RecorderView) (arrival : Arrival) → length v.line.events < MAX_EVENTS → IsTaken l region (receiving t o v) arrival (receiving w i x) → AreTaken l region (receiving s u r) (arrivals ++ arrival ∷ []) (receiving w i x)
     one_more w i x arrival less its =
         let reports = map-append (λ (a : Arrival). a.report) arrivals (arrival ∷ []) in
@@ -326,7 +326,7 @@ module _ (l : LaneView) (region : ℕ) (s : Mine) (u : Incoming) (r : RecorderVi
         let same = ap (λ (e : Held). length (chart_of e.seen l.receiver)) are.kept in
         omega (arith, same, are.out, line_then, are.short)
 
-    -- They are received, as w has it.
+    -- The messages are received, as w has it.
     module _ (w : Mine) (frees : Frees l region t w) where
       abbrev before : List Occurrence
       before = drop (length arrivals) (held w).seen
@@ -346,7 +346,7 @@ module _ (l : LaneView) (region : ℕ) (s : Mine) (u : Incoming) (r : RecorderVi
       same_before : own before l.receiver ≡ own (held s).seen l.receiver
       same_before = all_did.own_before ∙ sym may.own
 
-      -- what was sent before that, and what others sent since
+      -- the messages sent before that, and those that others sent since
       abbrev Grown : Type 0
       Grown = (more : List Parcel) × (goods l.instances before l.sender l.receiver ≡ goods l.instances (held s).seen l.sender l.receiver ++ more)
 
@@ -414,14 +414,14 @@ module _ (l : LaneView) (region : ℕ) (s : Mine) (u : Incoming) (r : RecorderVi
             goods_waiting l.instances before l.sender l.receiver (are.parcels ++ rest) waits_before ∙ map-append (λ (x : Parcel). x.message) are.parcels rest ∙ ap (λ (ms : List Content). ms ++ map (λ (x : Parcel). x.message) rest) (sym are.messages),
           )
 
-      -- those that wait are fewer by these
+      -- the waiting messages are fewer by the received ones
       pub more_waits : 0 < length (packets_out t) → 0 < length (waiting (held w).seen l.sender l.receiver)
       more_waits some =
           let here = ap (λ (e : Held). received e.seen l.sender l.receiver) are.kept in
           let there = ap (λ (e : Held). length (sent e.seen l.sender l.receiver)) are.kept in
           omega (arith, some, here, there, are.out, are.taking.emptying.waiting, taken_now, sent_now, waiting_many l.instances l.capacity (held w).seen l.sender l.receiver all_did.legal)
 
-      -- these were all that waited, if as many were known of as were sent
+      -- these were all waiting messages if as many were known as were sent
       all_waited : length arrivals ≡ u.known_put - u.taken → u.known_put ≡ length (sent (held s).seen l.sender l.receiver) → waiting (held s).seen l.sender l.receiver ≡ messages_of arrivals
       all_waited known all =
           let left = map (λ (x : Parcel). x.message) (waiting_goods l t) in
@@ -451,7 +451,7 @@ module _ (l : LaneView) (region : ℕ) (s : Mine) (u : Incoming) (r : RecorderVi
             reports = all_mapped (IsReportIn (chart_of (held w).seen)) (λ (a : Arrival). a.report) arrivals (all_behind (IsReportIn (chart_of (held w).seen)) r.reports (reports_of arrivals) all);
           }
 
-      -- the first alone
+      -- the first message only
       pub one_received : (arrival : Arrival) → arrivals ≡ arrival ∷ [] → IsReceived l region s arrival w
       one_received arrival alone =
           let all : AreReceived l region s (arrival ∷ []) w = subst (λ (xs : List Arrival). AreReceived l region s xs w) alone all_received in

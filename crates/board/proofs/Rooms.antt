@@ -1,4 +1,4 @@
--- A post whose recorder has other room.
+-- A post whose recorder has a different room.
 use Rattle.std.proofs.Common.{ℕ, List}
 use Rattle.line_recorder.specs.Recorders.{RecorderView, with_room}
 use Rattle.board_table.specs.Knowing.{Mine}

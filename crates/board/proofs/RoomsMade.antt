@@ -1,4 +1,4 @@
--- Room for what a board comes to, of whatever history its posts have in common.
+-- Room for what a gathering returns, for any history that the board's posts have in common.
 use Rattle.std.proofs.Common.{◌≡◌, ◌≢◌, ℕ, suc, ◌+◌, ◌-◌, ◌≤◌, ⊎_elim, Bool, true, false, cond, List, [], ◌∷◌, ◌++◌, length, map, refl, sym, ap, ap₂, ◌∙◌, subst, arith, append-nil, append_assoc}
 use Rattle.std.specs.Prelude.{filter, nat_lt, vec_capacity, Result, Ok, Err, IfOk, OnOk}
 use Rattle.std.specs.List.{range_with_len, flat_map}
@@ -31,7 +31,7 @@ use Rattle.board.proofs.Claiming.{sent_within}
 use Rattle.board.proofs.Closes.{line_short}
 use Rattle.board.proofs.DidLemmas.{waiting_many}
 
--- What waits on a lane, by its ends.
+-- The number of waiting messages on a lane, from its two ends.
 
 pub room_is : (n k q p : ℕ) (theirs mine h : List Occurrence) (o : Outgoing) (i : Incoming) (room : Room) → IsLegal n k h → AreTwo n q p → own h q ≡ own theirs q → own h p ≡ own mine p
     → IsOutgoing n theirs q p o → IsIncoming n mine p q i → room.lane ≡ record { instances = n; capacity = k; sender = q; receiver = p } → room.sender ≡ q → room.receiver ≡ p
@@ -54,7 +54,7 @@ room_is n k q p theirs mine h o i room legal two sender receiver out into lane f
       within_limit = omega (arith, taken, many, put, heard, waits, within, short);
     }
 
--- Lanes, one more.
+-- One more lane.
 
 lane_waits : (many : ℕ) (h : List Occurrence) (lane : LaneEnds) → many ≡ length (waiting h lane.sender lane.receiver) → is_waiting h lane ≡ nat_lt 0 many
 lane_waits many h lane same = ap (λ (i : ℕ). nat_lt 0 i) (sym same)
@@ -97,11 +97,11 @@ joint_legal n k posts are number low high h joint =
 pub back_waits : (n k : ℕ) (posts : List PostView) → AreOf n k posts → (number : ℕ) → 1 ≤ number → number ≤ n → (h : List Occurrence) → AreJoint h posts → is_waiting h (lane_to number number) ≡ false
 back_waits n k posts are number low high h joint = lane_waits 0 h (lane_to number number) (ap length (sym (waiting_back n k h (joint_legal n k posts are number low high h joint) number)))
 
--- the lanes of one sender to one receiver more
+-- the lanes of one sender, with one more receiver
 pub lanes_next : (lanes : List LaneEnds) (q place : ℕ) → (lanes ++ map (lane_to q) (range_with_len 1 place)) ++ lane_to q (place + 1) ∷ [] ≡ lanes ++ map (lane_to q) (range_with_len 1 (place + 1))
 lanes_next lanes q place = append_assoc lanes (map (lane_to q) (range_with_len 1 place)) (lane_to q (place + 1) ∷ []) ∙ ap (λ ls. lanes ++ ls) (sym (map-range_with_len_more (lane_to q) 1 place (place + 1) (omega arith)))
 
--- what a function makes of one number more
+-- the lists that a function makes of numbers, with one more number
 pub numbers_next : {A : Type 0} (f : ℕ → List A) (place : ℕ) → flat_map f (range_with_len 1 (place + 1)) ≡ flat_map f (range_with_len 1 place) ++ f (place + 1)
 numbers_next {A} f place =
     ap (flat_map f) (sym (map_same (range_with_len 1 (place + 1))) ∙ map-range_with_len_more (λ (i : ℕ). i) 1 place (place + 1) (omega arith) ∙ ap (λ is. is ++ (place + 1) ∷ []) (map_same (range_with_len 1 place)))
@@ -111,30 +111,30 @@ numbers_next {A} f place =
     map_same [] = refl
     map_same (x ∷ xs) = ap (λ ys. x ∷ ys) (map_same xs)
 
--- the line of one instance more
+-- the lines with that of one more instance
 pub lines_next : (h : List Occurrence) (place : ℕ) → history_lines (place + 1) h ≡ history_lines place h ++ history_line h (place + 1) ∷ []
 lines_next h place = map-range_with_len_more (history_line h) 1 place (place + 1) (omega arith)
 
--- Reports, by whatever history their posts have in common.
+-- Reports, for any history that the posts have in common.
 
--- those of a recorder
+-- the reports of a recorder
 pub own_reports : (n : ℕ) (h : List Occurrence) (p : ℕ) (r : RecorderView) → IsRecorder n h p r → AreReportsOf (chart_of h) (history_line h p ∷ []) r.reports
 own_reports n h p r its = record { receives = its.receives ∙ ap receives_of its.line ∙ sym (append-nil (receives_of (history_line h p))); each = its.reports }
 
--- those of one line more
+-- the reports with those of one more line
 pub reports_push : (h : List Occurrence) (lines : List LineView) (line : LineView) (reports own : List ReportView) → AreReportsOf (chart_of h) lines reports → AreReportsOf (chart_of h) (line ∷ []) own → AreReportsOf (chart_of h) (lines ++ line ∷ []) (reports ++ own)
 reports_push h lines line reports own before its = record {
   receives = map-append (λ (r : ReportView). r.receive) reports own ∙ ap₂ (λ xs ys. xs ++ ys) before.receives its.receives ∙ sym (flat_map-append receives_of lines (line ∷ []));
   each = All-append (IsReportIn (chart_of h)) reports own before.each its.each;
 }
 
--- a list that has got them behind those of other lines
+-- a list to which the reports of one more line were added
 pub reports_added : {A E : Type 0} (result : Result A E) (p : ℕ) (own before after : List ReportView) (its : List Occurrence → Type 0) → OnOk result (after ≡ before ++ own) → ((h : List Occurrence) → its h → AreReportsOf (chart_of h) (history_line h p ∷ []) own)
     → OnOk result ((h : List Occurrence) (lines : List LineView) → its h → AreReportsOf (chart_of h) lines before → AreReportsOf (chart_of h) (lines ++ history_line h p ∷ []) after)
 reports_added (Ok v) p own before after its same are = λ h lines holds there. subst (AreReportsOf (chart_of h) (lines ++ history_line h p ∷ [])) (sym same) (reports_push h lines (history_line h p) before own there (are h holds))
 reports_added (Err e) p own before after its same are = record {}
 
--- the room of two of these posts is theirs by any history that all of them have in common
+-- the room for the lane between two of these posts fits any history that all posts have in common
 pub room_for : (n k : ℕ) (posts : List PostView) → AreOf n k posts → (to from : PostView) (q p : ℕ) (room : Room) → IsAmong posts to → IsAmong posts from → to.number ≡ p → from.number ≡ q
     → ((h : List Occurrence) → IsJoint h to → IsJoint h from → IsRoom h to.board.size to.board.capacity from.number to.number room) → (h : List Occurrence) → AreJoint h posts → IsRoom h n k q p room
 room_for n k posts are to from q p room to_there from_there to_is from_is its h joint =
@@ -142,7 +142,7 @@ room_for n k posts are to from q p room to_there from_there to_is from_is its h 
     subst (λ x. IsRoom h x k q p room) sized.0 (subst (λ x. IsRoom h to.board.size x q p room) sized.1 (subst (λ x. IsRoom h to.board.size to.board.capacity x p room) from_is (subst (λ x. IsRoom h to.board.size to.board.capacity from.number x room) to_is
     (its h (joint to_there.0 to to_there.1) (joint from_there.0 from from_there.1)))))
 
--- Lists for the events of lines: one that is made, and one more.
+-- Lists for the events of lines: a new list, and one more list.
 
 pub for_line_made : {E : Type 0} (made : Result (Vec Event) E) (many p : ℕ) (its : List Occurrence → Type 0) → IfOk made (λ (v : Vec Event). v.items ≡ []) → IfOk made (λ (v : Vec Event). vec_capacity v ≡ many)
     → ((h : List Occurrence) → its h → many ≡ length (chart_of h p)) → IfOk made (λ (v : Vec Event). (h : List Occurrence) → its h → IsForLine h p v)

@@ -1,4 +1,4 @@
--- Looks at one lane after another, of which none found a message so far.
+-- Looks at one lane after another, none of which found a message so far.
 use Rattle.std.proofs.Common.{◌≡◌, ◌≢◌, ℕ, zero, suc, ◌+◌, ◌-◌, ◌<◌, ◌≤◌, ◌==◌, ◌&&◌, not, Bool, true, false, cond, List, [], ◌∷◌, ◌++◌, refl, sym, ap, ◌∙◌, subst, arith, append_assoc}
 use Rattle.std.specs.Prelude.{filter}
 use Rattle.std.specs.List.{range_with_len}
@@ -23,7 +23,7 @@ pub and_assoc : (a b c : Bool) → (a && b) && c ≡ a && (b && c)
 and_assoc true b c = refl
 and_assoc false b c = refl
 
--- what holds from one call to the next holds over both
+-- soundness is transitive: over one call and then another
 pub sound-onward : (old mid new : PostView) → Sound old mid → Sound mid new → Sound old new
 sound-onward old mid new earlier later = record {
   same = record { board = later.same.board ∙ earlier.same.board; number = later.same.number ∙ earlier.same.number };
@@ -33,27 +33,27 @@ sound-onward old mid new earlier later = record {
   looks = omega (arith, earlier.looks, later.looks);
 }
 
--- the lanes from the numbers above a and up to b but p: that after a comes first, unless it is p
+-- of the lanes from the numbers above a and up to b, except p: the lane from a + 1 comes first, unless a + 1 is p
 pub next-other : (p a b : ℕ) → a < b → a + 1 ≢ p → others p a b ≡ (a + 1) ∷ others p (a + 1) b
 next-other p a b less other = let ne = ne_eqb (a + 1) p other in rw (range-next a b less, ne)
 
 pub next-own : (p a b : ℕ) → a < b → a + 1 ≡ p → others p a b ≡ others p (a + 1) b
 next-own p a b less own = let same = eq-eqb (a + 1) p own in rw (range-next a b less, same)
 
--- one lane more
+-- one more lane
 peeked-next : (old mid new : PostView) (order : List ℕ) (its_end : Bool) (q : ℕ) (b : Bool) → ArePeeked old order its_end mid → Sound mid new → Stays mid new → IsFoundEmpty mid q b new → ArePeeked old (order ++ q ∷ []) (its_end && b) new
 peeked-next old mid new [] its_end q b done sound stays empty =
     (new, b, true, subst (λ x. Sound x new) done.0 sound, subst (λ x. Stays x new) done.0 stays, subst (λ x. IsFoundEmpty x q b new) done.0 empty, (refl, refl), ap (λ e. e && b) done.1 ∙ sym (and_true b))
 peeked-next old mid new (x ∷ order) its_end q b done sound stays empty =
     (done.0, done.1, done.2 && b, done.3, done.4, done.5, peeked-next done.0 mid new order done.2 q b done.6 sound stays empty, ap (λ e. e && b) done.7 ∙ and_assoc done.1 done.2 b)
 
--- A post after looks at the first of these lanes, of which the rest are left, that found no message.
+-- A post after looks at the first of these lanes, which found no message; `rest` has the others.
 pub record HasPeeked (old : PostView) (order rest : List ℕ) (its_end : Bool) (now : PostView) : Type 0 where
   pub sound : Sound old now
   pub done : (done : List ℕ) × (done ++ rest ≡ order) × ArePeeked old done its_end now
 
 module _ (old mid : PostView) (order : List ℕ) (p a b : ℕ) (its_end : Bool) (less : a < b) (peeked : HasPeeked old order (others p a b) its_end mid) where
-  -- a number that isn't another's is passed over
+  -- the post's own number is passed over
   pub own-passed : suc a ≡ p → HasPeeked old order (others p (a + 1) b) its_end mid
   own-passed own = subst (λ rest. HasPeeked old order rest its_end mid) (next-own p a b less (omega (arith, own))) peeked
 
@@ -61,7 +61,7 @@ module _ (old mid : PostView) (order : List ℕ) (p a b : ℕ) (its_end : Bool) 
     first : others p a b ≡ suc a ∷ others p (a + 1) b
     first = let number : a + 1 ≡ suc a = omega arith in next-other p a b less (λ same. other (omega (arith, same))) ∙ ap (λ q. q ∷ others p (a + 1) b) number
 
-    -- no message at the next of them
+    -- the next lane has no message
     pub none-there : (found : Bool) → IsFoundEmpty mid (suc a) found new → HasPeeked old order (others p (a + 1) b) (its_end && found) new
     none-there found empty =
         let w = peeked.done in
@@ -70,7 +70,7 @@ module _ (old mid : PostView) (order : List ℕ) (p a b : ℕ) (its_end : Bool) 
           done = (w.0 ++ suc a ∷ [], append_assoc w.0 (suc a ∷ []) (others p (a + 1) b) ∙ ap (λ rest. w.0 ++ rest) (sym first) ∙ w.1, peeked-next old mid new w.0 its_end (suc a) found w.2 later stays empty);
         }
 
-    -- a message there
+    -- the next lane has a message
     pub first-there : Waits mid (suc a) new → IsFirstWaiting old order (suc a) new
     first-there waits =
         let w = peeked.done in
@@ -95,7 +95,7 @@ others-cut p a r to low high =
     sym (filter-append (λ q. not (q == p)) (range_with_len (a + 1) (r - a)) (range_with_len (r + 1) (to - r)))
     ∙ ap (filter (λ q. not (q == p))) (ap (λ x. range_with_len (a + 1) (r - a) ++ range_with_len x (to - r)) next ∙ range-cut (a + 1) (r - a) (to - r) ∙ ap (range_with_len (a + 1)) all)
 
--- the lane from the next number alone, which isn't p
+-- only the lane from the next number, which isn't p
 others-one : (p b : ℕ) → suc b ≢ p → others p b (suc b) ≡ suc b ∷ []
 others-one p b other =
     let one : suc b - b ≡ 1 = omega arith in
@@ -113,14 +113,14 @@ peeked-append old mid new [] more e f done later = subst (λ b. ArePeeked old mo
 peeked-append old mid new (x ∷ order) more e f done later =
     (done.0, done.1, done.2 && f, done.3, done.4, done.5, peeked-append done.0 mid new order more done.2 f done.6 later, ap (λ b. b && f) done.7 ∙ and_assoc done.1 done.2 f)
 
--- A post after looks at the lanes from the numbers above a and up to b, which aren't p: all found them open, with no
--- message.
+-- A post after looks at the lanes from the numbers above a and up to b, none of which is p: all were found open and
+-- without a message.
 pub record HasPassed (old : PostView) (p a b : ℕ) (now : PostView) : Type 0 where
   pub sound : Sound old now
   pub within : a ≤ b
   pub peeked : ArePeeked old (others p a b) (b == a) now
 
--- none yet
+-- no lane yet
 pub passed-none : (old : PostView) (p a : ℕ) → Sound old old → HasPassed old p a a old
 passed-none old p a sound = record {
   sound = sound;
@@ -128,7 +128,7 @@ passed-none old p a sound = record {
   peeked = subst (λ xs. ArePeeked old xs (a == a) old) (sym (others-none p a)) (refl, eq-eqb a a refl);
 }
 
--- one lane more
+-- one more lane
 pub passed-next : (old mid new : PostView) (p a b c : ℕ) → HasPassed old p a b mid → suc b ≢ p → Sound mid new → Stays mid new → IsFoundEmpty mid (suc b) false new → c ≡ suc b → HasPassed old p a c new
 passed-next old mid new p a b c passed other later stays empty next =
     let more : a ≤ suc b = omega (arith, passed.within) in
@@ -141,7 +141,7 @@ passed-next old mid new p a b c passed other later stays empty next =
       peeked = subst (λ e. ArePeeked old (others p a (suc b)) e new) ends (subst (λ xs. ArePeeked old xs ((b == a) && false) new) lanes open_);
     })
 
--- passed lanes among the rest of a scan's
+-- passed lanes as part of the rest of a scan
 pub lanes-passed : (old mid new : PostView) (order : List ℕ) (p a b to : ℕ) (its_end : Bool) → HasPeeked old order (others p a to) its_end mid → Sound mid new → a ≤ b → b ≤ to → ArePeeked mid (others p a b) (b == a) new → HasPeeked old order (others p b to) (its_end && (b == a)) new
 lanes-passed old mid new order p a b to its_end peeked later low high passed =
     let w = peeked.done in
@@ -150,14 +150,14 @@ lanes-passed old mid new order p a b to its_end peeked later low high passed =
       done = (w.0 ++ others p a b, append_assoc w.0 (others p a b) (others p b to) ∙ ap (λ xs. w.0 ++ xs) (others-cut p a b to low high) ∙ w.1, peeked-append old mid new w.0 (others p a b) its_end (b == a) w.2 passed);
     }
 
--- a post is sound after itself
+-- a sound post is sound from itself
 pub sound-again : (old new : PostView) → Sound old new → Sound new new
 sound-again old new s = record { same = record { board = refl; number = refl }; later = begins_same new.seen; legal = s.legal; own = s.own; looks = omega arith }
 
 pub stays-again : (post : PostView) → Stays post post
 stays-again post = record { made = refl; region = refl; room = refl }
 
--- what a look finds of a lane is so for whoever looked once more before
+-- what a look finds on a lane also holds for a post that made one more look before
 module _ (old mid late new : PostView) (q : ℕ) (first : Sound old mid) (later : Sound mid late) (stays : Stays mid late) where
   pub empty-since : (b : Bool) → IsFoundEmpty late q b new → IsFoundEmpty mid q b new
   empty-since b empty =

@@ -20,7 +20,7 @@ use Rattle.board.specs.SendingMany.{AreMade}
 use Rattle.board.proofs.PostLemmas.{knowledge, post_saw, post_sends}
 use Rattle.board.proofs.SendAnswers.{did_sound, did_makes, did_stays, unsent}
 
--- none is sent where there is none
+-- an empty list sends nothing
 pub sent_none : (old : PostView) (to : ℕ) (ms : List Content) (sents : List Sent) → length ms ≡ 0 → sents ≡ [] → MaySend old to → AreSent old to ms sents old
 sent_none old to [] sents none nothing may = subst (λ (xs : List Sent). AreSent old to [] xs old) (sym nothing) (record {
   allowed = may;
@@ -33,11 +33,11 @@ sent_none old to (m ∷ ms) sents none nothing may = absurd (omega (arith, none)
 abbrev pub Answer : Type 0
 Answer = Result (Vec Sent) (Vec Content × SendError)
 
--- they were sent on p's lane to this instance, and each has its event
+-- the messages were sent on p's lane to this instance, and each has its event
 abbrev pub WereMade : ℕ → ℕ → ℕ → ℕ → List Content → Mine → Mine → Answer → Type 0
 WereMade n k p to ms m w result = IfOk result (λ sents. AreMade (record { instances = n; capacity = k; sender = p; receiver = to }) ms sents.items m w)
 
--- they weren't, and come back
+-- the messages weren't sent, and come back
 abbrev pub WereUnmade : ℕ → ℕ → ℕ → ℕ → List Content → Mine → Mine → Answer → Type 0
 WereUnmade n k p to ms m w result = IfErr result (λ error. (error.0.items ≡ ms) × IsUnmade (record { instances = n; capacity = k; sender = p; receiver = to }) (length ms) m w error.1)
 

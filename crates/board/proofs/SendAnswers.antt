@@ -32,7 +32,7 @@ module _ (m : Mine) (n k p : ℕ) (r : RecorderView) (region : ℕ) (outgoing : 
   pub closed_made : (to : ℕ) (o : Outgoing) → IsOutgoing n (held m).seen p to o → is_closed (held m).made p to ≡ o.closed
   closed_made to o end = ap (λ h. is_closed h p to) (sym post.made) ∙ closed_own (held m).seen p to ∙ sym end.unsent
 
-  -- nothing but the line, the lane's slots and memory stands in the way
+  -- nothing prevents the send except the line, the lane's slots and memory
   pub may_send : (table : TableId) (to j : ℕ) (o : Outgoing) → to ≡ suc j → to ≢ p → to ≤ n → o ≡ get_or outgoing j o → region ≡ 0 → o.closed ≡ false → MaySend (view_of table m n k p region r.room) to
   may_send table to j o place ne most read outside open_end = record {
     two = (post.least, post.most, omega (arith, place), most, λ e. ne (sym e));
@@ -43,7 +43,7 @@ module _ (m : Mine) (n k p : ℕ) (r : RecorderView) (region : ℕ) (outgoing : 
   pub line_is : chart_of (held m).seen p ≡ r.line.events
   line_is = sym (ap (λ l. l.events) post.knows.own.recorder.line)
 
--- what a call leaves
+-- a post after a call
 module _ (table : TableId) (m w : Mine) (n k p region room : ℕ) (before events : List Occurrence) (did : Did n k p (held m) (held w) before events) where
   pub did_sound : (after left : ℕ) → Sound (view_of table m n k p region room) (view_of table w n k p after left)
   did_sound after left = record {
@@ -57,7 +57,7 @@ module _ (table : TableId) (m w : Mine) (n k p region room : ℕ) (before events
   pub did_makes : (left : ℕ) → Makes (view_of table m n k p region room) before events (view_of table w n k p region left)
   did_makes left = record { later = did.later; seen = did.seen; made = did.made; region = refl }
 
--- a call that only saw leaves what was made
+-- a call that only saw leaves the post's own events as they were
 pub did_stays : (table : TableId) (m w : Mine) (n k p region room left : ℕ) → Did n k p (held m) (held w) (held w).seen [] → left ≡ room → Stays (view_of table m n k p region room) (view_of table w n k p region left)
 did_stays table m w n k p region room left did kept = record { made = did.made; region = refl; room = kept }
 
@@ -66,7 +66,7 @@ module _ (table : TableId) (m w : Mine) (n k p : ℕ) (r : RecorderView) (region
   unclosed : is_closed (held m).seen p to ≡ false
   unclosed = sym (closed_own (held m).seen p to) ∙ ap (λ h. is_closed h p to) post.made ∙ may.allowed.opened
 
-  -- it may put them on the lane
+  -- the post may put the messages on the lane
   pub may_put : (end : Outgoing) → IsOutgoing n (held m).seen p to end → MayPut (record { instances = n; capacity = k; sender = p; receiver = to }) many m end r
   may_put end outgoing_end = record {
     rests = post.rests;
@@ -79,7 +79,7 @@ module _ (table : TableId) (m w : Mine) (n k p : ℕ) (r : RecorderView) (region
     two = may.allowed.two;
   }
 
-  -- why the messages, so many, aren't sent
+  -- why `many` messages aren't sent
   pub unsent : (left : ℕ) (l : LaneView) → l ≡ record { instances = n; capacity = k; sender = p; receiver = to } → (error : SendError) → Did n k p (held m) (held w) (held w).seen [] → 0 < many → IsCause l many m w error → IsUnsent (view_of table m n k p region r.room) to many error (view_of table w n k p region left)
   unsent left l lane error did some = subst (λ (x : LaneView). IsCause x many m w error → IsUnsent (view_of table m n k p region r.room) to many error (view_of table w n k p region left)) (sym lane) (by_cases error)
     where

@@ -25,7 +25,7 @@ use Rattle.board.proofs.DidLemmas.{did_move}
 use Rattle.board.proofs.OneSend.{known_many, recorder_saw, line_saw, closed_saw}
 use Rattle.board.proofs.SeveralSends.{IsSender, is_sender, sends_after, sends_are, contents, sent_are, carried_contents, names_of, names_are, last_base, recorder_sends, end_sends}
 
--- The call knew what m knows, and then saw what s knows; f has these packets, which are of these messages, in its slots.
+-- The call knew what m knows, and then saw what s knows. f has the packets xs of the messages ms in its slots.
 pub record Fills (l : LaneView) (m s f : Mine) (r : RecorderView) (u : Outgoing) (ms : List Content) (xs : List Packet) : Type 0 where
   pub legal : IsLegal l.instances l.capacity (held m).seen
   pub its : own (held m).seen l.sender ≡ (held m).made
@@ -37,11 +37,11 @@ pub record Fills (l : LaneView) (m s f : Mine) (r : RecorderView) (u : Outgoing)
   pub filled : packets_out f ≡ xs
   pub are : contents xs ≡ ms
 
--- what is prepared, and then filled over any base that the first difference is to, is filled over the lane's base
+-- what is prepared and then filled, over any base for the first difference, is filled over the lane's base
 pub prepared_filled : (base : List ℕ) (r q v : RecorderView) (to : ℕ) (ms : List Content) (it : Prepared) (xs : List Packet) → IsPrepared base r ms it q → ((b : List ℕ) → IsDiffTo b it.first (send_clock q) → AreFilled b q to ms xs v) → AreFilled base q to ms xs v
 prepared_filled base r q v to ms it xs prepared filled = filled base (subst (λ (z : RecorderView). IsDiffTo base it.first (send_clock z)) (sym prepared.room) prepared.first)
 
--- with packets of which the recorder has recorded the sends
+-- with packets whose sends the recorder has recorded
 pub fills_of : (l : LaneView) (m s f : Mine) (r q v : RecorderView) (e u : Outgoing) (ms : List Content) (it : Prepared) → MayPut l (length ms) m e r → Did l.instances l.capacity l.sender (held m) (held s) (held s).seen [] → IsOutgoing l.instances (held s).seen l.sender l.receiver u
     → HasSlots l (length ms) s → IsPrepared u.base r ms it q → held f ≡ held s → AreFilled u.base q l.receiver ms (packets_out f) v → Fills l m s f q u ms (packets_out f)
 fills_of l m s f r q v e u ms it may did end slots prepared kept are = record {

@@ -46,7 +46,7 @@ pub sent_are : (p q : ℕ) (xs : List Packet) (h : List Occurrence) → with_sen
 sent_are p q [] h = refl
 sent_are p q (x ∷ xs) h = sent_are p q xs (Send p q x.message ∷ h)
 
--- which are those of the parcels that they carry
+-- they are the messages of the parcels that the packets carry
 pub carried_contents : (base : List ℕ) (xs : List Packet) (ys : List Parcel) → AreCarried base xs ys → contents xs ≡ map (λ (y : Parcel). y.message) ys
 carried_contents base [] [] are = refl
 carried_contents base [] (y ∷ ys) are = absurd are
@@ -104,7 +104,7 @@ recorder_sends n k p q (m ∷ ms) h r legal its =
     let before = legal_begun n k h (sends_after p q (m ∷ ms) h) (sends_of p q (m ∷ ms), sends_are p q (m ∷ ms) h) legal in
     recorder_sends n k p q ms (Send p q m ∷ h) (after_send r q m.name) legal (IsRecorder-send n k h p q m r before its)
 
--- the clock of the last send, or the base where there is none
+-- the clock of the last send, or the base if there is no send
 abbrev pub last_base : List ℕ → RecorderView → ℕ → List Content → List ℕ
 last_base base r q [] = base
 last_base base r q (m ∷ ms) = (after_sends r q (names_of (m ∷ ms))).knowledge
@@ -113,7 +113,7 @@ last_onward : (base : List ℕ) (r : RecorderView) (q : ℕ) (m : Content) (ms :
 last_onward base r q m [] = refl
 last_onward base r q m (next ∷ ms) = refl
 
--- it is the clock of the first one, stamped with the number of the last
+-- the last clock is the first one, stamped with the number of the last send's event
 pub last_stamped : (base : List ℕ) (r : RecorderView) (q : ℕ) (ms : List Content) → 1 ≤ length ms → let v = after_sends r q (names_of ms) in with_entry (send_clock r) v.line.instance (length v.line.events) ≡ last_base base r q ms
 last_stamped base r q [] some = absurd (omega arith)
 last_stamped base r q (m ∷ ms) some =

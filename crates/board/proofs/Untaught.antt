@@ -1,4 +1,4 @@
--- What a sender knows that has received nothing: of itself alone.
+-- What a sender that has received nothing knows: only its own events.
 use Rattle.std.proofs.Common.{◌≡◌, ℕ, ◌+◌, ◌==◌, drop, Bool, true, false, cond, List, [], ◌∷◌, ◌++◌, length, refl, sym, ap, ◌∙◌, subst, arith}
 use Rattle.std.proofs.lemmas.Bool.{eqb-true, and_parts}
 use Rattle.chart.specs.declared.history.Occurrence.{Occurrence}
@@ -22,11 +22,11 @@ use Rattle.board.specs.Known.{IsOutgoing}
 abbrev pub Untaught : List Occurrence → ℕ → Type 0
 Untaught h p = (q : ℕ) → received h q p ≡ 0
 
--- nor had it before
+-- it had received nothing before either
 untaught_before : (e : Occurrence) (h : List Occurrence) (p : ℕ) → Untaught (e ∷ h) p → Untaught h p
 untaught_before e h p none q = let less = received_begins h (e ∷ h) (e ∷ [], refl) q p in let zero : received (e ∷ h) q p ≡ 0 = none q in omega (arith, less, zero)
 
--- it knows nothing of others
+-- p knows nothing of others
 pub knows_itself : (n : ℕ) (h : List Occurrence) (p : ℕ) → Untaught h p → AgreeBut p (zeros n) (knowledge_of n h p)
 knows_itself n [] p none = λ q other. refl
 knows_itself n (Send a b m ∷ h) p none = go (p == a) (knows_itself n h p (untaught_before (Send a b m) h p none))
@@ -47,7 +47,7 @@ knows_itself n (Receive a b c ∷ h) p none = go (p == a) refl (knows_itself n h
     go false same before = before
 knows_itself n (Close a b ∷ h) p none = knows_itself n h p (untaught_before (Close a b) h p none)
 
--- so its messages tell nothing of others
+-- so its messages carry nothing about others
 pub informs_itself : (n : ℕ) (h : List Occurrence) (p q : ℕ) → Untaught h p → AgreeBut p (zeros n) (sent_base n h p q)
 informs_itself n [] p q none = λ r other. refl
 informs_itself n (Send a b m ∷ h) p q none = go (is_lane a b p q) refl (informs_itself n h p q (untaught_before (Send a b m) h p none))
@@ -64,7 +64,7 @@ informs_itself n (Send a b m ∷ h) p q none = go (is_lane a b p q) refl (inform
 informs_itself n (Receive a b c ∷ h) p q none = informs_itself n h p q (untaught_before (Receive a b c) h p none)
 informs_itself n (Close a b ∷ h) p q none = informs_itself n h p q (untaught_before (Close a b) h p none)
 
--- and nothing new is known of others since the last message on a lane
+-- nothing new about others is known since the last message on a lane
 pub nothing_new : (n : ℕ) (h : List Occurrence) (p q : ℕ) (end : Outgoing) (r : RecorderView) → Untaught h p → IsOutgoing n h p q end → IsRecorder n h p r → AgreeBut p end.base r.knowledge
 nothing_new n h p q end r none outgoing recorder x other =
     ap (λ (clock : List ℕ). entry_of clock x) recorder.knowledge ∙ knows_itself n h p none x other

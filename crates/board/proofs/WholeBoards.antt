@@ -31,7 +31,7 @@ pub some_posts : (posts : List PostView) → AreAll posts → 0 < length posts
 some_posts [] all = absurd all
 some_posts (x ∷ posts) all = omega arith
 
--- of a list all of which was written over the new one is left
+-- a list that is wholly overwritten becomes the new list
 pub written_over : {X : Type 0} (len : ℕ) (old new : List X) → length new ≡ length old → len ≡ length old → take len (new ++ drop (length new) old) ≡ new
 written_over {X} len old new many long = ap (λ xs. take len (new ++ xs)) (drop_all (length new) old (omega (arith, many))) ∙ take_at new [] len (many ∙ sym long)
 
@@ -90,7 +90,7 @@ module _ (n k : ℕ) (table : TableId) (h : List Occurrence) (lines : List LineV
 pub all_reports : (n k : ℕ) (h : List Occurrence) (reports : List ReportView) → IsLegal n k h → AreReportsOf (chart_of h) (history_lines n h) reports → AreReports (history_lines n h) reports
 all_reports n k h reports legal its = record { are = subst (λ c. AreReportsOf c (history_lines n h) reports) (chart-is n k h legal) its }
 
--- the posts that have met, and that are left
+-- posts that have met, of which `left` are still there
 pub record IsGoing (posts left : List PostView) (n k : ℕ) (table : TableId) (h : List Occurrence) : Type 0 where
   pub are : AreOf n k posts
   pub joint : AreJoint h posts

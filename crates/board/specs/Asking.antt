@@ -4,7 +4,7 @@ use Rattle.board.specs.declared.error.PostsError.{PostsError}
 use Rattle.board.specs.declared.error.PostsError.TheVariants.{PostsTaken, Memory}
 use Rattle.board.specs.Boards.{BoardState}
 
--- why it gives none: F10 exactly where they were asked for before
+-- why a board gives no posts: F10 exactly if they were asked for before
 abbrev pub IsUngiven : BoardState → PostsError → Type 0
 IsUngiven old PostsTaken = old.asked ≡ true
 IsUngiven old Memory = old.asked ≡ false

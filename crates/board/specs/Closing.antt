@@ -7,7 +7,7 @@ use Rattle.board.specs.declared.error.CloseError.{CloseError}
 use Rattle.board.specs.declared.error.CloseError.TheVariants.{NoSuchInstance, ToItself, Closed}
 use Rattle.board.specs.Views.{PostView, Makes, IsPartner}
 
--- the lane was open, and its close is the last of all that was seen; it is no event of a line and takes no room
+-- the lane was open, and its close is the last of all that was seen; a close is no event of a line, and takes no room
 pub record IsClosed (old : PostView) (to : ℕ) (new : PostView) : Type 0 where
   pub two : IsPartner old to
   pub opened : is_closed old.made old.number to ≡ false

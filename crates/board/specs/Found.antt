@@ -13,12 +13,12 @@ pub record HasMessages (l : LaneView) (me : Mine) : Type 0 where
   pub untaken : vacant_out me ≡ 0
   pub some : 0 < length (packets_out me)
 
--- the lane's end knows of one message that waits, and of so many or of all
+-- the lane's end knows of one waiting message, and of `many` messages or of all
 pub record KnowsOf (l : LaneView) (many : ℕ) (me : Mine) (end : Incoming) : Type 0 where
   pub waits : end.taken < end.known_put
   pub enough : (end.taken + many ≤ end.known_put) ⊎ (end.known_put ≡ length (sent (held me).seen l.sender l.receiver))
 
--- none waits on the lane, which is closed or not, by a look; none waited in what was seen before
+-- a look found that no message waits on the lane, which is closed or not; none waited in what was seen before
 pub record HasNone (l : LaneView) (its_end : Bool) (old new : Mine) : Type 0 where
   pub rests : Rests l.instances l.capacity l.receiver new
   pub waits : waiting (held new).seen l.sender l.receiver ≡ []

@@ -15,7 +15,7 @@ use Rattle.board.specs.declared.gathering.GatherError.{GatherError}
 use Rattle.board.specs.Views.{PostView}
 use Rattle.board.specs.Meeting.{IsJoint, AreAll, AreNotAll}
 
--- a lane: who sends on it, and who receives
+-- a lane, by its sender and its receiver
 pub record LaneEnds : Type 0 where
   pub sender : ℕ
   pub receiver : ℕ
@@ -23,7 +23,7 @@ pub record LaneEnds : Type 0 where
 abbrev pub lane_to : ℕ → ℕ → LaneEnds
 lane_to q p = record { sender = q; receiver = p }
 
--- all lanes of n instances, by sender and then receiver
+-- the lanes of one sender by receiver, and all lanes of n instances by sender and then receiver
 abbrev pub lanes_of : ℕ → ℕ → List LaneEnds
 lanes_of n q = map (lane_to q) (range_with_len 1 n)
 
@@ -60,15 +60,15 @@ left_on h lane = record { lane = lane; messages = waiting h lane.sender lane.rec
 abbrev pub left_view : Left → LeftView
 left_view left = record { lane = lane_to left.sender left.receiver; messages = left.messages.items }
 
--- the chart of the history, the report of each receive, what waits on each lane on which something does, and the lanes
--- that were closed
+-- the chart of the history, the report of each receive, the messages of each lane on which some wait, and the closed
+-- lanes
 pub record IsGathered (n : ℕ) (h : List Occurrence) (it : Gathered) : Type 0 where
   pub chart : it.chart ≡ history_lines n h
   pub reports : AreReports (history_lines n h) it.reports.items
   pub left : map left_view it.left.items ≡ map (left_on h) (waiting_lanes n h)
   pub closed : map closed_view it.closed.items ≡ closed_lanes n h
 
--- the history begins with all that each post had seen, and has of each one's events just those that its calls made
+-- the history begins with all that each post had seen, and has just those events of each post that its calls made
 abbrev pub AreJoint : List Occurrence → List PostView → Type 0
 AreJoint h posts = (i : ℕ) (post : PostView) → slice_get posts i ≡ Some post → IsJoint h post
 
@@ -77,7 +77,7 @@ abbrev pub size_of : List PostView → ℕ
 size_of [] = 0
 size_of (post ∷ posts) = post.board.size
 
--- they are all posts of their board, and this is what their one history comes to
+-- they are all posts of their board, and this is the result for one history that they have in common
 pub record IsWhole (posts : List PostView) (it : Gathered) : Type 0 where
   pub all : AreAll posts
   pub history : List Occurrence

@@ -1,5 +1,5 @@
--- What a post keeps of the lanes to and from another instance (differences between clocks as Singhal and Kshemkalyani
--- 1992 have them; kept numbers are this project's profile).
+-- What a post keeps for the lanes to and from another instance (differences between clocks: after Singhal and
+-- Kshemkalyani 1992; kept numbers: this project's profile).
 use Rattle.std.specs.Prelude.{◌≡◌, ◌≢◌, ℕ, suc, ◌≤◌, List, ◌++◌, length, slice_get, Some}
 use Rattle.chart.specs.declared.history.Occurrence.{Occurrence}
 use Rattle.chart.specs.Histories.{own, sent, received, is_closed, IsLegal, Begins}
@@ -30,7 +30,8 @@ pub record IsIncoming (n : ℕ) (h : List Occurrence) (p q : ℕ) (i : Incoming)
   pub base : i.base ≡ received_base n h q p
   pub long : length i.base ≡ n
 
--- p's ends of its lanes, each at the other instance's place, but for the ends to one instance and from one, 0 for none
+-- p's ends of its lanes, each at the other instance's place, except the end to one instance and the end from one, 0 for
+-- none
 pub record AreEndsBut (n : ℕ) (h : List Occurrence) (p to_one from_one : ℕ) (outgoing : List Outgoing)
     (incoming : List Incoming) : Type 0 where
   pub as_many : length outgoing ≡ n
@@ -44,22 +45,22 @@ pub record AreEndsBut (n : ℕ) (h : List Occurrence) (p to_one from_one : ℕ) 
 abbrev pub AreEnds : ℕ → List Occurrence → ℕ → List Outgoing → List Incoming → Type 0
 AreEnds n h p outgoing incoming = AreEndsBut n h p 0 0 outgoing incoming
 
--- a board may have so many instances, and lanes of so many slots
+-- a board may have n instances, and lanes of k slots
 pub record IsSized (n k : ℕ) : Type 0 where
   pub several : 2 ≤ n
   pub within_limit : n ≤ MAX_INSTANCES
   pub some : 1 ≤ k
   pub slots : k ≤ MAX_CAPACITY
 
--- what a post knows beside its seat: its recorder, its open coregion, 0 for none, and its ends of its lanes, each at the
--- other instance's place
+-- what a post knows besides its seat: its recorder, its open coregion, 0 for none, and its ends of its lanes, each at
+-- the other instance's place
 pub record Knowledge : Type 0 where
   pub recorder : RecorderView
   pub region : ℕ
   pub outgoing : List Outgoing
   pub incoming : List Incoming
 
--- what p knows is so in what it has seen, which is legal
+-- what p knows holds in the history that it has seen, which is legal
 pub record Knows (n k : ℕ) (h : List Occurrence) (p : ℕ) (knowledge : Knowledge) : Type 0 where
   pub legal : IsLegal n k h
   pub own : IsInstance n h p knowledge.recorder knowledge.region
@@ -74,8 +75,8 @@ pub record IsPost (me : Mine) (n k p : ℕ) (knowledge : Knowledge) : Type 0 whe
   pub knows : Knows n k (held me).seen p knowledge
   pub made : own (held me).seen p ≡ (held me).made
 
--- what a call of p makes of what its seat knows: these events, the newest first, one directly after another and after
--- all that it saw; none where it saw and made nothing
+-- what a call of p adds to what its seat knows: these events, the newest first, one directly after another, and after
+-- all that it saw; none if it made none
 pub record Did (n k p : ℕ) (e f : Held) (before events : List Occurrence) : Type 0 where
   pub later : Begins e.seen before
   pub legal_before : IsLegal n k before

@@ -1,4 +1,4 @@
--- What meeting leaves (this project's profile).
+-- What a meeting of posts does (this project's profile).
 use Rattle.std.specs.Prelude.{◌≡◌, ◌≢◌, ℕ, ◌<◌, ◌≤◌, List, [], ◌∷◌, map, length, slice_get, Some, Result, Ok, Err}
 use Rattle.chart.specs.declared.history.Occurrence.{Occurrence}
 use Rattle.chart.specs.Histories.{own, IsLegal, Begins}
@@ -13,7 +13,7 @@ abbrev pub AreOfOneBoard : List PostView → Type 0
 AreOfOneBoard posts = (i j : ℕ) (x y : PostView) → slice_get posts i ≡ Some x → slice_get posts j ≡ Some y
     → x.board ≡ y.board
 
--- the history is legal, begins with what the post had seen, and has of its own events just those that its calls made
+-- the history is legal, begins with what the post had seen, and has just those events of the post that its calls made
 pub record IsJoint (history : List Occurrence) (post : PostView) : Type 0 where
   pub later : Begins post.seen history
   pub legal : IsLegal post.board.size post.board.capacity history
@@ -38,11 +38,11 @@ HasSeenAll posts place = (ahead : PostView) × (slice_get posts place ≡ Some a
 abbrev pub IsAt : List PostView → ℕ → ℕ → Type 0
 IsAt posts i number = (post : PostView) × (slice_get posts i ≡ Some post) × (post.number ≡ number)
 
--- a post of this number is among them
+-- one of them is a post with this number
 abbrev pub HasPost : List PostView → ℕ → Type 0
 HasPost posts number = (i : ℕ) × (post : PostView) × (slice_get posts i ≡ Some post) × (post.number ≡ number)
 
--- none is
+-- none of them has this number
 abbrev pub HasNoPost : List PostView → ℕ → Type 0
 HasNoPost posts number = (i : ℕ) (post : PostView) → slice_get posts i ≡ Some post → post.number ≢ number
 
@@ -51,7 +51,7 @@ abbrev pub AreAll : List PostView → Type 0
 AreAll [] = ⊥
 AreAll (post ∷ posts) = (number : ℕ) → 1 ≤ number → number ≤ post.board.size → HasPost (post ∷ posts) number
 
--- these are none, or one of their board's is lacking
+-- these are no posts, or one of their board's posts is missing
 abbrev pub AreNotAll : List PostView → Type 0
 AreNotAll [] = Unit {0}
 AreNotAll (post ∷ posts) = (number : ℕ) × (1 ≤ number) × (number ≤ post.board.size) × HasNoPost (post ∷ posts) number
@@ -61,14 +61,14 @@ abbrev pub MeetsAll : List PostView → Result (Unit {0}) MeetError → List Pos
 MeetsAll old (Ok done) new = AreAll old × HaveMet old new
 MeetsAll old (Err error) new = AreNotAll old × (new ≡ old)
 
--- Of the way there: a note goes from post to post.
+-- How they meet: a note goes from post to post.
 
 -- the seat is a note at the post's board
 pub record IsNoteOf (table : TableId) (me : Mine) (post : PostView) : Type 0 where
   pub same : table ≡ post.board.table
   pub note : IsNote post.board.size post.board.capacity me
 
--- the post has met a note of a history: it has seen the longer of both, and nothing else has changed
+-- the post has met a note that has this history: it has seen the longer of both histories, and nothing else has changed
 pub record Hears (known : List Occurrence) (old new : PostView) : Type 0 where
   pub rest : new ≡ record old { seen = new.seen }
   pub seen : new.seen ≡ longer old.seen known
@@ -77,7 +77,7 @@ pub record Hears (known : List Occurrence) (old new : PostView) : Type 0 where
   pub legal : IsLegal old.board.size old.board.capacity new.seen
   pub own : own new.seen old.number ≡ old.made
 
--- the post has met the note, which now tells this history
+-- the post has met the note, which now has the history `now`
 pub record HasHeard (now : List Occurrence) (old new : PostView) : Type 0 where
   pub rest : new ≡ record old { seen = new.seen }
   pub later : Begins old.seen new.seen
@@ -85,13 +85,13 @@ pub record HasHeard (now : List Occurrence) (old new : PostView) : Type 0 where
   pub own : own new.seen old.number ≡ old.made
   pub known : Begins new.seen now
 
--- the first so many posts have met the note, which told one history at first and tells another now
+-- the first `many` posts have met the note, which had the history `first` at first and has `known` now
 pub record HaveHeard (many : ℕ) (old : List PostView) (first : List Occurrence) (new : List PostView)
     (known : List Occurrence) : Type 0 where
   pub as_many : length new ≡ length old
   pub heard : (i : ℕ) (x y : PostView) → i < many → slice_get old i ≡ Some x → slice_get new i ≡ Some y
       → HasHeard known x y
   pub others : (i : ℕ) → many ≤ i → slice_get new i ≡ slice_get old i
-  -- the note that told of all that they had seen tells it still, and they have all seen it
+  -- if the note had all that they had seen, it has the same history still, and they have all seen it
   pub settled : ((i : ℕ) (x : PostView) → slice_get old i ≡ Some x → Begins x.seen first)
       → (known ≡ first) × ((i : ℕ) (y : PostView) → i < many → slice_get new i ≡ Some y → y.seen ≡ first)

@@ -1,4 +1,4 @@
--- What the parts of a gathering tell each other (this project's profile).
+-- What the parts of a gathering state to each other (this project's profile).
 use Rattle.std.specs.Prelude.{◌≡◌, ℕ, suc, ◌+◌, ◌<◌, ◌≤◌, ◌==◌, List, [], ◌∷◌, ◌++◌, length, map, filter, take, drop, All, slice_get, vec_capacity, Option, Some}
 use Rattle.std.specs.Global.{Vec}
 use Rattle.chart.specs.Words.{Instance}
@@ -26,8 +26,8 @@ Slots = List (ℕ × Option Packet)
 abbrev pub messages_in : List Packet → List Content
 messages_in packets = map (λ (x : Packet). x.message) packets
 
--- of the packets of a lane that came first, so many, the first ones have been drawn, and their slots are behind the
--- others
+-- of the lane's `many` packets that came first, the first `place` ones have been drawn, and their slots are after the
+-- others now
 pub record HasDrained (l : LaneView) (taken many place : ℕ) (first now : Slots) (messages : List Content) : Type 0 where
   pub drained : (packets : List Packet) (others : Slots)
       → ComeFirst l taken packets first others → length packets ≡ many
@@ -38,7 +38,7 @@ pub record HasDrained (l : LaneView) (taken many place : ℕ) (first now : Slots
 abbrev pub IsAmong : List PostView → PostView → Type 0
 IsAmong posts post = (i : ℕ) × (slice_get posts i ≡ Some post)
 
--- they are posts of boards of this size, and there is one of each number
+-- they are posts of one board of n instances with lanes of k slots, and there is one of each number
 pub record AreOf (n k : ℕ) (posts : List PostView) : Type 0 where
   pub size : (i : ℕ) (post : PostView) → slice_get posts i ≡ Some post
       → (post.board.size ≡ n) × (post.board.capacity ≡ k)
@@ -49,7 +49,7 @@ pub record AreOf (n k : ℕ) (posts : List PostView) : Type 0 where
 abbrev pub room_lane : Room → LaneEnds
 room_lane room = lane_to room.sender room.receiver
 
--- there is room for just the messages that wait on the lane from q to p after the history
+-- there is room for exactly the messages that wait on the lane from q to p after the history
 pub record IsRoom (h : List Occurrence) (n k q p : ℕ) (room : Room) : Type 0 where
   pub two : AreTwo n q p
   pub lane : room.lane ≡ record { instances = n; capacity = k; sender = q; receiver = p }
@@ -64,22 +64,22 @@ pub record IsRoom (h : List Occurrence) (n k q p : ℕ) (room : Room) : Type 0 w
 abbrev pub IsLaneRoom : List Occurrence → ℕ → ℕ → Room → Type 0
 IsLaneRoom h n k room = IsRoom h n k room.sender room.receiver room
 
--- of these lanes each on which messages wait has its room
+-- each of these lanes on which messages wait has its room
 pub record HaveRooms (n k : ℕ) (posts : List PostView) (lanes : List LaneEnds) (rooms : List Room) : Type 0 where
   pub live : (h : List Occurrence) → AreJoint h posts → map room_lane rooms ≡ filter (is_waiting h) lanes
   pub each : (h : List Occurrence) → AreJoint h posts → All (IsLaneRoom h n k) rooms
 
--- these are the lanes among those that were closed, by whatever history the posts have in common
+-- these are the closed ones of the lanes, by any history that the posts have in common
 abbrev pub AreClosed : List PostView → List LaneEnds → List ClosedLane → Type 0
 AreClosed posts lanes closed = (h : List Occurrence) → AreJoint h posts
     → map closed_view closed ≡ filter (is_closed_lane h) lanes
 
--- an empty list with room for just the events of p's line after the history
+-- an empty list with room for exactly the events of p's line after the history
 pub record IsForLine (h : List Occurrence) (p : ℕ) (events : Vec Event) : Type 0 where
   pub empty : events.items ≡ []
   pub exact : vec_capacity events ≡ length (chart_of h p)
 
--- such a list for each of the instances behind so many, by their numbers
+-- such a list for each instance after the first `many` ones, in order of their numbers
 abbrev pub AreForLinesBehind : List Occurrence → ℕ → List (Vec Event) → Type 0
 AreForLinesBehind h many [] = Unit {0}
 AreForLinesBehind h many (events ∷ lists) = IsForLine h (many + 1) events × AreForLinesBehind h (many + 1) lists
@@ -96,12 +96,12 @@ pub record HasMet (n k : ℕ) (table : TableId) (h : List Occurrence) (post : Po
   pub board : post.board ≡ record { table = table; size = n; capacity = k }
   pub seen : post.seen ≡ h
 
--- all of these have, and there is one of each number above this one
+-- all of these posts have seen the history, and there is one of each number above `from`
 pub record HaveSeen (n k : ℕ) (table : TableId) (h : List Occurrence) (from : ℕ) (posts : List PostView) : Type 0 where
   pub each : (i : ℕ) (post : PostView) → slice_get posts i ≡ Some post → HasMet n k table h post
   pub all : (number : ℕ) → from < number → number ≤ n → HasPost posts number
 
--- the lines of so many posts, which have left with the messages that wait for them
+-- the lines of the first `many` posts, which have left with the messages that wait for them
 pub record HaveParted (board : BoardView) (h : List Occurrence) (many : ℕ) (lines : List LineView)
     (leavers : List Leaver) : Type 0 where
   pub lined : lines ≡ history_lines many h
@@ -116,7 +116,7 @@ pub record HaveParted (board : BoardView) (h : List Occurrence) (many : ℕ) (li
 abbrev pub senders_to : ℕ → List LaneEnds → List Instance
 senders_to p lanes = map (λ (lane : LaneEnds). lane.sender) (filter (λ (lane : LaneEnds). lane.receiver == p) lanes)
 
--- for each of these senders come slots with what waits for p, and then others
+-- the slots have, for each of these senders in turn, the messages that wait for p from it, and then others
 abbrev pub AreNext : ℕ → ℕ → ℕ → List Occurrence → List Instance → Slots → Type 0
 AreNext n k p h [] slots = Unit {0}
 AreNext n k p h (q ∷ qs) slots = (packets : List Packet) × (others : Slots)

@@ -25,18 +25,19 @@ Peeks old from (Ok Nothing) new = Stays old new × IsFoundEmpty old from false n
 Peeks old from (Ok Ended) new = Stays old new × IsFoundEmpty old from true new
 Peeks old from (Err error) new = (new ≡ old) × IsNoLane old from error
 
--- the instances but p with a number past `from` and up to `to`
+-- the instances with a number above `from` and up to `to`, except p
 abbrev pub others : ℕ → ℕ → ℕ → List Instance
 others p from to = filter (λ q. not (q == p)) (range_with_len (from + 1) (to - from))
 
--- A look at the lane from each of these instances, in this order, found that no message waits, each by what had been
--- seen at the one before it; and whether all of them were found ended.
+-- A look at the lane from each of these instances, in this order, found that no message waits. Each look starts from
+-- what had been seen at the one before it. `its_end`: all these lanes were found closed.
 abbrev pub ArePeeked : PostView → List Instance → Bool → PostView → Type 0
 ArePeeked old [] its_end new = (new ≡ old) × (its_end ≡ true)
 ArePeeked old (q ∷ order) its_end new = (mid : PostView) × (first : Bool) × (rest : Bool) × Sound old mid × Stays old mid
     × IsFoundEmpty old q first mid × ArePeeked mid order rest new × (its_end ≡ (first && rest))
 
--- the lane from this instance is the first in this order on which a message waits, by a look at each lane before it
+-- the lane from this instance is the first in this order on which a message waits; a look at each lane before it found
+-- none
 pub record IsFirstWaiting (old : PostView) (order : List Instance) (from : ℕ) (new : PostView) : Type 0 where
   pub before : List Instance
   pub after : List Instance

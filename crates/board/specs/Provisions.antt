@@ -1,4 +1,4 @@
--- What a gathering has in hand before its posts meet (this project's profile).
+-- What a gathering has ready before its posts meet (this project's profile).
 use Rattle.std.specs.Prelude.{◌≡◌, ℕ, ◌≤◌, List, [], length, vec_capacity}
 use Rattle.chart.specs.declared.history.Occurrence.{Occurrence}
 use Rattle.chart.specs.Histories.{chart_of}
@@ -9,8 +9,8 @@ use Rattle.board.specs.Views.{PostView}
 use Rattle.board.specs.Gathering.{AreJoint, all_lanes}
 use Rattle.board.specs.Parting.{AreOf, HaveRooms, AreClosed, AreForLines}
 
--- there are the reports of n instances, by whatever history their posts have in common, and the lanes that were closed;
--- and there is room for their lines, and for what waits on each of their lanes
+-- for each history that the posts of n instances have in common, there are their reports and their closed lanes. There
+-- is room for their lines, and for the messages that wait on each of their lanes
 pub record IsProvision (n : ℕ) (posts : List PostView) (it : Provision) : Type 0 where
   pub own_events : (h : List Occurrence) → AreJoint h posts → AreForLines h n it.own_events.items
   pub lines : it.lines.items ≡ []

@@ -1,4 +1,4 @@
--- What the parts of a receive tell each other (this project's profile).
+-- What the parts of a receive state to each other (this project's profile).
 use Rattle.std.specs.Prelude.{◌≡◌, ℕ, ◌+◌, ◌<◌, ◌≤◌, List, [], ◌∷◌, ◌++◌, length, map, drop, replicate, All}
 use Rattle.chart.specs.declared.history.Occurrence.TheVariants.{Receive}
 use Rattle.chart.specs.declared.line.TheConstants.{MAX_EVENTS}
@@ -25,7 +25,7 @@ use Rattle.board.specs.TakingMany.{messages_of}
 use Rattle.board.specs.Found.{HasMessages}
 use Rattle.board.specs.Known.{IsIncoming, Did}
 
--- all messages that waited on the lane are out with its receiver, who may receive them in this coregion
+-- all messages that waited on the lane are out with its receiver, which may receive them in this coregion
 pub record MayReceive (l : LaneView) (region : ℕ) (me : Mine) (end : Incoming) (recorder : RecorderView) : Type 0 where
   pub found : HasMessages l me
   pub legal : IsLegal l.instances l.capacity (held me).seen
@@ -57,7 +57,8 @@ pub record ReceiverView : Type 0 where
   pub end : Incoming
   pub recorder : RecorderView
 
--- the first message that was out was taken out of its slot, and its receive recorded: its parcel, with this arrival
+-- the first message that was out was taken out of its slot, and its receive was recorded: this parcel became this
+-- arrival
 pub record IsTaken (l : LaneView) (region : ℕ) (old : ReceiverView) (arrival : Arrival) (new : ReceiverView)
     : Type 0 where
   pub taking : IsTaking l new.me new.end
@@ -75,7 +76,7 @@ pub record IsTaken (l : LaneView) (region : ℕ) (old : ReceiverView) (arrival :
 abbrev pub reports_of : List Arrival → List ReportView
 reports_of arrivals = map (λ (arrival : Arrival). arrival.report) arrivals
 
--- so were the first ones that waited, one after another: these parcels, with these arrivals
+-- the first messages that waited were taken out and recorded, one after another: these parcels became these arrivals
 pub record AreTaken (l : LaneView) (region : ℕ) (old : ReceiverView) (arrivals : List Arrival) (new : ReceiverView)
     : Type 0 where
   pub taking : IsTaking l new.me new.end
@@ -91,7 +92,7 @@ pub record AreTaken (l : LaneView) (region : ℕ) (old : ReceiverView) (arrivals
   pub short : length new.recorder.line.events ≤ MAX_EVENTS
   pub known : new.end.known_put ≡ old.end.known_put
 
--- why the recorder, whose line has so many events, has recorded nothing
+-- why the recorder, whose line has this many events, has recorded nothing
 abbrev pub IsUnrecorded : ℕ → TakeError → Type 0
 IsUnrecorded events NoSuchInstance = ⊥
 IsUnrecorded events ToItself = ⊥
@@ -127,7 +128,7 @@ pub record IsUnreceived (l : LaneView) (old new : Mine) (error : TakeError) : Ty
   pub waits : 0 < length (waiting (held new).seen l.sender l.receiver)
   pub cause : IsUnrecorded (length (chart_of (held new).seen l.receiver)) error
 
--- why no more than these were received, of most so many
+-- why no more than these messages were received, of at most `most`
 abbrev pub IsStopped : LaneView → ℕ → Mine → List Arrival → Mine → Stop → Type 0
 IsStopped l most old arrivals new Asked = length arrivals ≡ most
 IsStopped l most old arrivals new NoMore = (length arrivals < most)
@@ -136,8 +137,8 @@ IsStopped l most old arrivals new (Refused error) = (length arrivals < most)
     × (0 < length (waiting (held new).seen l.sender l.receiver))
     × IsUnrecorded (length (chart_of (held new).seen l.receiver)) error
 
--- why no more than so many were taken out, of most so many and of as many as are known, where the line has so many
--- events
+-- why no more than `many` messages were taken out, of at most `most` and of the `known` ones, when the line has this
+-- many events
 abbrev pub IsHalted : ℕ → ℕ → ℕ → ℕ → Stop → Type 0
 IsHalted most known many events Asked = many ≡ most
 IsHalted most known many events NoMore = (many < most) × (many ≡ known)

@@ -12,25 +12,24 @@ use Rattle.board.specs.declared.error.SendError.{SendError}
 use Rattle.board.specs.declared.error.SendError.TheVariants.{NoSuchInstance, ToItself, InCoregion, Closed, TooMany, LineFull, Full, Memory}
 use Rattle.board.specs.Views.{PostView, line_of, last_event, Makes, Stays, IsPartner}
 
--- no cause stands in the way but those of the line, of the lane's slots and of memory
+-- nothing prevents the send except the line, the lane's slots and memory
 pub record MaySend (old : PostView) (to : ℕ) : Type 0 where
   pub two : IsPartner old to
   pub outside : old.region ≡ 0
   pub opened : is_closed old.made old.number to ≡ false
 
--- so many more messages than one call may send find no slot: as many wait as leave too few, in what was seen too, and
--- this comes of a look
+-- `many` messages find no slots on the lane, also by what was seen before, and a look showed this
 pub record IsFull (old : PostView) (to many : ℕ) (new : PostView) : Type 0 where
   pub waits : new.board.capacity < length (waiting new.seen new.number to) + many
   pub opened : is_closed new.seen new.number to ≡ false
   pub before : old.board.capacity < length (waiting old.seen old.number to) + many
   pub looked : old.looks < new.looks
 
--- so many messages find slots
+-- `many` messages find slots
 abbrev pub HasRoom : PostView → ℕ → ℕ → Type 0
 HasRoom post to many = length (waiting post.seen post.number to) + many ≤ post.board.capacity
 
--- why these many messages aren't sent, by one call that takes lists or by one that doesn't
+-- why `many` messages aren't sent, by a call that takes a list of them or by one that takes a single message
 abbrev pub IsUnsent : PostView → ℕ → ℕ → SendError → PostView → Type 0
 IsUnsent old to many NoSuchInstance new = old.board.size < to
 IsUnsent old to many ToItself new = to ≡ old.number
@@ -44,7 +43,7 @@ IsUnsent old to many Full new = MaySend old to × (many ≤ old.board.capacity)
 IsUnsent old to many Memory new = MaySend old to × (0 < many) × (length (line_of new) + many ≤ MAX_EVENTS)
     × HasRoom new to many
 
--- the message was sent, last of all that was seen; it took a place of the room, if there was one
+-- the message was sent, and its send is the last of all seen events. It took a place of the room, if there was one
 pub record IsSent (old : PostView) (to : ℕ) (message : Content) (sent : Sent) (new : PostView) : Type 0 where
   pub allowed : MaySend old to
   pub makes : (before : List Occurrence) × Makes old before (Send new.number to message ∷ []) new
@@ -56,17 +55,17 @@ abbrev pub Sends : PostView → ℕ → Content → Result Sent (Content × Send
 Sends old to message (Ok sent) new = IsSent old to message sent new
 Sends old to message (Err (back, error)) new = (back ≡ message) × Stays old new × IsUnsent old to 1 error new
 
--- these sends, the newest first
+-- p's sends of these messages, the newest first
 abbrev pub sends_of : ℕ → ℕ → List Content → List Occurrence
 sends_of p to messages = reverse (map (Send p to) messages)
 
--- so many events of p's line from an index on
+-- the events of p's line from an index on, one for each message
 abbrev pub numbered : ℕ → ℕ → List Content → List EventNo
 numbered p index [] = []
 numbered p index (m ∷ ms) = record { instance = p; index = index } ∷ numbered p (index + 1) ms
 
--- the messages were sent, one directly after another, last of all that was seen; each took a place of the room, while
--- there was one
+-- the messages were sent, one directly after another, and their sends are the last of all seen events. Each took a
+-- place of the room, while there was one
 pub record AreSent (old : PostView) (to : ℕ) (messages : List Content) (sents : List Sent)
     (new : PostView) : Type 0 where
   pub allowed : MaySend old to
@@ -80,7 +79,7 @@ SendsAll old to messages (Ok sents) new = AreSent old to messages sents.items ne
 SendsAll old to messages (Err (back, error)) new = (back.items ≡ messages) × Stays old new
     × IsUnsent old to (length messages) error new
 
--- nothing but the lane's slots and memory stands in the way of so many messages
+-- nothing but the lane's slots and memory can prevent the send of `many` messages
 pub record MayPass (old : PostView) (to many : ℕ) : Type 0 where
   pub allowed : MaySend old to
   pub within_capacity : many ≤ old.board.capacity

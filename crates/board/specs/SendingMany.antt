@@ -1,5 +1,5 @@
--- What the parts of a send of several messages tell each other (differences between clocks as Singhal and
--- Kshemkalyani 1992 have them; several sends at once are this project's profile).
+-- What the parts of a send of several messages state to each other (differences between clocks: after Singhal and
+-- Kshemkalyani 1992; several sends at once: this project's profile).
 use Rattle.std.specs.Prelude.{◌≡◌, ℕ, ◌+◌, ◌≤◌, List, length, map, drop, All}
 use Rattle.chart.specs.Words.{Clock}
 use Rattle.chart.specs.Messages.{Content}
@@ -18,14 +18,14 @@ use Rattle.board.specs.declared.sending_several.Prepared.{Prepared}
 use Rattle.board.specs.Known.{Did}
 use Rattle.board.specs.Sending.{sends_of, numbered}
 
--- the difference has exactly what changed, and makes the clock of the base
+-- the difference has exactly the entries that changed from the base to the clock, and turns the base into the clock
 pub record IsDiffTo (base : Clock) (diff : List Change) (clock : Clock) : Type 0 where
   pub within : All (λ (change : Change). change.instance ≤ length base) diff
   pub exact : IsDiff base clock diff
   pub applied : apply_diff base diff ≡ clock
 
--- what the sends of these messages need is there: what changes with the first, what is told of each, and room for all
--- on the line
+-- what the sends of these messages need is there: the first one's difference, the event of each, and room for all on
+-- the line
 pub record IsPrepared (base : Clock) (old : RecorderView) (messages : List Content) (it : Prepared)
     (new : RecorderView) : Type 0 where
   pub first : IsDiffTo base it.first (send_clock old)
@@ -33,8 +33,8 @@ pub record IsPrepared (base : Clock) (old : RecorderView) (messages : List Conte
       ≡ numbered old.line.instance (length old.line.events + 1) messages
   pub room : new ≡ with_room old (length messages)
 
--- these packets carry the messages, each with the clock of its send, over that of the one before it, the first one over
--- the base; and the recorder has recorded these sends
+-- these packets carry the messages, each with its difference from the clock of the one before it, the first from the
+-- base; and the recorder has recorded these sends
 pub record AreFilled (base : Clock) (old : RecorderView) (to : ℕ) (messages : List Content) (packets : List Packet)
     (new : RecorderView) : Type 0 where
   pub parcels : List Parcel

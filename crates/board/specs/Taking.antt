@@ -14,7 +14,7 @@ use Rattle.board.specs.declared.error.TakeError.{TakeError}
 use Rattle.board.specs.declared.error.TakeError.TheVariants.{NoSuchInstance, ToItself, LineFull, Memory}
 use Rattle.board.specs.Views.{PostView, line_of, last_event, Makes, Stays, IsPartner}
 
--- the lane is that from another instance to the post
+-- the lane is the one from another instance to the post
 pub record IsLaneFrom (post : PostView) (from : ℕ) (lane : LaneView) : Type 0 where
   pub two : IsPartner post from
   pub is : lane ≡ record {
@@ -24,8 +24,8 @@ pub record IsLaneFrom (post : PostView) (from : ℕ) (lane : LaneView) : Type 0 
     receiver = post.number;
   }
 
--- the first message that waited was received, last of all that was seen, in the open coregion and with its report; it
--- took a place of the room, if there was one
+-- the first message that waited was received, in the open coregion and with its report. The receive is the last of all
+-- seen events. It took a place of the room, if there was one
 pub record IsGot (old : PostView) (from : ℕ) (arrival : Arrival) (new : PostView) : Type 0 where
   pub two : IsPartner old from
   pub makes : (before : List Occurrence) × (rest : List Content)

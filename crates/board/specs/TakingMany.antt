@@ -18,8 +18,8 @@ use Rattle.board.specs.Taking.{IsFoundEmpty, IsUntaken}
 abbrev pub messages_of : List Arrival → List Content
 messages_of arrivals = map (λ (arrival : Arrival). arrival.message) arrivals
 
--- the first messages that waited were received, one directly after another and last of all that was seen, in the open
--- coregion and each with its report; each took a place of the room, while there was one
+-- the first messages that waited were received, in the open coregion, each with its report. The receives are the last
+-- of all seen events, one directly after another. Each took a place of the room, while there was one
 pub record AreGot (old : PostView) (from : ℕ) (arrivals : List Arrival) (new : PostView) : Type 0 where
   pub two : IsPartner old from
   pub some : 0 < length arrivals
@@ -32,7 +32,8 @@ pub record AreGot (old : PostView) (from : ℕ) (arrivals : List Arrival) (new :
   pub reports : All (λ (arrival : Arrival). IsReportIn (chart_of new.seen) arrival.report) arrivals
   pub room : new.room ≡ old.room - length arrivals
 
--- exactly these waited, in a front of what is seen that begins with what was seen
+-- exactly these messages waited after some history. It begins with what was seen before, and what is seen now begins
+-- with it
 pub record WereAll (old : PostView) (from : ℕ) (arrivals : List Arrival) (new : PostView) : Type 0 where
   pub front : (h : List Occurrence) × Begins old.seen h × Begins h new.seen
       × (waiting h from new.number ≡ messages_of arrivals)
@@ -43,7 +44,7 @@ Stops old from most arrivals Asked new = length arrivals ≡ most
 Stops old from most arrivals NoMore new = (length arrivals < most) × WereAll old from arrivals new
 Stops old from most arrivals (Refused error) new = (length arrivals < most) × IsUntaken old from error new
 
--- what a receive of up to so many messages from an instance answers
+-- what a receive of up to `most` messages from an instance answers
 abbrev pub TakesMany : PostView → ℕ → ℕ → Result TakenMany TakeError → PostView → Type 0
 TakesMany old from most (Ok (Got arrivals stop)) new = AreGot old from arrivals.items new
     × (length arrivals.items ≤ most) × Stops old from most arrivals.items stop new

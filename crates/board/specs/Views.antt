@@ -1,4 +1,4 @@
--- What a contract sees of a post, and what its calls leave: views of one legal history (this project's profile).
+-- What a contract sees of a post, and what every call preserves: views of one legal history (this project's profile).
 use Rattle.std.specs.Prelude.{◌≡◌, ℕ, ◌≤◌, List, ◌++◌, length}
 use Rattle.atomic_table.specs.Seated.{TableId}
 use Rattle.chart.specs.declared.history.Occurrence.{Occurrence}
@@ -6,7 +6,7 @@ use Rattle.chart.specs.declared.instance.EventNo.{EventNo}
 use Rattle.chart.specs.declared.event.Event.{Event}
 use Rattle.chart.specs.Histories.{own, received, chart_of, AreTwo, IsLegal, Begins}
 
--- which board it is, of how many instances, and how many slots each lane has
+-- which board it is, how many instances it has, and how many slots each of its lanes has
 pub record BoardView : Type 0 where
   pub table : TableId
   pub size : ℕ
@@ -23,7 +23,7 @@ pub record PostView : Type 0 where
   pub looks : ℕ
   -- its open coregion, 0 for none
   pub region : ℕ
-  -- for so many events room was made on its line and not used yet
+  -- the number of further events for which its line has memory
   pub room : ℕ
 
 -- the post's line in the chart of what it has seen
@@ -35,8 +35,8 @@ pub record IsSamePost (old new : PostView) : Type 0 where
   pub board : new.board ≡ old.board
   pub number : new.number ≡ old.number
 
--- what every call leaves: a legal history that begins with what was seen, in which the post's own events are those
--- that its calls made
+-- after every call, the seen history is legal and begins with the one seen before. The post's own events in it are
+-- those that its calls made
 pub record Sound (old new : PostView) : Type 0 where
   pub same : IsSamePost old new
   pub later : Begins old.seen new.seen
@@ -44,7 +44,7 @@ pub record Sound (old new : PostView) : Type 0 where
   pub own : own new.seen new.number ≡ new.made
   pub looks : old.looks ≤ new.looks
 
--- the call made these events, the newest first, one directly after another and after all that it saw
+-- the call made these events, the newest first: one directly after another, and after all that it saw
 pub record Makes (old : PostView) (before events : List Occurrence) (new : PostView) : Type 0 where
   pub later : Begins old.seen before
   pub seen : new.seen ≡ events ++ before

@@ -5,23 +5,24 @@ use chart::{EventNo, InstanceNo, Message, Report};
 /// A message was sent.
 #[derive(Clone, Copy, Debug, PartialEq, Eq)]
 pub struct Sent {
-    /// Its event, the last of the sender's line.
+    /// The event of its send, on the sender's line. After a send of one message it is the last event of this line.
     pub event: EventNo,
 }
 
-/// A message came, with the races of its receive.
+/// A message that was received, with the races of its receive.
 #[derive(Debug, Drop)]
 pub struct Arrival {
     pub from: InstanceNo,
     pub message: Message,
-    /// The report of the receive, which is the last event of the receiver's line.
+    /// The report of the receive. After a receive of one message, this receive is the last event of the receiver's
+    /// line.
     pub report: Report,
 }
 
 /// What a look at a lane finds.
 #[derive(Clone, Copy, Debug, PartialEq, Eq)]
 pub enum Peek {
-    /// A message waits, or several.
+    /// One message or more waits.
     Message,
     /// None waits, and the lane is open.
     Nothing,
@@ -58,7 +59,7 @@ pub enum Stop {
     Asked,
     /// It got all that waited when it looked.
     NoMore,
-    /// The next message, which is still the first of its lane, was refused for this.
+    /// The receive of the next message was refused with this. The message is still the first of its lane.
     Refused(TakeError),
 }
 

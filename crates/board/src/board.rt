@@ -16,7 +16,7 @@ use chart::{MAX_CAPACITY, MAX_INSTANCES};
 use std::alloc::{AllocError, Global};
 use std::marker::Model;
 
-/// A board of instances, each with a lane to each other one: a network of channels, in others' words.
+/// A board of instances, each with a lane to every other one. Elsewhere a board is called a network of channels.
 ///
 /// A contract sees which board it is, and whether its posts were asked for.
 pub struct Board {
@@ -27,7 +27,7 @@ pub struct Board {
     seat: Option<Seat>,
 }
 
-// (by hand, so that who lets go of one calls this, and has no code and no proof of its own for what lies within)
+// Written by hand, so that code which drops one calls this, and needs no code and no proof of its own for the parts.
 impl Drop for Board {
     #[inline(never)]
     fn drop(self) {
@@ -64,7 +64,8 @@ impl Model for Board {
 }
 
 impl Board {
-    /// A board of so many instances, whose lanes have so many slots each. The first of F8, F9 and F6 refuses it.
+    /// Makes a board of `instances` instances, whose lanes have `capacity` slots each. The first of F8, F9 and F6 that
+    /// applies refuses it.
     pub fn new(alloc: Global, instances: usize, capacity: usize) -> Result<Board, BoardError>
         ensures made { MakesBoard instances capacity result }
     {
@@ -87,8 +88,8 @@ impl Board {
         })
     }
 
-    /// The posts, in order of their instances. F10: they were asked for before. F6: a growth was refused, and from
-    /// then on every call is answered F10.
+    /// The posts, in order of their instances. F10: they were asked for before. F6: a growth was refused, and from then
+    /// on every call is refused with F10.
     pub fn posts(&mut self) -> Result<Vec<Post<'_>>, PostsError>
         ensures ok { IfOk result (λ posts. (self.old.asked ≡ false) × AreNewPosts self.old.board posts.items) }
         ensures err { IfErr result (λ error. IsUngiven self.old error) }
@@ -116,7 +117,7 @@ impl Board {
         self.seat.take()
     }
 
-    /// The posts of a board that wasn't asked for them, and the table that has its words.
+    /// The posts of a board that wasn't asked for them, and the table with its words.
     fn into_parked(self) -> Result<(BoardTable, Vec<Parked>), AllocError>
         requires { self.asked ≡ false }
         ensures { IfOk result (λ made. AreOpened self.board.size self.board.capacity made.0.shared.key
@@ -134,8 +135,9 @@ impl Board {
     }
 }
 
-/// The posts of a new board, in order of their instances, and the table that has its words, with the caller: each call
-/// of a parked post wants them, and so does [`Parked::wake`]. The first of F8, F9 and F6 refuses it.
+/// Makes a board. It returns the table with the board's words, and the posts in order of their instances. The caller
+/// keeps the table: each call of a parked post takes its words, and so does [`Parked::wake`]. The first of F8, F9 and
+/// F6 that applies refuses it.
 pub fn open_parked(
     alloc: Global,
     instances: usize,

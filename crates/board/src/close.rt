@@ -10,8 +10,8 @@ use board_table::{Lane, SharedTable, close};
 use chart::InstanceNo;
 
 impl Parked {
-    /// Closes the lane to an instance, be it full or not: nothing more is sent on it. It is the first of F14, F13 and
-    /// F12 that refuses it, and then nothing has changed. It takes no memory.
+    /// Closes the lane to an instance, whether it is full or not: nothing more is sent on it. The first of F14, F13 and
+    /// F12 that applies refuses it, and then nothing has changed. It takes no memory.
     pub fn close(&mut self, words: &SharedTable, to: InstanceNo) -> Result<(), CloseError>
         requires board { IsAtBoard words.now.key words.now.table_id self.old }
         ensures sound { Sound self.old self.new }
@@ -35,8 +35,8 @@ impl Parked {
 }
 
 impl<'a> Post<'a> {
-    /// Closes the lane to an instance, be it full or not: nothing more is sent on it. It is the first of F14, F13 and
-    /// F12 that refuses it, and then nothing has changed. It takes no memory.
+    /// Closes the lane to an instance, whether it is full or not: nothing more is sent on it. The first of F14, F13 and
+    /// F12 that applies refuses it, and then nothing has changed. It takes no memory.
     pub fn close(&mut self, to: InstanceNo) -> Result<(), CloseError>
         ensures sound { Sound self.old self.new }
         ensures answer { Closes self.old to result self.new }

@@ -1,4 +1,4 @@
-//! The lanes of a board that were closed.
+//! The closed lanes of a board.
 ghost use Rattle.std.specs.Prelude.{◌≡◌, ◌≢◌, ◌≤◌, ℕ, ◌++◌, List, IfOk, OnOk};
 ghost use Rattle.chart.specs.declared.instance.TheConstants.{MAX_INSTANCES};
 ghost use Rattle.chart.specs.Histories.{is_closed};
@@ -13,7 +13,7 @@ use chart::InstanceNo;
 use std::alloc::{AllocError, Global};
 
 impl Parked {
-    /// Whether it closed its lane to another instance.
+    /// Whether the post closed its lane to another instance.
     fn has_closed(&self, to: InstanceNo) -> bool
         requires among { to ≤ self.now.board.size }
         requires not_itself { to ≢ self.now.number }
@@ -24,7 +24,7 @@ impl Parked {
 }
 
 impl<'a> Post<'a> {
-    /// Whether it closed its lane to another instance.
+    /// Whether the post closed its lane to another instance.
     fn has_closed(&self, to: InstanceNo) -> bool
         requires among { to ≤ self.now.board.size }
         requires not_itself { to ≢ self.now.number }
@@ -34,7 +34,7 @@ impl<'a> Post<'a> {
     }
 }
 
-/// Adds the lanes that a sender closed, by receiver. F6: it fails only where there is no memory.
+/// Adds the lanes that a sender closed, sorted by receiver. F6: it fails only if there is no memory.
 fn find_closed_from(
     posts: &[Post],
     instances: usize,
@@ -63,7 +63,7 @@ fn find_closed_from(
     Ok(())
 }
 
-/// The lanes that were closed, by sender and then receiver. F6: it fails only where there is no memory.
+/// The closed lanes, sorted by sender and then receiver. F6: it fails only if there is no memory.
 pub(crate) fn find_closed(
     alloc: Global,
     posts: &[Post],

@@ -49,13 +49,13 @@ pub enum SendError {
     /// F12: this post closed the lane.
     #[error("the lane is closed")]
     Closed,
-    /// F27: more messages at once than the lane has slots. A send of one message never answers it.
+    /// F27: more messages at once than the lane has slots. A send of one message is never refused with it.
     #[error("more messages than the lane has slots")]
     TooMany,
     /// F7: the line would get more than [`chart::MAX_EVENTS`] events.
     #[error("the line is full")]
     LineFull,
-    /// F11: so many messages wait that these find no slot.
+    /// F11: too many messages wait on the lane: these find no slots.
     #[error("the lane is full")]
     Full,
     /// F6: a growth was refused.
@@ -108,7 +108,7 @@ pub enum RegionError {
 /// Why posts don't meet.
 #[derive(Clone, Copy, Debug, PartialEq, Eq, Error)]
 pub enum MeetError {
-    /// F15: the posts are none, or not all of their board.
+    /// F15: there are no posts, or not all of their board.
     #[error("not all posts of the board")]
     NotAllPosts,
 }
@@ -116,7 +116,7 @@ pub enum MeetError {
 /// Why a board isn't gathered: the first of these that applies.
 #[derive(Clone, Copy, Debug, PartialEq, Eq, Error)]
 pub enum GatherCause {
-    /// F15: the posts are none, or not all of their board.
+    /// F15: there are no posts, or not all of their board.
     #[error("not all posts of the board")]
     NotAllPosts,
     /// F6: a growth was refused.

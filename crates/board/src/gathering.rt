@@ -18,15 +18,15 @@ use board_table::SharedTable;
 use chart::{Chart, Event, InstanceNo, Line, Message, Report};
 use std::alloc::{AllocError, Global};
 
-/// What a whole board came to.
+/// What the gathering of a whole board returns.
 #[derive(Drop)]
 pub struct Gathered {
     pub chart: Chart,
-    /// The report of each receive, by instance and index.
+    /// The report of each receive, sorted by instance and index.
     pub reports: Vec<Report>,
-    /// The lanes on which messages wait, by sender and then receiver.
+    /// The lanes on which messages wait, sorted by sender and then receiver.
     pub left: Vec<Left>,
-    /// The lanes that were closed, by sender and then receiver.
+    /// The closed lanes, sorted by sender and then receiver.
     pub closed: Vec<ClosedLane>,
 }
 
@@ -53,13 +53,13 @@ pub struct GatherError<'a> {
     pub cause: GatherCause,
 }
 
-/// The reports of all that a board comes to, and room for the rest.
+/// What a gathering makes before the posts meet: the reports, the closed lanes, and room for the rest.
 #[derive(Drop)]
 pub(crate) struct Provision {
-    /// For each instance a list with room for the events of its line, by their numbers.
+    /// For each instance, in order of their numbers, a list with room for the events of its line.
     pub own_events: Vec<Vec<Event>>,
     pub lines: Vec<Line>,
-    /// The report of each receive, by instance and index.
+    /// The report of each receive, sorted by instance and index.
     pub reports: Vec<Report>,
     pub leavers: Vec<Leaver>,
     pub rooms: Vec<Room>,
@@ -76,7 +76,8 @@ impl<'a> Post<'a> {
     }
 }
 
-/// Makes the reports of all that a board comes to, and room for the rest. F6: it fails only where there is no memory.
+/// Makes the reports and the list of closed lanes, and room for the rest of what a gathering returns. F6: it fails only
+/// if there is no memory.
 fn make_provision(alloc: Global, posts: &[Post]) -> Result<Provision, AllocError>
     requires board { AreOfOneBoard posts.now }
     requires all { AreAll posts.now }
@@ -111,7 +112,7 @@ fn whole_chart(lines: Vec<Line>) -> Chart
     }
 }
 
-/// Gathers all posts of a board, for which there is room. It takes no memory.
+/// Gathers all posts of a board, with the room made for them. It takes no memory.
 fn gather_all(posts: Vec<Post>, provision: Provision) -> Gathered
     requires board { AreOfOneBoard posts.items }
     requires all { AreAll posts.items }
@@ -144,11 +145,12 @@ fn gather_all(posts: Vec<Post>, provision: Provision) -> Gathered
     }
 }
 
-/// Gathers a whole board: the chart of one history that begins with all that its posts had seen and has just their own
-/// events, the report of each receive, the messages that wait on each lane, and the lanes that were closed.
+/// Gathers a whole board. It returns the chart of one history, the report of each receive, the messages that wait on
+/// each lane, and the closed lanes. This history begins with all that the posts had seen, and has just their own
+/// events.
 ///
-/// The posts may come in any order. The first of F15 and F6 refuses it, and then they come back as they were: all
-/// memory is there before the first of them meets another.
+/// The posts may come in any order. The first of F15 and F6 that applies refuses it, and then they come back as they
+/// were: all memory is there before the first of them meets another.
 pub fn gather<'a>(alloc: Global, posts: Vec<Post<'a>>) -> Result<Gathered, GatherError<'a>>
     requires board { AreOfOneBoard posts.items }
     ensures { Gathers posts.entry.items result }

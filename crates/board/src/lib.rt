@@ -1,25 +1,25 @@
 //! A board on running threads: instances pass messages over lanes without a lock, and each receive reports its races.
 //!
-//! A [`Board`] gives each instance its [`Post`], which can be moved to a thread. What each call of a post answers
-//! stands in a legal history that begins with all that this post had seen, and has of its own just what its calls
-//! made. A receive gets the first message that waited, or the first of several, and each report is exactly that of
-//! the chart of this history. Several messages are sent by one store, all of them or none ([`Post::send_all`]), and
-//! received by one ([`Post::receive_up_to`]). Posts that [`meet`] have then seen one history. At the end [`gather`]
-//! takes all posts of a board and answers its chart, its reports, what waits on each lane, and the lanes that were
-//! closed.
+//! A [`Board`] gives each instance its [`Post`], which can be moved to a thread. The answer of each call of a post
+//! holds in a legal history that begins with all that this post had seen. The post's own events in it are just those
+//! that its calls made. A receive gets the first message that waited, or the first of several. Each report is exactly
+//! that of the chart of this history. [`Post::send_all`] sends several messages by one store, all of them or none.
+//! [`Post::receive_up_to`] receives several by one store. Posts that [`meet`] have then seen one history. At the end
+//! [`gather`] takes all posts of a board. It returns the board's chart, its reports, the messages that wait on each
+//! lane, and the closed lanes.
 //!
-//! A post borrows its board's words. A [`Parked`] one doesn't: it is the same post without them. Each of its calls
-//! takes them, and it can be woken at them ([`Parked::wake`], `specs/Parked.antt`). [`open_parked`] makes a board
-//! whose words lie with the caller.
+//! A post borrows its board's words. A [`Parked`] post is the same post without them: each of its calls takes them as
+//! an argument, and [`Parked::wake`] lends them to it again (`specs/Parked.antt`). [`open_parked`] makes a board whose
+//! words the caller keeps.
 //!
-//! `specs/Views.antt` says what a contract sees of a post; `Sending`, `Taking`, `TakingMany`, `Glancing`, `Closing`,
-//! `Meeting` and `Gathering` say what each call answers.
+//! `specs/Views.antt` defines what a contract sees of a post. `Sending`, `Taking`, `TakingMany`, `Peeking`, `Closing`,
+//! `Meeting` and `Gathering` define what each call answers.
 //!
-//! Messages carry what changed in their sender's clock since the one before on their lane (Singhal and Kshemkalyani
-//! 1992). Each end keeps the number that it loaded last, and looks again only where that leaves too few slots, or too
-//! few messages.
+//! Each message carries the entries of its sender's clock that changed since the message before it on the lane (Singhal
+//! and Kshemkalyani 1992). Each end keeps the number that it loaded last, and looks again only if that leaves too few
+//! slots or too few messages.
 //!
-//! [`long_runs`] carries what a board left over to the next one.
+//! [`long_runs`] carries over to the next board what a board left.
 #![tactic(auto)]
 
 mod answer;

@@ -1,13 +1,12 @@
-//! Long runs: a board after a board.
+//! Long runs: one board after another.
 //!
-//! The line of an instance has up to [`chart::MAX_EVENTS`] events. A run that goes on gathers its board, opens the
-//! next one and carries over to it what was left: [`carry_over`] sends the messages that waited again, each by its
-//! sender, and closes the lanes that were closed. Then each lane is as it was, and each board has a chart of its
-//! own.
+//! The line of an instance has up to [`chart::MAX_EVENTS`] events. A longer run gathers its board, opens the next one,
+//! and carries over to it what was left. [`carry_over`] sends again the messages that waited, each by its sender, and
+//! closes again the lanes that were closed. Then each lane is as it was, and each board has a chart of its own.
 //!
-//! `specs/LongRuns/CarriedHistories.antt` has the history that this makes, `CarryingOver` says what the call
-//! answers, and [`laws`] what a caller needs: that what [`crate::gather`] answers may be carried over
-//! (`premise_law`), and that the lanes stay as they were left (`carried_law`).
+//! `specs/LongRuns/CarriedHistories.antt` defines the history that this makes, and `CarryingOver` what the call
+//! answers. [`laws`] states what a caller needs: the result of [`crate::gather`] may be carried over (`premise_law`),
+//! and the lanes stay as they were left (`carried_law`).
 
 mod carrying;
 pub mod laws;

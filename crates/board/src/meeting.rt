@@ -23,7 +23,7 @@ impl Parked {
         note(words, &mut self.seat)
     }
 
-    /// Meets the note, and hands it on.
+    /// Meets the note, and returns it for the next post.
     fn hear(&mut self, words: &SharedTable, note: Seat) -> Seat
         requires board { IsAtBoard words.now.key words.now.table_id self.old }
         requires note { IsNoteOf note.table_id note.me self.old }
@@ -45,7 +45,7 @@ impl<'a> Post<'a> {
         self.parked.note(self.words)
     }
 
-    /// Meets the note, and hands it on.
+    /// Meets the note, and returns it for the next post.
     fn hear(&mut self, note: Seat) -> Seat
         requires note { IsNoteOf note.table_id note.me self.old }
         ensures hears { Hears (held note.me).seen self.old self.new }
@@ -56,7 +56,7 @@ impl<'a> Post<'a> {
     }
 }
 
-/// Brings the note to each post in turn, and hands it on.
+/// Brings the note to each post in turn, and returns it.
 fn hear_each(posts: &mut [Post], note: Seat) -> Seat
     requires note { (i : ℕ) → (post : PostView) → slice_get posts.old i ≡ Some post
         → IsNoteOf note.table_id note.me post }
@@ -71,7 +71,8 @@ fn hear_each(posts: &mut [Post], note: Seat) -> Seat
     note
 }
 
-/// Any posts of one board meet, while others move or are gone: they have then all seen one history. It takes no memory.
+/// Lets any posts of one board meet, while other posts move or are gone. Afterwards these posts have all seen one
+/// history. The call takes no memory.
 pub fn meet(posts: &mut [Post])
     requires board { AreOfOneBoard posts.old }
     ensures met { HaveMet posts.old posts.new }
@@ -84,8 +85,9 @@ pub fn meet(posts: &mut [Post])
     hear_each(posts, note);
 }
 
-/// Any posts of one board meet, of which the one at this place has seen all that the others have: they have then all
-/// seen what it has. The note goes round once, and not twice as in [`meet`]. It takes no memory.
+/// Lets any posts of one board meet, if the post at `place` has seen all that the others have seen. Afterwards they
+/// have all seen the history of this post. The note goes round once, and not twice as in [`meet`]. The call takes no
+/// memory.
 pub fn meet_at(posts: &mut [Post], place: usize)
     requires board { AreOfOneBoard posts.old }
     requires ahead { HasSeenAll posts.old place }
@@ -97,7 +99,8 @@ pub fn meet_at(posts: &mut [Post], place: usize)
     hear_each(posts, note);
 }
 
-/// Where one of them with this number is: at its own place, if they come in order, and else the first that there is.
+/// The place of a post with this number: place `number - 1` if the post there has it, and otherwise the first such
+/// place.
 pub fn place_of(posts: &[Post], number: usize) -> Option<usize>
     requires { 1 ≤ number }
     ensures some { IfSome result (λ place. IsAt posts.now place number) }
@@ -114,8 +117,7 @@ pub fn place_of(posts: &[Post], number: usize) -> Option<usize>
     None
 }
 
-/// Whether they are all posts of their board. It takes a time that depends on their number alone, if they come in
-/// order.
+/// Whether these are all posts of their board. If they are in order, the time depends only on their number.
 pub fn are_all(posts: &[Post]) -> bool
     ensures yes { result ≡ true → AreAll posts.now }
     ensures no { result ≡ false → AreNotAll posts.now }
@@ -131,8 +133,8 @@ pub fn are_all(posts: &[Post]) -> bool
     true
 }
 
-/// All posts of a board meet: they have then all seen one history. F15: these are none, or not all, and then nothing
-/// has changed. It takes no memory.
+/// Lets all posts of a board meet. Afterwards they have all seen one history. F15: there are no posts, or not all of
+/// their board, and then nothing has changed. The call takes no memory.
 pub fn meet_all(posts: &mut [Post]) -> Result<(), MeetError>
     requires board { AreOfOneBoard posts.old }
     ensures met { MeetsAll posts.old result posts.new }

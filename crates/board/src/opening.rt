@@ -13,7 +13,8 @@ use clock::Clock;
 use line_recorder::Recorder;
 use std::alloc::{AllocError, Global};
 
-/// Deals a seat to each post of a board, before their first calls. F6: it fails only where there is no memory.
+/// Deals a seat to each post of a board, and makes the posts, before their first calls. F6: it fails only if there is
+/// no memory.
 pub(crate) fn deal_posts(
     words: &SharedTable,
     seat: Seat,
@@ -38,7 +39,7 @@ pub(crate) fn deal_posts(
     Ok(posts)
 }
 
-/// The post with this seat, before its first call. F6: it fails only where there is no memory.
+/// The post with this seat, before its first call. F6: it fails only if there is no memory.
 fn make_post(
     seat: Seat,
     alloc: Global,
@@ -69,7 +70,7 @@ fn make_post(
     })
 }
 
-/// The ends of a post's lanes, before its first call. F6: it fails only where there is no memory.
+/// The ends of a post's lanes, before its first call. F6: it fails only if there is no memory.
 fn make_ends(alloc: Global, instances: usize) -> Result<(Vec<Outgoing>, Vec<Incoming>), AllocError>
     requires instances { (2 ≤ instances) × (instances ≤ MAX_INSTANCES) }
     ensures { IfOk result (λ ends. AreNewEnds instances instances ends.0.items ends.1.items) }

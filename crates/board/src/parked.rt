@@ -17,24 +17,24 @@ use line_recorder::Recorder;
 use std::alloc::Global;
 use std::marker::Model;
 
-/// A post that borrows nothing: all that a [`crate::Post`] is but its board's words, which each call takes. So it can
-/// be kept beside the table that has them, or be sent where that is shared.
+/// A post that borrows nothing: a [`crate::Post`] without its board's words, which each call takes as an argument. So
+/// it can be kept beside the table with these words, or be sent to where that table is shared.
 ///
-/// A contract sees of it what it sees of a post. Each call wants the words of its own board.
+/// A contract sees the same of it as of a post. Each call requires the words of the post's own board.
 pub struct Parked {
     pub(crate) seat: Seat,
     pub(crate) alloc: Global,
     pub(crate) shape: Shape,
     pub(crate) number: InstanceNo,
     pub(crate) recorder: Recorder,
-    /// By the other instance's place.
+    /// By the other instance's place, as `incoming` is.
     pub(crate) outgoing: Vec<Outgoing>,
     pub(crate) incoming: Vec<Incoming>,
     /// The open coregion, 0 for none.
     pub(crate) region: u32,
 }
 
-// (by hand, so that who lets go of one calls this, and has no code and no proof of its own for what lies within)
+// Written by hand, so that code which drops one calls this, and needs no code and no proof of its own for the parts.
 impl Drop for Parked {
     #[inline(never)]
     fn drop(self) {
@@ -77,8 +77,8 @@ impl Parked {
         self.number
     }
 
-    /// How many posts its board has. Its lanes have 1 to [`chart::MAX_CAPACITY`] slots, and what it has seen is sound,
-    /// before its first call too.
+    /// How many posts its board has. Its lanes have 1 to [`chart::MAX_CAPACITY`] slots. What the post has seen is
+    /// sound, also before its first call.
     pub fn board_size(&self) -> usize
         ensures value { result ≡ self.now.board.size }
         ensures sized { (2 ≤ result) × (result ≤ MAX_INSTANCES) }
@@ -89,15 +89,15 @@ impl Parked {
         self.shape.instances
     }
 
-    /// Its line in the chart of what it has seen. It takes no memory.
+    /// The post's line in the chart of what it has seen. The call takes no memory.
     pub fn line(&self) -> &GrowingLine
         ensures { result.now.line ≡ record { instance = self.now.number; events = line_of self.now } }
     {
         self.recorder.line()
     }
 
-    /// Opens a coregion, which its receives are in from now on. F28: one is open. It takes no memory and looks at
-    /// nothing.
+    /// Opens a coregion, to which the post's receives belong from now on. F28: a coregion is open already. The call
+    /// takes no memory and looks at nothing.
     pub fn open_coregion(&mut self) -> Result<(), RegionError>
         ensures ok { OnOk result (self.new ≡ record self.old { region = greatest_region (line_of self.old) + 1 }) }
         ensures open { (result ≡ Err RegionError.CoregionOpen) ↔ (0 < self.old.region) }
@@ -113,7 +113,7 @@ impl Parked {
         Ok(())
     }
 
-    /// Closes the coregion that is open. F29: none is. It takes no memory and looks at nothing.
+    /// Closes the open coregion. F29: no coregion is open. The call takes no memory and looks at nothing.
     pub fn close_coregion(&mut self) -> Result<(), RegionError>
         ensures ok { OnOk result (self.new ≡ record self.old { region = 0 }) }
         ensures not_open { (result ≡ Err RegionError.CoregionNotOpen) ↔ (self.old.region ≡ 0) }
@@ -127,8 +127,8 @@ impl Parked {
         Ok(())
     }
 
-    /// Leaves its board, with the messages that wait for it. Its events go into this list, which has room for them. It
-    /// takes no memory.
+    /// Leaves the board, with the messages that wait for this post. The post's events go into `events`, which has room
+    /// for them. The call takes no memory.
     pub(crate) fn part(self, words: &SharedTable, events: Vec<Event>) -> (Line, Leaver)
         requires empty { events.items ≡ [] }
         requires room { length (line_of self) ≤ vec_capacity events }

@@ -17,7 +17,7 @@ use crate::post::Post;
 use board_table::{Lane, Seat, SharedTable, draw};
 use chart::{Event, InstanceNo, Line, Message};
 
-/// Room for the messages of a lane that wait.
+/// Room for the messages that wait on a lane.
 #[derive(Drop)]
 pub(crate) struct Room {
     pub lane: Lane,
@@ -27,11 +27,11 @@ pub(crate) struct Room {
     pub taken: u64,
     /// How many wait.
     pub many: u64,
-    /// As many slots as messages wait.
+    /// An empty list with room for the waiting messages.
     pub messages: Vec<Message>,
 }
 
-/// A post that has left its board, and the messages that waited for it.
+/// A post that has left its board, with the messages that waited for it.
 #[derive(Drop)]
 pub(crate) struct Leaver {
     pub number: InstanceNo,
@@ -39,8 +39,8 @@ pub(crate) struct Leaver {
 }
 
 impl<'a> Post<'a> {
-    /// Leaves its board, with the messages that wait for it. Its events go into this list, which has room for them. It
-    /// takes no memory.
+    /// Leaves the board, with the messages that wait for this post. The post's events go into `events`, which has room
+    /// for them. The call takes no memory.
     pub(crate) fn part(self, events: Vec<Event>) -> (Line, Leaver)
         requires empty { events.items ≡ [] }
         requires room { length (line_of self) ≤ vec_capacity events }
@@ -54,7 +54,7 @@ impl<'a> Post<'a> {
     }
 }
 
-/// Draws the messages that have room, which come first of those that left with the seat.
+/// Draws the messages for which there is room. They are the first ones of those that left with the seat.
 pub(crate) fn draw_all(words: &SharedTable, seat: &mut Seat, room: Room) -> Left
     requires table { seat.old.table_id ≡ words.now.table_id }
     requires first { (packets : List Packet) × (others : List (ℕ × Option Packet))
@@ -91,7 +91,7 @@ pub(crate) fn draw_all(words: &SharedTable, seat: &mut Seat, room: Room) -> Left
     }
 }
 
-/// Takes the post of this number out of these.
+/// Takes the post with this number out of the list.
 fn take_post<'a>(posts: &mut Vec<Post<'a>>, number: usize) -> Post<'a>
     requires number { 1 ≤ number }
     requires has { HasPost posts.old.items number }
@@ -106,8 +106,8 @@ fn take_post<'a>(posts: &mut Vec<Post<'a>>, number: usize) -> Post<'a>
     posts.remove(place)
 }
 
-/// All posts of a board, which have met, leave it, by their numbers. There is room for their lines, each of which has a
-/// list for its events, and for themselves.
+/// Lets all posts of a board, which have met, leave it in order of their numbers. `lines` and `leavers` have room for
+/// them, and `own_events` has a list for the events of each line.
 pub(crate) fn part_all(
     posts: Vec<Post>,
     instances: usize,
@@ -135,7 +135,7 @@ pub(crate) fn part_all(
     }
 }
 
-/// Draws the messages of each lane that has room, in this order. There is room for as many lanes.
+/// Draws the messages of each lane for which there is room, in the order of `rooms`. `left` has room for as many lanes.
 pub(crate) fn draw_lanes(
     words: &SharedTable,
     leavers: &mut [Leaver],

@@ -13,25 +13,25 @@ use crate::post::Post;
 use board_table::{Lane, SharedTable, look, look_there};
 use chart::InstanceNo;
 
-/// So many lanes are looked at in a turn of the loop over lanes.
+/// How many lanes are looked at in one turn of the loop over lanes.
 const LANES_A_TURN: usize = 4;
 
 impl Parked {
-    /// Whether a message waits on the lane from an instance, which it receives none of. F14 and F13 refuse it. It looks
-    /// at what was sent only where it knows of no message. It takes no memory.
+    /// Whether a message waits on the lane from an instance. It receives no message. F14 or F13 refuses it. It looks at
+    /// what was sent only if it knows of no message. It takes no memory.
     #[inline(always)]
     pub fn peek(&mut self, words: &SharedTable, from: InstanceNo) -> Result<Peek, TakeError>
         requires board { IsAtBoard words.now.key words.now.table_id self.old }
         ensures sound { Sound self.old self.new }
         ensures answer { Peeks self.old from result self.new }
     {
-        // (what is known of a post is known where a field of it is used)
+        // The prover knows the invariant of a post only after a field of it is used.
         let _ = &self.seat;
         let lane = self.lane_from(from)?;
         Ok(self.peek_at(words, &lane, from.place()))
     }
 
-    /// The same, at this lane from the instance at this place.
+    /// The same for this lane, from the instance at this place.
     #[inline(always)]
     fn peek_at(&mut self, words: &SharedTable, lane: &Lane, place: usize) -> Peek
         requires board { IsAtBoard words.now.key words.now.table_id self.old }
@@ -55,8 +55,8 @@ impl Parked {
         Peek::Ended
     }
 
-    /// Whether a message waits on one of the lanes from the others among the instances with a number above `from` and
-    /// up to `to`, which it receives none of. It looks at them in turn, until it finds one. It takes no memory.
+    /// Whether a message waits on a lane from an instance with a number above `from` and up to `to`, except the post's
+    /// own. It receives no message. It looks at these lanes in turn until it finds a message. It takes no memory.
     #[inline(always)]
     pub fn peek_among(&mut self, words: &SharedTable, from: usize, to: usize) -> Scan
         requires board { IsAtBoard words.now.key words.now.table_id self.old }
@@ -94,10 +94,10 @@ impl Parked {
         if is_end { Scan::Ended } else { Scan::Nothing }
     }
 
-    /// Looks at the lanes from the instances with a number above `from` and up to `to`, which aren't the post itself,
-    /// as long as it finds them open and with no message. It answers how far it came.
+    /// Looks at the lanes from the instances with a number above `from` and up to `to`, none of which is the post's
+    /// own. It goes on as long as the lanes are open and have no message, and returns how far it came.
     ///
-    /// Several lanes are a turn of a loop that the compiler writes out.
+    /// One turn of the loop looks at several lanes: the compiler unrolls them.
     #[inline(always)]
     fn pass_open(&mut self, words: &SharedTable, from: usize, to: usize) -> usize
         requires board { IsAtBoard words.now.key words.now.table_id self.old }
@@ -135,8 +135,8 @@ impl Parked {
         place
     }
 
-    /// Whether a look at this lane, from the instance at this place, finds it open and with no message. The word is the
-    /// lane's.
+    /// Whether a look at this lane, from the instance at this place, finds it open and without a message. `word` is the
+    /// number of the lane's word.
     #[inline(always)]
     fn finds_nothing(&mut self, words: &SharedTable, lane: &Lane, place: usize, word: usize) -> bool
         requires board { IsAtBoard words.now.key words.now.table_id self.old }
@@ -152,8 +152,8 @@ impl Parked {
 }
 
 impl<'a> Post<'a> {
-    /// Whether a message waits on the lane from an instance, which it receives none of. F14 and F13 refuse it. It looks
-    /// at what was sent only where it knows of no message. It takes no memory.
+    /// Whether a message waits on the lane from an instance. It receives no message. F14 or F13 refuses it. It looks at
+    /// what was sent only if it knows of no message. It takes no memory.
     #[inline(always)]
     pub fn peek(&mut self, from: InstanceNo) -> Result<Peek, TakeError>
         ensures sound { Sound self.old self.new }
@@ -162,8 +162,8 @@ impl<'a> Post<'a> {
         self.parked.peek(self.words, from)
     }
 
-    /// Whether a message waits on one of the lanes from the others among the instances with a number above `from` and
-    /// up to `to`, which it receives none of. It looks at them in turn, until it finds one. It takes no memory.
+    /// Whether a message waits on a lane from an instance with a number above `from` and up to `to`, except the post's
+    /// own. It receives no message. It looks at these lanes in turn until it finds a message. It takes no memory.
     #[inline(always)]
     pub fn peek_among(&mut self, from: usize, to: usize) -> Scan
         requires order { from ≤ to }

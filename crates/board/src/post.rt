@@ -12,13 +12,12 @@ use board_table::SharedTable;
 use chart::{GrowingLine, InstanceNo};
 use std::marker::Model;
 
-/// What an instance of a board acts by (its endpoint): it sends, receives and closes lanes. It can be moved to a
-/// thread.
+/// The post of an instance, its endpoint on a board: it sends, receives and closes lanes. It can be moved to a thread.
 ///
-/// A contract sees its board, its number, the history that it has seen and the events that its own calls made, how
-/// often it looked at what others wrote, its open coregion, and the room that was made on its line. After each call
-/// what is seen is a legal history that begins with what was seen before, and the post's own events in it are those
-/// that its calls made.
+/// A contract sees the post's board and number, the history that it has seen, and the events that its own calls made.
+/// It also sees how often the post looked at words of others, its open coregion, and the room on its line. After each
+/// call the seen history is legal, and begins with the history that was seen before. The post's own events in it are
+/// those that its calls made.
 #[derive(Drop)]
 pub struct Post<'a> {
     pub(crate) words: &'a SharedTable,
@@ -44,8 +43,8 @@ impl<'a> Post<'a> {
         self.parked.number()
     }
 
-    /// How many posts its board has. Its lanes have 1 to [`chart::MAX_CAPACITY`] slots, and what it has seen is sound,
-    /// before its first call too.
+    /// How many posts its board has. Its lanes have 1 to [`chart::MAX_CAPACITY`] slots. What the post has seen is
+    /// sound, also before its first call.
     pub fn board_size(&self) -> usize
         ensures value { result ≡ self.now.board.size }
         ensures sized { (2 ≤ result) × (result ≤ MAX_INSTANCES) }
@@ -56,15 +55,15 @@ impl<'a> Post<'a> {
         self.parked.board_size()
     }
 
-    /// Its line in the chart of what it has seen. It takes no memory.
+    /// The post's line in the chart of what it has seen. The call takes no memory.
     pub fn line(&self) -> &GrowingLine
         ensures { result.now.line ≡ record { instance = self.now.number; events = line_of self.now } }
     {
         self.parked.line()
     }
 
-    /// Opens a coregion, which its receives are in from now on. F28: one is open. It takes no memory and looks at
-    /// nothing.
+    /// Opens a coregion, to which the post's receives belong from now on. F28: a coregion is open already. The call
+    /// takes no memory and looks at nothing.
     pub fn open_coregion(&mut self) -> Result<(), RegionError>
         ensures ok { OnOk result (self.new ≡ record self.old { region = greatest_region (line_of self.old) + 1 }) }
         ensures open { (result ≡ Err RegionError.CoregionOpen) ↔ (0 < self.old.region) }
@@ -74,7 +73,7 @@ impl<'a> Post<'a> {
         self.parked.open_coregion()
     }
 
-    /// Closes the coregion that is open. F29: none is. It takes no memory and looks at nothing.
+    /// Closes the open coregion. F29: no coregion is open. The call takes no memory and looks at nothing.
     pub fn close_coregion(&mut self) -> Result<(), RegionError>
         ensures ok { OnOk result (self.new ≡ record self.old { region = 0 }) }
         ensures not_open { (result ≡ Err RegionError.CoregionNotOpen) ↔ (self.old.region ≡ 0) }

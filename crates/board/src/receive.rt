@@ -14,9 +14,9 @@ use board_table::{Lane, SharedTable};
 use chart::InstanceNo;
 
 impl Parked {
-    /// Receives the first message that waits on the lane from an instance. F14 and F13 refuse it; then it is nothing,
-    /// or the end, where no message waits, and this comes only after a look; then F7 and F6 refuse it, and the
-    /// message is still the first of its lane.
+    /// Receives the first message that waits on the lane from an instance. F14 or F13 refuses it. If no message waits,
+    /// the answer is [`Taken::Nothing`] or [`Taken::Ended`], and comes only after a look. If a message waits, F7 or F6
+    /// can refuse the receive: then the message is still the first of its lane.
     #[inline(always)]
     pub fn receive(&mut self, words: &SharedTable, from: InstanceNo) -> Result<Taken, TakeError>
         requires board { IsAtBoard words.now.key words.now.table_id self.old }
@@ -42,7 +42,7 @@ impl Parked {
         Ok(Taken::Got(arrival))
     }
 
-    /// The lane from an instance. The first of F14 and F13 refuses it.
+    /// The lane from an instance. The first of F14 and F13 that applies refuses it.
     #[inline(always)]
     pub(crate) fn lane_from(&self, from: InstanceNo) -> Result<Lane, TakeError>
         ensures ok { IfOk result (IsLaneFrom self.now from) }
@@ -60,9 +60,9 @@ impl Parked {
 }
 
 impl<'a> Post<'a> {
-    /// Receives the first message that waits on the lane from an instance. F14 and F13 refuse it; then it is nothing,
-    /// or the end, where no message waits, and this comes only after a look; then F7 and F6 refuse it, and the
-    /// message is still the first of its lane.
+    /// Receives the first message that waits on the lane from an instance. F14 or F13 refuses it. If no message waits,
+    /// the answer is [`Taken::Nothing`] or [`Taken::Ended`], and comes only after a look. If a message waits, F7 or F6
+    /// can refuse the receive: then the message is still the first of its lane.
     #[inline(always)]
     pub fn receive(&mut self, from: InstanceNo) -> Result<Taken, TakeError>
         ensures sound { Sound self.old self.new }

@@ -14,12 +14,12 @@ use board_table::SharedTable;
 use chart::InstanceNo;
 
 impl Parked {
-    /// Receives the first messages that wait on the lane from an instance, at most so many, and frees their slots at
-    /// once. F14 and F13 refuse it; then it is nothing, or the end, where no message waits, and this comes only after
-    /// a look; then F7 and F6 refuse it, both only where not even one message could be received. The message that
-    /// stops it is still the first of its lane.
+    /// Receives the first messages that wait on the lane from an instance, at most `max`, and frees their slots at
+    /// once. F14 or F13 refuses it. If no message waits, the answer is [`TakenMany::Nothing`] or [`TakenMany::Ended`],
+    /// and comes only after a look. F7 or F6 refuses the receive only if not even one message could be received. The
+    /// message that stops it is still the first of its lane.
     ///
-    /// It looks at what was sent only where it knows of fewer messages than it was asked for.
+    /// It looks at what was sent only if it knows of fewer than `max` messages.
     pub fn receive_up_to(
         &mut self,
         words: &SharedTable,
@@ -54,12 +54,12 @@ impl Parked {
 }
 
 impl<'a> Post<'a> {
-    /// Receives the first messages that wait on the lane from an instance, at most so many, and frees their slots at
-    /// once. F14 and F13 refuse it; then it is nothing, or the end, where no message waits, and this comes only after
-    /// a look; then F7 and F6 refuse it, both only where not even one message could be received. The message that
-    /// stops it is still the first of its lane.
+    /// Receives the first messages that wait on the lane from an instance, at most `max`, and frees their slots at
+    /// once. F14 or F13 refuses it. If no message waits, the answer is [`TakenMany::Nothing`] or [`TakenMany::Ended`],
+    /// and comes only after a look. F7 or F6 refuses the receive only if not even one message could be received. The
+    /// message that stops it is still the first of its lane.
     ///
-    /// It looks at what was sent only where it knows of fewer messages than it was asked for.
+    /// It looks at what was sent only if it knows of fewer than `max` messages.
     pub fn receive_up_to(&mut self, from: InstanceNo, max: usize) -> Result<TakenMany, TakeError>
         requires some { 1 ≤ max }
         ensures sound { Sound self.old self.new }

@@ -32,10 +32,10 @@ pub(crate) enum Found {
     Ended,
 }
 
-/// Takes the slots of all messages that wait on the lane. It looks at the sender's word only where it knows of fewer
-/// than so many.
+/// Takes the slots of all messages that wait on the lane. It looks at the sender's word only if it knows of fewer than
+/// `many` messages.
 ///
-/// Where it knows of none, it looks before it takes a slot: then an empty lane costs one load.
+/// If it knows of no message, it looks before it takes a slot. So an empty lane costs one load.
 #[inline(always)]
 pub(crate) fn find_messages(
     words: &SharedTable,
@@ -73,8 +73,8 @@ pub(crate) fn find_messages(
     }
 }
 
-/// Takes the slots of all messages that wait on the lane. It looks at the sender's word only where it knows of fewer
-/// than so many.
+/// Takes the slots of all messages that wait on the lane. It looks at the sender's word only if it knows of fewer than
+/// `many` messages.
 #[inline(always)]
 fn find_more(
     words: &SharedTable,
@@ -115,9 +115,9 @@ fn find_more(
     }
 }
 
-/// Receives the first of the messages that were found, in this coregion.
+/// Receives the first of the found messages, in the coregion `region`.
 ///
-/// The first of F7 and F6 refuses it: then the message is still the first of its lane.
+/// The first of F7 and F6 that applies refuses it, and then the message is still the first of its lane.
 #[inline(always)]
 pub(crate) fn receive_one(
     words: &SharedTable,
@@ -153,9 +153,9 @@ pub(crate) fn receive_one(
     Ok(arrival)
 }
 
-/// Takes the next of the messages that were found out of its slot, and records its receive.
+/// Takes the next of the found messages out of its slot, and records its receive.
 ///
-/// F6: it fails only where there is no memory, and then nothing has changed.
+/// F6: it fails only if there is no memory, and then nothing has changed.
 #[inline(always)]
 pub(crate) fn take_next(
     words: &SharedTable,

@@ -16,11 +16,11 @@ use chart::{InstanceNo, MAX_EVENTS};
 use line_recorder::Recorder;
 use std::alloc::Global;
 
-/// Receives the first of the messages that were found, at most so many, in this coregion, and answers why no more.
-/// They are freed at once.
+/// Receives the first of the found messages, at most `max`, in the coregion `region`. It also returns why it received
+/// no more. The slots of these messages are freed at once.
 ///
-/// The first of F7 and F6 refuses it, if it stands in the way of the first message: then that is still the first of
-/// its lane.
+/// The first of F7 and F6 that applies refuses it if it prevents the receive of the first message. Then this message is
+/// still the first of its lane.
 pub(crate) fn receive_several(
     words: &SharedTable,
     seat: &mut Seat,
@@ -74,8 +74,8 @@ pub(crate) fn receive_several(
     }
 }
 
-/// Takes the first of the messages that are known of out of their slots, at most so many, and records their receives.
-/// It answers why no more: then the next message is still in its slot.
+/// Takes the first of the known messages out of their slots, at most `max`, and records their receives. It returns why
+/// it took no more: then the next message is still in its slot.
 fn take_several(
     words: &SharedTable,
     seat: &mut Seat,
@@ -101,7 +101,7 @@ fn take_several(
         (length recorder.new.line.events) result }
 {
     let many = max.min(end.known_put - end.taken);
-    // Where there is no memory for all at once, there may still be some for the first ones.
+    // If there is no memory for all at once, there may still be some for the first ones.
     let _ = arrivals.reserve(many as usize);
     for _ in 0..many {
         if recorder.line().len() >= MAX_EVENTS {

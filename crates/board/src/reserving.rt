@@ -1,4 +1,4 @@
-//! Room for all that a board comes to. It is there before its posts meet.
+//! Room for all that a gathering returns. It is made before the posts meet.
 ghost use Rattle.std.specs.Prelude.{◌≡◌, ◌≢◌, ◌+◌, ◌≤◌, ℕ, [], ◌∷◌, ◌++◌, List, length, map, vec_capacity, IfOk, OnOk};
 ghost use Rattle.std.specs.Prelude.{IfSome};
 ghost use Rattle.chart.specs.declared.history.Occurrence.{Occurrence};
@@ -19,7 +19,7 @@ use board_table::Lane;
 use chart::{Event, Report};
 use std::alloc::{AllocError, Global};
 
-/// The post of this number.
+/// The post with this number.
 pub(crate) fn post_of<'p, 'a>(posts: &'p [Post<'a>], number: usize) -> &'p Post<'a>
     requires number { 1 ≤ number }
     requires has { HasPost posts.now number }
@@ -33,7 +33,7 @@ pub(crate) fn post_of<'p, 'a>(posts: &'p [Post<'a>], number: usize) -> &'p Post<
 }
 
 impl Parked {
-    /// Room for the messages that wait on the lane from another post. F6: it fails only where there is no memory.
+    /// Room for the messages that wait on the lane from another post. F6: it fails only if there is no memory.
     fn room_from(&self, alloc: Global, sender: &Parked) -> Result<Room, AllocError>
         requires board { sender.now.board ≡ self.now.board }
         requires not_itself { sender.now.number ≢ self.now.number }
@@ -53,7 +53,7 @@ impl Parked {
         })
     }
 
-    /// Adds the report of each of its receives to a list. F6: it fails only where there is no memory.
+    /// Adds the reports of the post's receives to a list. F6: it fails only if there is no memory.
     fn add_reports(&self, alloc: Global, reports: &mut Vec<Report>) -> Result<(), AllocError>
         ensures { OnOk result ((h : List Occurrence) (lines : List LineView) → IsJoint h self.now
             → AreReportsOf (chart_of h) lines reports.old.items
@@ -62,7 +62,7 @@ impl Parked {
         self.recorder.add_reports(alloc, reports)
     }
 
-    /// An empty list with room for just the events of its line. F6: it fails only where there is no memory.
+    /// An empty list with room for exactly the events of the post's line. F6: it fails only if there is no memory.
     fn list_for_line(&self, alloc: Global) -> Result<Vec<Event>, AllocError>
         ensures { IfOk result (λ events. (h : List Occurrence) → IsJoint h self.now → IsForLine h self.now.number events) }
     {
@@ -71,7 +71,7 @@ impl Parked {
 }
 
 impl<'a> Post<'a> {
-    /// Room for the messages that wait on the lane from another post. F6: it fails only where there is no memory.
+    /// Room for the messages that wait on the lane from another post. F6: it fails only if there is no memory.
     fn room_from(&self, alloc: Global, sender: &Post) -> Result<Room, AllocError>
         requires board { sender.now.board ≡ self.now.board }
         requires not_itself { sender.now.number ≢ self.now.number }
@@ -81,7 +81,7 @@ impl<'a> Post<'a> {
         self.parked.room_from(alloc, &sender.parked)
     }
 
-    /// Adds the report of each of its receives to a list. F6: it fails only where there is no memory.
+    /// Adds the reports of the post's receives to a list. F6: it fails only if there is no memory.
     fn add_reports(&self, alloc: Global, reports: &mut Vec<Report>) -> Result<(), AllocError>
         ensures { OnOk result ((h : List Occurrence) (lines : List LineView) → IsJoint h self.now
             → AreReportsOf (chart_of h) lines reports.old.items
@@ -90,7 +90,7 @@ impl<'a> Post<'a> {
         self.parked.add_reports(alloc, reports)
     }
 
-    /// An empty list with room for just the events of its line. F6: it fails only where there is no memory.
+    /// An empty list with room for exactly the events of the post's line. F6: it fails only if there is no memory.
     fn list_for_line(&self, alloc: Global) -> Result<Vec<Event>, AllocError>
         ensures { IfOk result (λ events. (h : List Occurrence) → IsJoint h self.now → IsForLine h self.now.number events) }
     {
@@ -98,7 +98,8 @@ impl<'a> Post<'a> {
     }
 }
 
-/// Makes room for what waits on each lane of a sender, by receiver. F6: it fails only where there is no memory.
+/// Makes room for the messages that wait on each lane of a sender, sorted by receiver. F6: it fails only if there is no
+/// memory.
 fn make_rooms_from(
     alloc: Global,
     posts: &[Post],
@@ -123,7 +124,8 @@ fn make_rooms_from(
     Ok(())
 }
 
-/// Room for what waits on each lane, by sender and then receiver. F6: it fails only where there is no memory.
+/// Room for the messages that wait on each lane, sorted by sender and then receiver. F6: it fails only if there is no
+/// memory.
 pub(crate) fn make_rooms(
     alloc: Global,
     posts: &[Post],
@@ -140,7 +142,7 @@ pub(crate) fn make_rooms(
     Ok(rooms)
 }
 
-/// The report of each receive of all posts, by instance and index. F6: it fails only where there is no memory.
+/// The report of each receive of all posts, sorted by instance and index. F6: it fails only if there is no memory.
 pub(crate) fn make_reports(
     alloc: Global,
     posts: &[Post],
@@ -157,8 +159,8 @@ pub(crate) fn make_reports(
     Ok(reports)
 }
 
-/// For each instance a list with room for just the events of its line, by their numbers. F6: it fails only where there
-/// is no memory.
+/// For each instance, in order of their numbers, a list with room for exactly the events of its line. F6: it fails only
+/// if there is no memory.
 pub(crate) fn make_own_events(
     alloc: Global,
     posts: &[Post],

@@ -8,16 +8,17 @@ use crate::post::Post;
 use chart::MAX_EVENTS;
 
 impl Parked {
-    /// For so many events room was made on its line, and not used yet. An accepted event takes one place of it, if
-    /// there is one, and nothing else does. While there is some, on boards of up to [`clock::INLINE_ENTRIES`]
-    /// instances, a send needs no memory. It takes no memory itself.
+    /// The number of further events for which the post's line has memory. Each accepted event takes one place of this
+    /// room, if there is one, and nothing else does. While there is room, a send on a board of up to
+    /// [`clock::INLINE_ENTRIES`] instances needs no memory. This call takes no memory.
     pub fn room(&self) -> usize
         ensures { result ≡ self.now.room }
     {
         self.recorder.room()
     }
 
-    /// Makes room for so many events, at most [`MAX_EVENTS`]. F6: a growth was refused, and then nothing has changed.
+    /// Makes room for at least `events` further events; `events` is at most [`MAX_EVENTS`]. F6: a growth was refused,
+    /// and then nothing has changed.
     pub fn reserve(&mut self, events: usize) -> Result<(), Memory>
         requires { events ≤ MAX_EVENTS }
         ensures ok { OnOk result (self.new ≡ record self.old { room = max self.old.room events }) }
@@ -30,16 +31,17 @@ impl Parked {
 }
 
 impl<'a> Post<'a> {
-    /// For so many events room was made on its line, and not used yet. An accepted event takes one place of it, if
-    /// there is one, and nothing else does. While there is some, on boards of up to [`clock::INLINE_ENTRIES`]
-    /// instances, a send needs no memory. It takes no memory itself.
+    /// The number of further events for which the post's line has memory. Each accepted event takes one place of this
+    /// room, if there is one, and nothing else does. While there is room, a send on a board of up to
+    /// [`clock::INLINE_ENTRIES`] instances needs no memory. This call takes no memory.
     pub fn room(&self) -> usize
         ensures { result ≡ self.now.room }
     {
         self.parked.room()
     }
 
-    /// Makes room for so many events, at most [`MAX_EVENTS`]. F6: a growth was refused, and then nothing has changed.
+    /// Makes room for at least `events` further events; `events` is at most [`MAX_EVENTS`]. F6: a growth was refused,
+    /// and then nothing has changed.
     pub fn reserve(&mut self, events: usize) -> Result<(), Memory>
         requires { events ≤ MAX_EVENTS }
         ensures ok { OnOk result (self.new ≡ record self.old { room = max self.old.room events }) }

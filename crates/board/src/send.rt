@@ -15,11 +15,11 @@ use board_table::{Lane, SharedTable};
 use chart::{EventNo, InstanceNo, MAX_EVENTS, Message};
 
 impl Parked {
-    /// Sends a message. It is the first of F14, F13, F30, F12, F7, F11 and F6 that refuses it: then it comes back,
-    /// and nothing has changed but that more may be seen.
+    /// Sends a message. The first of F14, F13, F30, F12, F7, F11 and F6 that applies refuses it. Then the message comes
+    /// back, and nothing has changed, except that the post may have seen more.
     ///
-    /// F11 comes only after a look at what the receiver has received. F6 doesn't come while there is room, on boards of
-    /// up to [`clock::INLINE_ENTRIES`] instances, and on any board not before its first receive.
+    /// F11 comes only after a look at what the receiver has received. F6 doesn't come while there is room, if the board
+    /// has at most [`clock::INLINE_ENTRIES`] instances, or if the post has received nothing yet.
     #[inline(always)]
     pub fn send(
         &mut self,
@@ -60,7 +60,7 @@ impl Parked {
         }
     }
 
-    /// The first cause why it doesn't send so many messages to this instance, whatever waits there.
+    /// The first reason not to send `many` messages to this instance, whatever waits there.
     #[inline(always)]
     pub(crate) fn sends_nothing(&self, to: InstanceNo, many: usize) -> Option<SendError>
         ensures none { IfNone result (MayPass self.now to many) }
@@ -90,11 +90,11 @@ impl Parked {
 }
 
 impl<'a> Post<'a> {
-    /// Sends a message. It is the first of F14, F13, F30, F12, F7, F11 and F6 that refuses it: then it comes back,
-    /// and nothing has changed but that more may be seen.
+    /// Sends a message. The first of F14, F13, F30, F12, F7, F11 and F6 that applies refuses it. Then the message comes
+    /// back, and nothing has changed, except that the post may have seen more.
     ///
-    /// F11 comes only after a look at what the receiver has received. F6 doesn't come while there is room, on boards of
-    /// up to [`clock::INLINE_ENTRIES`] instances, and on any board not before its first receive.
+    /// F11 comes only after a look at what the receiver has received. F6 doesn't come while there is room, if the board
+    /// has at most [`clock::INLINE_ENTRIES`] instances, or if the post has received nothing yet.
     #[inline(always)]
     pub fn send(&mut self, to: InstanceNo, message: Message) -> Result<Sent, (Message, SendError)>
         ensures sound { Sound self.old self.new }

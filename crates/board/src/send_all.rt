@@ -12,9 +12,9 @@ use board_table::{Lane, SharedTable};
 use chart::{InstanceNo, Message};
 
 impl Parked {
-    /// Sends all of these messages, one directly after another, or none. It is the first of F14, F13, F30, F12, F27,
-    /// F7, F11 and F6 that refuses them: then they come back, and nothing has changed but that more may be seen. No
-    /// message is sent where there is none, and then only F14, F13, F30 and F12 refuse it.
+    /// Sends all of these messages, one directly after another, or none. The first of F14, F13, F30, F12, F27, F7, F11
+    /// and F6 that applies refuses them. Then they come back, and nothing has changed, except that the post may have
+    /// seen more. If the list is empty, nothing is sent, and only F14, F13, F30 and F12 can refuse it.
     ///
     /// F11 comes only after a look at what the receiver has received.
     pub fn send_all(
@@ -49,9 +49,9 @@ impl Parked {
 }
 
 impl<'a> Post<'a> {
-    /// Sends all of these messages, one directly after another, or none. It is the first of F14, F13, F30, F12, F27,
-    /// F7, F11 and F6 that refuses them: then they come back, and nothing has changed but that more may be seen. No
-    /// message is sent where there is none, and then only F14, F13, F30 and F12 refuse it.
+    /// Sends all of these messages, one directly after another, or none. The first of F14, F13, F30, F12, F27, F7, F11
+    /// and F6 that applies refuses them. Then they come back, and nothing has changed, except that the post may have
+    /// seen more. If the list is empty, nothing is sent, and only F14, F13, F30 and F12 can refuse it.
     ///
     /// F11 comes only after a look at what the receiver has received.
     pub fn send_all(

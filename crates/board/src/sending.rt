@@ -20,8 +20,8 @@ use board_table::{
 use chart::Message;
 use line_recorder::Recorder;
 
-/// Takes all slots of the lane that are free, if there are so many, and else none. It looks at the receiver's word
-/// only where the number that is known leaves too few.
+/// Takes all free slots of the lane if there are at least `many`, and otherwise none. It looks at the receiver's word
+/// only if the known number leaves too few.
 #[inline(always)]
 pub(crate) fn claim_slots(
     words: &SharedTable,
@@ -63,8 +63,8 @@ pub(crate) fn claim_slots(
     false
 }
 
-/// Sends a message on an open lane, whose sender's line has room for it. It is on its way before it is recorded: all
-/// that can be refused comes first.
+/// Sends a message on an open lane, if the sender's line may get another event. All steps that can be refused come
+/// first: the message is published before its send is recorded.
 #[inline(always)]
 pub(crate) fn send_one(
     words: &SharedTable,

@@ -22,16 +22,16 @@ use clock::{Clock, Diff};
 use line_recorder::Recorder;
 use std::alloc::{AllocError, Global};
 
-/// What the sends of several messages need. All of it is there before any is made.
+/// What the sends of several messages need. All of it exists before the first send.
 #[derive(Debug, Drop)]
 pub(crate) struct Prepared {
-    /// What changed in the sender's clock with the first message since the one before it on the lane.
+    /// The difference between the first message's clock and that of the message before it on the lane.
     pub first: Diff,
-    /// What is told of each send.
+    /// The answer for each send.
     pub sents: Vec<Sent>,
 }
 
-/// The line's next events, one for each message. F6: it fails only where there is no memory.
+/// The line's next events, one for each message. F6: it fails only if there is no memory.
 fn next_sents(
     alloc: Global,
     line: &GrowingLine,
@@ -54,7 +54,7 @@ fn next_sents(
 
 /// Makes what the sends of these messages need, and room for them on the line.
 ///
-/// F6: it fails only where there is no memory, and then nothing has changed.
+/// F6: it fails only if there is no memory, and then nothing has changed.
 fn prepare(
     recorder: &mut Recorder,
     base: &Clock,
@@ -73,9 +73,10 @@ fn prepare(
     Ok(Prepared { first, sents })
 }
 
-/// Puts each message into its slot and records its send, in their order, from that slot on before which `count`
-/// messages were put on the lane. The first one has this difference; each other one differs from the one before it in
-/// the sender's own entry alone. It answers how many were put with these.
+/// Puts the messages into their slots and records their sends, in their order. `count` messages were put on the lane
+/// before, so the first message goes into the slot after those. It carries the difference `first`. Each other message
+/// differs from the one before it only in the sender's own entry. The result is the number of messages put on the lane,
+/// with these.
 fn fill_slots(
     words: &SharedTable,
     seat: &mut Seat,
@@ -118,8 +119,8 @@ fn fill_slots(
     put
 }
 
-/// Sends these messages by one store, on an open lane, whose sender's line has room for them. F11 or F6 refuses them,
-/// and then they come back. All memory is there before the first is in its slot, and no clock is copied.
+/// Sends these messages by one store on an open lane, if the sender's line may get as many events. F11 or F6 refuses
+/// them, and then they come back. All memory is there before the first message is in its slot, and no clock is copied.
 pub(crate) fn send_several(
     words: &SharedTable,
     seat: &mut Seat,

@@ -8,7 +8,7 @@ use board_table::SharedTable;
 use std::alloc::Global;
 
 impl Parked {
-    /// The same post, at its own board's words.
+    /// The same post, with the words of its own board.
     pub fn wake<'a>(self, words: &'a SharedTable) -> Post<'a>
         requires board { IsAtBoard words.now.key words.now.table_id self }
         ensures { result ≡ self }
@@ -29,8 +29,8 @@ impl<'a> Post<'a> {
     }
 }
 
-/// The same posts, in the same order, at their own board's words. F6: it fails only where there is no memory, and then
-/// they come back as they were.
+/// The same posts, in the same order, with the words of their own board. F6: it fails only if there is no memory, and
+/// then they come back as they were.
 pub fn wake_all<'a>(
     alloc: Global,
     words: &'a SharedTable,
@@ -49,7 +49,7 @@ pub fn wake_all<'a>(
     Ok(awake)
 }
 
-/// The same posts, in the same order, without their board's words. F6: it fails only where there is no memory, and then
+/// The same posts, in the same order, without their board's words. F6: it fails only if there is no memory, and then
 /// they come back as they were.
 pub fn park_all<'a>(alloc: Global, posts: Vec<Post<'a>>) -> Result<Vec<Parked>, Vec<Post<'a>>>
     ensures ok { IfOk result (λ parked. parked.items ≡ posts.entry.items) }

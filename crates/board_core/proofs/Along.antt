@@ -1,4 +1,4 @@
--- What holds after every run on a board.
+-- Facts that hold after every run on a board.
 use Rattle.std.proofs.Common.{◌≡◌, ℕ, ◌+◌, ◌≤◌, inl, inr, false, List, [], ◌∷◌, ◌++◌, length, drop, refl, sym, ap, ◌∙◌, subst, arith, append_assoc}
 use Rattle.std.specs.Prelude.{reverse}
 use Rattle.std.proofs.lemmas.List.{length-append}
@@ -23,7 +23,7 @@ use Rattle.board_core.specs.Runs.{MayFollow, IsRun, world_after}
 use Rattle.board_core.proofs.Standing.{have_clocks_push, IsLane, Stands, stands_first, with_lane-each, with_at-each, other_receiver, clocks_beside, back_quiet, back_filling, stands_quiet, stands_idle}
 use Rattle.board_core.proofs.Several.{several_sent, several_received}
 
--- what is freed and what is in the receiver's hands are the first of what was published
+-- the freed parcels and those in the receiver's hands are the first of the published ones
 in_hands : {k : ℕ} (l : IndexLane Parcel) → Fits k l → (left : List Parcel) × (drop (length l.traffic.freed) l.traffic.published ≡ reverse l.traffic.emptying ++ left)
 in_hands l fits =
     let t = l.traffic in
@@ -147,7 +147,7 @@ stands_after n k w (Frees q p reports) stands may = stands_freed n k w q p repor
 stands_after n k w (Opens p) stands may = stands_region n k w p (greatest_region (w.recorders p).line.events + 1) stands (λ low high. inr (inl (ap (λ (v : LineView). greatest_region v.events + 1) (stands.instances p low high).recorder.line)))
 stands_after n k w (Shuts p) stands may = stands_region n k w p 0 stands (λ low high. inl refl)
 
--- after every run the board is as its history has it
+-- after every run the board agrees with its history
 pub stands : (n k : ℕ) (steps : List Step) → IsRun n k steps → Stands n k (world_after n k steps)
 stands n k [] run = stands_first n k
 stands n k (step ∷ steps) run = stands_after n k (world_after n k steps) step (stands n k steps run.1) run.0

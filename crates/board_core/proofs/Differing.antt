@@ -1,4 +1,4 @@
--- Differences between clocks, applied; and those on a lane.
+-- Differences between clocks, applied, and the differences on a lane.
 use Rattle.std.proofs.Common.{◌≡◌, ℕ, zero, suc, ◌+◌, ◌<◌, ◌≤◌, ◌⊎◌, inl, inr, List, [], ◌∷◌, length, get_or, Contains, Some, refl, sym, ap, ◌∙◌, subst, arith}
 use Rattle.std.specs.Prelude.{slice_get}
 use Rattle.std.proofs.lemmas.Bool.{cases_eq}
@@ -23,14 +23,15 @@ use Rattle.board_core.specs.Laws.{DifferencesLaw, RestoringLaw, KnowledgeLaw, Ru
 use Rattle.board_core.proofs.GoodsLemmas.{goods_clocks}
 use Rattle.board_core.proofs.Knowledge.{legal, lanes}
 
--- Of two clocks with as many entries.
+-- Two clocks with the same number of entries.
 
 -- a change is the first one, or one of the others
 first_or_later : (first : Change) (rest : List Change) (change : Change) → Contains (first ∷ rest) change → (first ≡ change) ⊎ Contains rest change
 first_or_later first rest change (zero, within, e) = inl e
 first_or_later first rest change (suc k, within, e) = inr (k, omega (arith, within), e)
 
--- changes that write the clock's entries make base the clock, where base has those that none writes
+-- changes that write the clock's entries turn the base into the clock, if the base has the entries that none of them
+-- writes
 made_clock : (base clock : List ℕ) (diff : List Change) → length base ≡ length clock
     → ((change : Change) → Contains diff change → (1 ≤ change.instance) × (change.instance ≤ length clock) × (change.entry ≡ entry_of clock change.instance))
     → ((p : ℕ) → 1 ≤ p → p ≤ length clock → ((x : ℕ) → Contains diff (record { instance = p; entry = x }) → ⊥) → entry_of base p ≡ entry_of clock p)
@@ -52,7 +53,7 @@ made_clock base clock (first ∷ rest) same writes others =
           ])
     ])
 
--- the difference makes base the clock
+-- the difference turns the base into the clock
 difference_restores : (base clock : List ℕ) (diff : List Change) → length base ≡ length clock → IsDiff base clock diff → apply_diff base diff ≡ clock
 difference_restores base clock diff same its =
     made_clock base clock diff same
@@ -64,7 +65,7 @@ difference_restores base clock diff same its =
           absurd (none change.entry ((its.exact change).1 (record { first = low; last = high; entry = refl; differs = λ e. other (sym e) })))
     ])
 
--- there is one up to each instance
+-- there is a difference up to each instance
 difference_up_to : (base clock : List ℕ) → length clock ≡ length base → (n : ℕ) → n ≤ length clock → (diff : List Change) × IsDiffUpTo base clock n diff
 difference_up_to base clock same zero within = ([], up_to_none base clock)
 difference_up_to base clock same (suc n) within =
@@ -75,15 +76,15 @@ difference_up_to base clock same (suc n) within =
       | inr other ↦ (_, up_to_change base clock n (get_or clock n 0) before.0 (omega (arith, within)) same refl other before.1)
     ])
 
--- there is one
+-- there is a difference
 difference : (base clock : List ℕ) → length base ≡ length clock → (diff : List Change) × IsDiff base clock diff
 difference base clock same =
     let all = difference_up_to base clock (sym same) (length clock) (omega arith) in
     (all.0, up_to_all base clock (length clock) all.0 (sym same) refl all.1)
 
--- Of clocks in order, all with as many entries.
+-- Clocks in order, all with the same number of entries.
 
--- each of these has n entries
+-- each of these clocks has n entries
 abbrev AreLong : ℕ → List (List ℕ) → Type 0
 AreLong n those = (i : ℕ) (clock : List ℕ) → slice_get those i ≡ Some clock → length clock ≡ n
 

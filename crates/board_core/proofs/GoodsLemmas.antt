@@ -1,4 +1,4 @@
--- What lanes carry along a history, and what an instance's next send carries.
+-- What lanes carry in a history, and what an instance's next send carries.
 use Rattle.std.proofs.Common.{◌≡◌, ℕ, ◌+◌, ◌≤◌, ◌==◌, Bool, true, false, cond, List, [], ◌∷◌, ◌++◌, length, drop, map, refl, sym, ap, ap₂, ◌∙◌, subst, arith, append-nil, append_assoc}
 use Rattle.std.proofs.lemmas.Bool.{eqb-true, eqb-false, and_parts}
 use Rattle.std.proofs.lemmas.List.{length-map, map-append, drop-map}
@@ -14,7 +14,7 @@ use Rattle.line_recorder.proofs.Recording.{knowledge_of-other}
 use Rattle.board_core.specs.Parcels.{Parcel, next_clock, goods}
 use Rattle.board_core.specs.Laws.{GoodsLaw, GoodsGrowthLaw, OthersLaw, ClockGrowthLaw, ReportGrowthLaw}
 
--- the messages that were sent
+-- the messages of the goods are those that were sent
 pub goods_messages : (n : ℕ) (h : List Occurrence) (q p : ℕ) → map (λ (x : Parcel). x.message) (goods n h q p) ≡ sent h q p
 goods_messages n [] q p = refl
 goods_messages n (Send a b m ∷ h) q p = go (is_lane a b q p) (goods_messages n h q p)
@@ -25,11 +25,11 @@ goods_messages n (Send a b m ∷ h) q p = go (is_lane a b q p) (goods_messages n
 goods_messages n (Receive a b c ∷ h) q p = goods_messages n h q p
 goods_messages n (Close a b ∷ h) q p = goods_messages n h q p
 
--- as many as were sent
+-- there are as many goods as sent messages
 pub goods_many : (n : ℕ) (h : List Occurrence) (q p : ℕ) → length (goods n h q p) ≡ length (sent h q p)
 goods_many n h q p = sym (length-map (goods n h q p) (λ (x : Parcel). x.message)) ∙ ap length (goods_messages n h q p)
 
--- and their clocks
+-- the clocks of the goods are those of the sends
 pub goods_clocks : (n : ℕ) (h : List Occurrence) (q p : ℕ) → map (λ (x : Parcel). x.clock) (goods n h q p) ≡ clocks_of n h q p
 goods_clocks n [] q p = refl
 goods_clocks n (Send a b m ∷ h) q p = go (is_lane a b q p) refl (goods_clocks n h q p)
@@ -46,15 +46,15 @@ goods_clocks n (Close a b ∷ h) q p = goods_clocks n h q p
 pub goods_law : GoodsLaw
 goods_law n h q p = (goods_messages n h q p, goods_clocks n h q p)
 
--- the messages that wait are those of the parcels that do
+-- the waiting messages are those of the waiting parcels
 pub waiting_goods : (n : ℕ) (h : List Occurrence) (q p : ℕ) (xs : List Parcel) → drop (received h q p) (goods n h q p) ≡ xs → waiting h q p ≡ map (λ (x : Parcel). x.message) xs
 waiting_goods n h q p xs e = ap (drop (received h q p)) (sym (goods_messages n h q p)) ∙ drop-map (λ (x : Parcel). x.message) (received h q p) (goods n h q p) ∙ ap (map (λ (x : Parcel). x.message)) e
 
--- and so are their clocks
+-- the waiting clocks are those of the waiting parcels
 pub waiting_goods_clocks : (n : ℕ) (h : List Occurrence) (q p : ℕ) (xs : List Parcel) → drop (received h q p) (goods n h q p) ≡ xs → waiting_clocks n h q p ≡ map (λ (x : Parcel). x.clock) xs
 waiting_goods_clocks n h q p xs e = ap (drop (received h q p)) (sym (goods_clocks n h q p)) ∙ drop-map (λ (x : Parcel). x.clock) (received h q p) (goods n h q p) ∙ ap (map (λ (x : Parcel). x.clock)) e
 
--- an event adds to them, or leaves them
+-- an event adds to the goods, or leaves them as they were
 pub goods_more : (n : ℕ) (h : List Occurrence) (e : Occurrence) (q p : ℕ) → (more : List Parcel) × (goods n (e ∷ h) q p ≡ goods n h q p ++ more)
 goods_more n h (Send a b m) q p = go (is_lane a b q p)
   where
@@ -67,7 +67,7 @@ goods_more n h (Send a b m) q p = go (is_lane a b q p)
 goods_more n h (Receive a b c) q p = ([], sym (append-nil (goods n h q p)))
 goods_more n h (Close a b) q p = ([], sym (append-nil (goods n h q p)))
 
--- and so do several
+-- several events add to the goods, or leave them as they were
 pub goods_several : (n : ℕ) (more h : List Occurrence) (q p : ℕ) → (rest : List Parcel) × (goods n (more ++ h) q p ≡ goods n h q p ++ rest)
 goods_several n [] h q p = ([], sym (append-nil (goods n h q p)))
 goods_several n (e ∷ more) h q p =
@@ -78,7 +78,7 @@ goods_several n (e ∷ more) h q p =
 pub goods_grow : GoodsGrowthLaw
 goods_grow n h g (more, e) q p = subst (λ x. (rest : List Parcel) × (goods n x q p ≡ goods n h q p ++ rest)) (sym e) (goods_several n more h q p)
 
--- what an instance did only grows
+-- an instance's own events only grow
 pub own_grows : (more h : List Occurrence) (p : ℕ) → length (own h p) ≤ length (own (more ++ h) p)
 own_grows [] h p = omega arith
 own_grows (e ∷ more) h p = go (by e == p) (own_grows more h p)
@@ -87,7 +87,7 @@ own_grows (e ∷ more) h p = go (by e == p) (own_grows more h p)
     go true before = omega arith
     go false before = before
 
--- events of others leave its line and what it knows
+-- events of others leave an instance's line, and what it knows, as they were
 pub others_leave : (n : ℕ) (more h : List Occurrence) (p : ℕ) → own (more ++ h) p ≡ own h p → (chart_of (more ++ h) p ≡ chart_of h p) × (knowledge_of n (more ++ h) p ≡ knowledge_of n h p)
 others_leave n [] h p same = (refl, refl)
 others_leave n (e ∷ more) h p same = go (by e == p) refl same (λ i. others_leave n more h p i)

@@ -1,4 +1,4 @@
--- What every run on a board comes to, by its history.
+-- What every run on a board leads to, by its history.
 use Rattle.std.proofs.Common.{◌≡◌, ℕ, ◌==◌, Bool, true, false, cond, List, [], ◌∷◌, ◌++◌, length, map, take, option_map, refl, sym, ap, ◌∙◌, subst, append_assoc, append-nil}
 use Rattle.std.specs.Prelude.{reverse, slice_get, All}
 use Rattle.std.proofs.lemmas.Bool.{eqb-true}
@@ -46,19 +46,19 @@ clocks n k steps run q p i x at_i =
       },
     )
 
--- sends leave a recorder's reports
+-- sends leave a recorder's reports as they were
 pub reports_sent : (r : RecorderView) (to : ℕ) (words : List (List ℕ)) → (after_sends r to words).reports ≡ r.reports
 reports_sent r to [] = refl
 reports_sent r to (word ∷ words) = reports_sent (after_send r to word) to words
 
--- receives add theirs
+-- receives add their reports
 pub reports_received : (r : RecorderView) (from region : ℕ) (xs : List Parcel) (reports : List ReportView) → AreAnswers r from region xs reports → (after_receives r from region xs reports).reports ≡ r.reports ++ reports
 reports_received r from region [] [] answers = sym (append-nil r.reports)
 reports_received r from region [] (report ∷ reports) answers = absurd answers
 reports_received r from region (x ∷ xs) [] answers = absurd answers
 reports_received r from region (x ∷ xs) (report ∷ reports) answers = reports_received (after_receive r from x.message.name region x.clock report) from region xs reports answers.1 ∙ append_assoc r.reports (report ∷ []) reports
 
--- a recorder keeps the reports that its instance's receives have
+-- a recorder keeps the reports of its instance's receives
 kept_reports : (n k : ℕ) (steps : List Step) → IsRun n k steps → (p : ℕ) → ((world_after n k steps).recorders p).reports ≡ reports_of p steps
 kept_reports n k [] run p = refl
 kept_reports n k (Sender_loads a b ∷ steps) run p = kept_reports n k steps run.1 p

@@ -1,5 +1,5 @@
--- What a history that goes on leaves of an instance that did nothing in between, and what one call adds to what its instance
--- did.
+-- What stays the same for an instance that does nothing while the history goes on, and what one call adds to the
+-- instance's own events.
 use Rattle.std.proofs.Common.{◌≡◌, ◌≢◌, ℕ, ◌==◌, ◌&&◌, Bool, true, false, cond, List, [], ◌∷◌, ◌++◌, length, refl, sym, ap, ◌∙◌, arith}
 use Rattle.std.proofs.lemmas.Bool.{eq-eqb, ne_eqb}
 use Rattle.chart.specs.declared.history.Occurrence.{Occurrence}
@@ -16,7 +16,7 @@ use Rattle.board_core.specs.World.{with_sends, with_receives}
 use Rattle.board_core.proofs.GoodsLemmas.{own_grows, others_leave, others_law}
 use Rattle.board_core.proofs.Standing.{stands_idle}
 
--- events of others leave what its lanes carry
+-- events of others leave what an instance's lanes carry as it was
 goods_left : (n : ℕ) (more h : List Occurrence) (q p : ℕ) → own (more ++ h) q ≡ own h q → goods n (more ++ h) q p ≡ goods n h q p
 goods_left n [] h q p same = refl
 goods_left n (Send a b m ∷ more) h q p same = go (a == q) same (λ i. goods_left n more h q p i)
@@ -38,7 +38,7 @@ goods_left n (Close a b ∷ more) h q p same = go (a == q) same (λ i. goods_lef
     go true same rest = absurd (omega (arith, ap length same, own_grows more h q))
     go false same rest = rest same
 
--- The history g begins with h, and p did the same in both.
+-- The history g begins with h, and has the same events of p.
 
 module _ (n : ℕ) (h g : List Occurrence) (begins : Begins h g) where
   pub same_goods : (q p : ℕ) → own g q ≡ own h q → goods n g q p ≡ goods n h q p
@@ -69,7 +69,7 @@ pub receives_begin : (h : List Occurrence) (p q c : ℕ) (xs : List Parcel) → 
 receives_begin h p q c [] = begins_same h
 receives_begin h p q c (x ∷ xs) = begins_onward h (Receive p q c ∷ h) (with_receives (Receive p q c ∷ h) p q c xs) (Receive p q c ∷ [], refl) (receives_begin (Receive p q c ∷ h) p q c xs)
 
--- its own are these
+-- the instance's own events are these
 pub own_sends : (h : List Occurrence) (q p : ℕ) (xs : List Parcel) → own (with_sends h q p xs) q ≡ with_sends (own h q) q p xs
 own_sends h q p [] = refl
 own_sends h q p (x ∷ xs) = own_sends (Send q p x.message ∷ h) q p xs ∙ ap (λ its. with_sends (cond its (Send q p x.message ∷ own h q) (own h q)) q p xs) (eq-eqb q q refl)
@@ -78,7 +78,7 @@ pub own_receives : (h : List Occurrence) (p q c : ℕ) (xs : List Parcel) → ow
 own_receives h p q c [] = refl
 own_receives h p q c (x ∷ xs) = own_receives (Receive p q c ∷ h) p q c xs ∙ ap (λ its. with_receives (cond its (Receive p q c ∷ own h p) (own h p)) p q c xs) (eq-eqb p p refl)
 
--- those of another stay as they were
+-- the events of another instance stay as they were
 pub own_sends-other : (h : List Occurrence) (q p s : ℕ) (xs : List Parcel) → q ≢ s → own (with_sends h q p xs) s ≡ own h s
 own_sends-other h q p s [] ne = refl
 own_sends-other h q p s (x ∷ xs) ne = own_sends-other (Send q p x.message ∷ h) q p s xs ne ∙ ap (λ its. cond its (Send q p x.message ∷ own h s) (own h s)) (ne_eqb q s ne)

@@ -1,4 +1,4 @@
--- A run for each legal history: for each event the steps of one call.
+-- A run for each legal history: the steps of one call for each event.
 use Rattle.std.proofs.Common.{◌≡◌, ◌≢◌, ℕ, zero, suc, ◌+◌, ◌≤◌, ◌==◌, inl, inr, Bool, true, false, List, [], ◌∷◌, refl, sym, ap, ◌∙◌, subst, arith}
 use Rattle.std.proofs.lemmas.Bool.{ne_eqb, eq-eqb, eqb-true, eqb-false}
 use Rattle.chart.specs.declared.history.Occurrence.{Occurrence}
@@ -22,14 +22,14 @@ use Rattle.board_core.proofs.ReceiveCall.{report, receive_looks, receive_takes, 
 
 -- The runs.
 
--- a run that comes to this history, on a board at rest, where each instance's open coregion is that of its last event
+-- a run that leads to this history, on a board at rest, where each instance's open coregion is that of its last event
 pub record Reaches (n k : ℕ) (h : List Occurrence) (steps : List Step) : Type 0 where
   pub run : IsRun n k steps
   pub history : history_of n k steps ≡ h
   pub rest : AreAtRest (world_after n k steps)
   pub regions : (p : ℕ) → (world_after n k steps).regions p ≡ last_region (chart_of h p)
 
--- the same, but that this is p's open coregion
+-- the same, except that p's open coregion is this one
 record IsReady (n k : ℕ) (h : List Occurrence) (p region : ℕ) (steps : List Step) : Type 0 where
   run : IsRun n k steps
   history : history_of n k steps ≡ h
@@ -37,7 +37,7 @@ record IsReady (n k : ℕ) (h : List Occurrence) (p region : ℕ) (steps : List 
   here : (world_after n k steps).regions p ≡ region
   there : (s : ℕ) → s ≢ p → (world_after n k steps).regions s ≡ last_region (chart_of h s)
 
--- p's coregion is shut, where one is open
+-- p's coregion is shut, if one is open
 shutting : (n k : ℕ) (h : List Occurrence) (p : ℕ) (steps : List Step) → 1 ≤ p → p ≤ n → Reaches n k h steps → (more : List Step) × IsReady n k h p 0 more
 shutting n k h p steps low high old = go ((world_after n k steps).regions p) refl
   where
@@ -54,7 +54,7 @@ shutting n k h p steps low high old = go ((world_after n k steps).regions p) ref
       },
     )
 
--- p's coregion is made one that its next event may have
+-- p's coregion becomes one that its next event may have
 readying : (n k : ℕ) (h : List Occurrence) (p region : ℕ) (steps : List Step) → 1 ≤ p → p ≤ n → Reaches n k h steps → MayHaveRegion (chart_of h p) region → (more : List Step) × IsReady n k h p region more
 readying n k h p region steps low high old (inl none) = subst (λ c. (more : List Step) × IsReady n k h p c more) (sym none) (shutting n k h p steps low high old)
 readying n k h p region steps low high old (inr (inl next)) =
@@ -72,7 +72,7 @@ readying n k h p region steps low high old (inr (inl next)) =
     )
 readying n k h p region steps low high old (inr (inr same)) = (steps, record { run = old.run; history = old.history; rest = old.rest; here = old.regions p ∙ sym same.2; there = λ s ne. old.regions s })
 
--- the coregions are those of the last events, where an event came whose coregion its instance has
+-- after an event in its instance's open coregion, the coregions are those of the last events
 regions_after : (h : List Occurrence) (e : Occurrence) (regions : ℕ → ℕ) (region : ℕ) → last_region (chart_of (e ∷ h) (by e)) ≡ region → regions (by e) ≡ region → ((s : ℕ) → s ≢ by e → regions s ≡ last_region (chart_of h s)) → (s : ℕ) → regions s ≡ last_region (chart_of (e ∷ h) s)
 regions_after h e regions region last here there s = go (s == by e) refl
   where
@@ -80,7 +80,7 @@ regions_after h e regions region last here there s = go (s == by e) refl
     go true i = subst (λ x. regions x ≡ last_region (chart_of (e ∷ h) x)) (sym (eqb-true s (by e) i)) (here ∙ sym last)
     go false i = there s (eqb-false s (by e) i) ∙ ap last_region (sym (line_of_other h e s (λ same. eqb-false s (by e) i (sym same))))
 
--- a run to a legal history with one event more
+-- a run to a legal history with one more event
 reach_more : (n k : ℕ) (h : List Occurrence) (e : Occurrence) (steps : List Step) → MayHappen n k h e → Reaches n k h steps → (more : List Step) × Reaches n k (e ∷ h) more
 reach_more n k h (event.Send p q m) steps may old =
     let ready = shutting n k h p steps may.0.0 may.0.1 old in

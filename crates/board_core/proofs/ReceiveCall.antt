@@ -1,4 +1,4 @@
--- The steps of a receive on a board at rest, where its event may come.
+-- The steps of a receive on a board at rest, if its event may come.
 use Rattle.std.proofs.Common.{◌≡◌, ◌≢◌, ℕ, ◌+◌, List, [], ◌∷◌, ◌++◌, length, map, refl, sym, ap, ap₂, ◌∙◌, subst, arith}
 use Rattle.std.specs.Prelude.{reverse, All}
 use Rattle.std.proofs.lemmas.List.{length-drop}
@@ -83,7 +83,7 @@ module _ (n k : ℕ) (w : World) (q p region : ℕ) (stands : Stands n k w) (res
     end = subst (λ y. MayBeOnLane y lane.Takes) (sym (lane_here w q p l)) has_message;
   }
 
-  -- what is taken
+  -- the taken parcel
   pub message : (x : Parcel) × (taken out q p ≡ x ∷ [])
   message =
       let its = stands.lanes q p in

@@ -1,4 +1,4 @@
--- A board on which all instances are between two calls, and one on which a call is in the midst.
+-- A board whose instances are all between two calls, and one with a call in the middle.
 use Rattle.std.proofs.Common.{◌≡◌, ◌≢◌, ℕ, false, [], sym, ap, ◌∙◌}
 use Rattle.std.specs.Prelude.{reverse}
 use Rattle.chart.specs.Histories.{is_lane}
@@ -9,7 +9,7 @@ use Rattle.board_core.specs.World.{World, with_lane}
 use Rattle.board_core.specs.Runs.{SendsAlone, ReceivesAlone, IsIdle}
 use Rattle.board_core.proofs.Standing.{with_lane-each}
 
--- nothing is in the hands of an end of the lane
+-- the hands of the lane's ends are empty
 pub record IsAtRest (l : IndexLane Parcel) : Type 0 where
   pub filled : l.traffic.filling ≡ []
   pub taken : l.traffic.emptying ≡ []
@@ -32,15 +32,15 @@ module _ (w : World) (rest : AreAtRest w) where
 pub lane_here : (w : World) (q p : ℕ) (l : IndexLane Parcel) → with_lane w.lanes q p l q p ≡ l
 lane_here w q p l = rw (is_lane-same q p)
 
--- another one
+-- another lane
 pub lane_there : (w : World) (q p a b : ℕ) (l : IndexLane Parcel) → is_lane q p a b ≡ false → with_lane w.lanes q p l a b ≡ w.lanes a b
 lane_there w q p a b l other = rw other
 
--- lanes at rest with one that is at rest too
+-- lanes at rest, with a new one that is at rest too
 pub rest_with : (w : World) (q p : ℕ) (l : IndexLane Parcel) → AreAtRest w → IsAtRest l → (a b : ℕ) → IsAtRest (with_lane w.lanes q p l a b)
 rest_with w q p l rest its = with_lane-each (λ a b x. IsAtRest x) w.lanes q p l its (λ a b other. rest a b)
 
--- an end that changes its lane alone is in the midst of a call there
+-- an end that changes only its lane is in the middle of a call there
 pub sends_alone_with : (w : World) (q p : ℕ) (l : IndexLane Parcel) → AreAtRest w → q ≢ p → SendsAlone (record w { lanes = with_lane w.lanes q p l }) q p
 sends_alone_with w q p l rest differ = record {
   filled_no_other = λ b ne. ap (λ (x : IndexLane Parcel). x.traffic.filling) (lane_there w q p q b l (is_lane-to q p q b ne)) ∙ (rest q b).filled;

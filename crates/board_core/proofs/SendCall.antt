@@ -1,4 +1,4 @@
--- The steps of a send on a board at rest, where its event may come.
+-- The steps of a send on a board at rest, if its event may come.
 use Rattle.std.proofs.Common.{◌≡◌, ℕ, false, [], ◌∷◌, ◌++◌, length, refl, sym, ap, ◌∙◌, subst, arith}
 use Rattle.std.proofs.lemmas.List.{length-drop}
 use Rattle.chart.specs.declared.history.Occurrence.TheVariants as event

@@ -1,4 +1,4 @@
--- Several sends or receives of a lane, one directly after another.
+-- Several sends or receives on a lane, one directly after another.
 use Rattle.std.proofs.Common.{◌≡◌, ◌≢◌, ℕ, ◌+◌, ◌<◌, ◌≤◌, false, List, [], ◌∷◌, ◌++◌, length, drop, map, refl, sym, ap, ◌∙◌, subst, arith, append-nil, append_assoc}
 use Rattle.std.proofs.lemmas.List.{length-drop, length_push, drop-drop}
 use Rattle.chart.specs.declared.history.Occurrence.{Occurrence}
@@ -22,11 +22,11 @@ use Rattle.board_core.specs.Runs.{AreAnswers}
 use Rattle.board_core.proofs.GoodsLemmas.{goods_many, waiting_goods, waiting_goods_clocks}
 use Rattle.board_core.proofs.Standing.{stands_idle}
 
--- another instance, when an event came that isn't its own
+-- another instance, after an event that isn't its own
 pub beside : (n k : ℕ) (h : List Occurrence) (e : Occurrence) (s : ℕ) (r : RecorderView) (region : ℕ) → IsLegal n k h → s ≢ by e → IsInstance n h s r region → IsInstance n (e ∷ h) s r region
 beside n k h e s r region legal ne old = stands_idle n k h (e ∷ h) s r region legal (e ∷ [], refl) (line_of_other h e s (λ same. ne (sym same))) (knowledge_of-other n h e s ne) old
 
--- what q's sends of these parcels to p make of a history, where its recorder is this one afterwards
+-- the effect on a history of q's sends of these parcels to p, with q's recorder afterwards
 pub record AreSent (n k q p : ℕ) (h g : List Occurrence) (xs : List Parcel) (r : RecorderView) : Type 0 where
   pub legal : IsLegal n k g
   pub recorder : IsRecorder n g q r
@@ -71,7 +71,7 @@ several_sent n k q p h r (x ∷ xs) two legal unclosed its (clock, clocks) room 
     beside_lane : (a b : ℕ) → is_lane q p a b ≡ false → goods n (Send q p x.message ∷ h) a b ≡ goods n h a b
     beside_lane a b other = rw other
 
--- what p's receives of so many parcels from q make of a history, where its recorder is this one afterwards
+-- the effect on a history of p's receives of `many` parcels from q, with p's recorder afterwards
 pub record AreReceived (n k q p region many : ℕ) (h g : List Occurrence) (r : RecorderView) : Type 0 where
   pub legal : IsLegal n k g
   pub own : IsInstance n g p r region

@@ -1,6 +1,6 @@
--- What holds of every run on a board, what the differences on its lanes tell, and what a later history leaves as it
--- was: statements that `laws` proves. That a clock has what its send knows is vector time (Fidge 1988, Mattern 1989),
--- that differences tell it is Singhal and Kshemkalyani's (1992); the others are this project's profile.
+-- Laws of every run on a board, of the differences on its lanes, and of what a later history leaves as it was:
+-- statements that `laws` proves. That a clock has what its send knows is vector time (Fidge 1988, Mattern 1989), and
+-- that differences carry it is from Singhal and Kshemkalyani (1992). The others are this project's profile.
 use Rattle.std.specs.Prelude.{◌≡◌, ℕ, ◌≤◌, List, ◌++◌, length, map, take, slice_get, Some, All}
 use Rattle.chart.specs.Words.{Clock}
 use Rattle.chart.specs.declared.history.Occurrence.{Occurrence}
@@ -23,14 +23,14 @@ use Rattle.board_core.specs.Runs.{IsRun, world_after, history_of, reports_of}
 abbrev pub traffic_of : ℕ → ℕ → List Step → ℕ → ℕ → Traffic Parcel
 traffic_of n k steps q p = ((world_after n k steps).lanes q p).traffic
 
--- Of every run.
+-- Every run.
 
 -- its history is legal
 abbrev pub LegalLaw : Type 0
 LegalLaw = (n k : ℕ) (steps : List Step) → IsRun n k steps → IsLegal n k (history_of n k steps)
 
--- each lane has passed on what the history says: what was published, the first of these received, and whether it is
--- closed
+-- each lane has passed on what the history states: which messages were published, which first ones of them were
+-- received, and whether the lane is closed
 abbrev pub LaneLaw : Type 0
 LaneLaw = (n k : ℕ) (steps : List Step) → IsRun n k steps → (q p : ℕ)
     → ((traffic_of n k steps q p).published ≡ goods n (history_of n k steps) q p)
@@ -38,8 +38,8 @@ LaneLaw = (n k : ℕ) (steps : List Step) → IsRun n k steps → (q p : ℕ)
     (goods n (history_of n k steps) q p))
     × ((traffic_of n k steps q p).closed ≡ is_closed (history_of n k steps) q p)
 
--- the send at this place is the i-th of the lane, of this parcel's message, and the parcel's clock is what it knows
--- of each of n instances
+-- the send at this place is the i-th of the lane, and has this parcel's message; the parcel's clock is what the send
+-- knows of each of n instances
 pub record IsSendOf (n : ℕ) (h : List Occurrence) (q p i j : ℕ) (x : Parcel) : Type 0 where
   pub send : IsSendAfter (chart_of h q) p i j
   pub name : chart_event (chart_of h) (at q j) ≡ Some (send_event p x.message.name)
@@ -64,20 +64,20 @@ RecorderLaw = (n k : ℕ) (steps : List Step) → IsRun n k steps → (p : ℕ) 
     → IsRecorder n (history_of n k steps) p ((world_after n k steps).recorders p)
     × (((world_after n k steps).recorders p).reports ≡ reports_of p steps)
 
--- Of the differences on a lane of a legal history.
+-- Differences on a lane of a legal history.
 
--- there are some: each names exactly the instances whose entries differ, rising
+-- differences exist: each names exactly the instances whose entries differ, in rising order
 abbrev pub DifferencesLaw : Type 0
 DifferencesLaw = (n k : ℕ) (h : List Occurrence) → IsLegal n k h
     → (q p : ℕ) → (diffs : List (List Change)) × AreDiffs (zeros n) (clocks (goods n h q p)) diffs
 
--- applied in order from zeros they give the clocks of its sends
+-- applied in order from zeros, they give the clocks of the lane's sends
 abbrev pub RestoringLaw : Type 0
 RestoringLaw = (n k : ℕ) (h : List Occurrence) → IsLegal n k h
     → (q p : ℕ) (diffs : List (List Change)) → AreDiffs (zeros n) (clocks (goods n h q p)) diffs
     → restored (zeros n) diffs ≡ clocks (goods n h q p)
 
--- and so the i-th gives what that send knows of each of n instances
+-- so the i-th one gives what that send knows of each of n instances
 abbrev pub KnowledgeLaw : Type 0
 KnowledgeLaw = (n k : ℕ) (h : List Occurrence) → IsLegal n k h
     → (q p : ℕ) (diffs : List (List Change)) → AreDiffs (zeros n) (clocks (goods n h q p)) diffs
@@ -85,26 +85,26 @@ KnowledgeLaw = (n k : ℕ) (h : List Occurrence) → IsLegal n k h
     → (clock : Clock) × (slice_get (restored (zeros n) diffs) i ≡ Some clock)
     × (length clock ≡ n) × IsClockOf (chart_of h) (at q j) clock
 
--- of every run they give the clocks of what it published
+-- for every run they give the clocks of the published messages
 abbrev pub RunRestoringLaw : Type 0
 RunRestoringLaw = (n k : ℕ) (steps : List Step) → IsRun n k steps
     → (q p : ℕ) (diffs : List (List Change)) → AreDiffs (zeros n) (clocks (traffic_of n k steps q p).published) diffs
     → restored (zeros n) diffs ≡ clocks (traffic_of n k steps q p).published
 
--- Of histories that begin with another.
+-- Histories that begin with another one.
 
--- what a lane carries is the messages that were sent on it, with their clocks
+-- a lane carries the messages that were sent on it, with their clocks
 abbrev pub GoodsLaw : Type 0
 GoodsLaw = (n : ℕ) (h : List Occurrence) (q p : ℕ)
     → (map (λ (x : Parcel). x.message) (goods n h q p) ≡ sent h q p)
     × (map (λ (x : Parcel). x.clock) (goods n h q p) ≡ clocks_of n h q p)
 
--- it only grows
+-- what a lane carries only grows
 abbrev pub GoodsGrowthLaw : Type 0
 GoodsGrowthLaw = (n : ℕ) (h g : List Occurrence) → Begins h g
     → (q p : ℕ) → (more : List Parcel) × (goods n g q p ≡ goods n h q p ++ more)
 
--- an instance's line and the clock of its next send stay, where the events that came are all of others
+-- an instance's line, and the clock of its next send, stay the same if all new events are those of others
 abbrev pub OthersLaw : Type 0
 OthersLaw = (n : ℕ) (h g : List Occurrence) → Begins h g → (p : ℕ) → own g p ≡ own h p
     → (chart_of g p ≡ chart_of h p) × (next_clock n g p ≡ next_clock n h p)

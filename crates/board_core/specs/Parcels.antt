@@ -1,5 +1,5 @@
--- What passes through the lanes of a board: messages, each with the clock of its send (vector time as Fidge 1988 and
--- Mattern 1989 have it). What the lanes carry is a function of the history (this project's profile).
+-- What passes through the lanes of a board: messages, each with the clock of its send (vector time: after Fidge 1988
+-- and Mattern 1989). What the lanes carry is a function of the history (this project's profile).
 use Rattle.std.specs.Prelude.{ℕ, ◌+◌, List, [], ◌∷◌, ◌++◌, length, map, if◌then◌else◌}
 use Rattle.chart.specs.Words.{Name, Clock}
 use Rattle.chart.specs.declared.history.Occurrence.{Occurrence}
@@ -14,7 +14,7 @@ pub record Parcel : Type 0 where
   pub message : Content
   pub clock : Clock
 
--- the names of the messages in these
+-- the names of the messages of these parcels
 abbrev pub names : List Parcel → List Name
 names parcels = map (λ (x : Parcel). x.message.name) parcels
 
@@ -22,7 +22,7 @@ names parcels = map (λ (x : Parcel). x.message.name) parcels
 abbrev pub clocks : List Parcel → List Clock
 clocks parcels = map (λ (x : Parcel). x.clock) parcels
 
--- the clock of p's next event, if that is a send: what p knows then, with this event itself
+-- the clock of p's next event, if it is a send: what p knows then, with this event itself
 abbrev pub next_clock : ℕ → List Occurrence → ℕ → Clock
 next_clock n h p = with_entry (knowledge_of n h p) p (length (chart_of h p) + 1)
 

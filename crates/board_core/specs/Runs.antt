@@ -12,14 +12,14 @@ use Rattle.board_core.specs.Parcels.{Parcel}
 use Rattle.board_core.specs.Steps.{Step, Sender_loads, Fills, Publishes, Closes, Receiver_loads, Takes, Puts_back, Frees, Opens, Shuts}
 use Rattle.board_core.specs.World.{World, new_world, after, filled, taken, parcel_of}
 
--- An instance that has parcels in its hands is in the midst of a call, on their lane. It makes one call at a time.
+-- An instance with parcels in its hands is in the middle of a call, on their lane. It makes one call at a time.
 
--- q is in the midst of no call but a send to p
+-- q is in the middle of no call except a send to p
 pub record SendsAlone (w : World) (q p : ℕ) : Type 0 where
   pub filled_no_other : (b : ℕ) → b ≢ p → filled w q b ≡ []
   pub taken_nothing : (a : ℕ) → taken w a q ≡ []
 
--- p is in the midst of no call but a receive from q
+-- p is in the middle of no call except a receive from q
 pub record ReceivesAlone (w : World) (q p : ℕ) : Type 0 where
   pub filled_nothing : (b : ℕ) → filled w p b ≡ []
   pub taken_no_other : (a : ℕ) → a ≢ q → taken w a p ≡ []
@@ -29,7 +29,7 @@ pub record IsIdle (w : World) (p : ℕ) : Type 0 where
   pub filled_nothing : (b : ℕ) → filled w p b ≡ []
   pub taken_nothing : (a : ℕ) → taken w a p ≡ []
 
--- these are the reports that the recorder answers at receives of these parcels, one for each
+-- these are the reports that the recorder gives for the receives of these parcels, one for each
 abbrev pub AreAnswers : RecorderView → ℕ → ℕ → List Parcel → List ReportView → Type 0
 AreAnswers r q c [] [] = Unit {0}
 AreAnswers r q c [] (report ∷ reports) = ⊥
@@ -49,12 +49,12 @@ pub record MayReceive (n : ℕ) (w : World) (q p : ℕ) (step : lane.Step Parcel
   pub alone : ReceivesAlone w q p
   pub end : MayBeOnLane (w.lanes q p) step
 
--- the recorder's line has room for an event for each of these parcels
+-- the recorder's line may get an event for each of these parcels
 abbrev pub HasRoom : RecorderView → List Parcel → Type 0
 HasRoom r xs = length r.line.events + length xs ≤ MAX_EVENTS
 
--- The step is allowed among n instances: by its end's own numbers, and at an event by its recorder, whose line has room
--- for it. Nothing is sent in a coregion.
+-- The step is allowed among n instances: by its end's own numbers, and for an event also by its recorder, whose line
+-- may get it. Nothing is sent in a coregion.
 abbrev pub MayFollow : ℕ → World → Step → Type 0
 MayFollow n w (Sender_loads q p) = MaySend n w q p lane.Sender_loads
 MayFollow n w (Fills q p m) = MaySend n w q p (lane.Fills (parcel_of w q p m))
@@ -80,13 +80,13 @@ abbrev pub IsRun : ℕ → ℕ → List Step → Type 0
 IsRun n k [] = Unit {0}
 IsRun n k (step ∷ steps) = MayFollow n (world_after n k steps) step × IsRun n k steps
 
--- What the laws of runs speak of.
+-- The terms of the laws of runs.
 
 -- the sends, receives and closes of these steps, in their order, the newest first
 abbrev pub history_of : ℕ → ℕ → List Step → List Occurrence
 history_of n k steps = (world_after n k steps).history
 
--- the reports that the receives of p have, in order
+-- the reports of p's receives, in order
 abbrev pub reports_of : ℕ → List Step → List ReportView
 reports_of p [] = []
 reports_of p (Frees a b reports ∷ steps) = if p == b then reports_of p steps ++ reports else reports_of p steps

@@ -9,13 +9,13 @@ pub data Step : Type 0 where
   Sender_loads : (sender receiver : ℕ) → Step
   -- it puts this message, with its clock, into a slot
   Fills : (sender receiver : ℕ) → (message : Content) → Step
-  -- what was filled is sent
+  -- the messages that were put into slots are sent
   Publishes : (sender receiver : ℕ) → Step
   Closes : (sender receiver : ℕ) → Step
   Receiver_loads : (sender receiver : ℕ) → Step
   Takes : (sender receiver : ℕ) → Step
   Puts_back : (sender receiver : ℕ) → Step
-  -- what was taken is received, with these reports
+  -- the taken messages are received, with these reports
   Frees : (sender receiver : ℕ) → (reports : List ReportView) → Step
   Opens : (instance : ℕ) → Step
   Shuts : (instance : ℕ) → Step

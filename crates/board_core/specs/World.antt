@@ -1,5 +1,5 @@
--- A board as a pure machine: the lanes of all ordered pairs of instances, a recorder for each instance, its open
--- coregion, and the history of what was sent, received and closed (this project's profile).
+-- A board as a pure machine (this project's profile): the lanes of all ordered pairs of instances, a recorder and an
+-- open coregion for each instance, and the history of all sends, receives and closes.
 use Rattle.std.specs.Prelude.{ℕ, ◌+◌, List, [], ◌∷◌, reverse, if◌then◌else◌}
 use Rattle.chart.specs.declared.history.Occurrence.{Occurrence}
 use Rattle.chart.specs.declared.history.Occurrence.TheVariants.{Send, Receive, Close}
@@ -23,13 +23,13 @@ pub record World : Type 0 where
   -- the newest event first
   pub history : List Occurrence
 
--- n instances that did nothing yet, with lanes of k slots
+-- n instances that have done nothing yet, with lanes of k slots
 abbrev pub new_world : ℕ → ℕ → World
 new_world n k = record { lanes = λ q p. new_lane k; recorders = λ p. new_recorder p n; regions = λ p. 0; history = [] }
 
--- What a step makes of each part.
+-- The effect of a step on each part.
 
--- the lanes with another one from q to p
+-- the lanes, with a new one from q to p
 abbrev pub with_lane : (ℕ → ℕ → IndexLane Parcel) → ℕ → ℕ → IndexLane Parcel → ℕ → ℕ → IndexLane Parcel
 with_lane lanes q p l a b = if is_lane q p a b then l else lanes a b
 
@@ -37,15 +37,16 @@ with_lane lanes q p l a b = if is_lane q p a b then l else lanes a b
 abbrev pub lanes_with : World → ℕ → ℕ → lane.Step Parcel → ℕ → ℕ → IndexLane Parcel
 lanes_with w q p step = with_lane w.lanes q p (lane_with (w.lanes q p) step)
 
--- what the sender of the lane has put into slots and not sent yet
+-- the parcels that the lane's sender has put into slots and not sent yet
 abbrev pub filled : World → ℕ → ℕ → List Parcel
 filled w q p = (w.lanes q p).traffic.filling
 
--- what the receiver of the lane has taken out of slots, and neither received yet nor put back
+-- the parcels that the lane's receiver has taken out of slots, and neither received yet nor put back
 abbrev pub taken : World → ℕ → ℕ → List Parcel
 taken w q p = reverse (w.lanes q p).traffic.emptying
 
--- the message as q puts it into the lane to p: with the clock that q's recorder answers for it, after those before
+-- the parcel that q puts into the lane to p: the message with the clock that q's recorder gives for it, after those
+-- before
 abbrev pub parcel_of : World → ℕ → ℕ → Content → Parcel
 parcel_of w q p m = record { message = m; clock = send_clock (after_sends (w.recorders q) p (names (filled w q p))) }
 
@@ -59,7 +60,7 @@ abbrev pub with_receives : List Occurrence → ℕ → ℕ → ℕ → List Parc
 with_receives h p q c [] = h
 with_receives h p q c (x ∷ xs) = with_receives (Receive p q c ∷ h) p q c xs
 
--- the recorder after receives of these from q, of which there are these reports
+-- the recorder after receives of these parcels from q, with these reports
 abbrev pub after_receives : RecorderView → ℕ → ℕ → List Parcel → List ReportView → RecorderView
 after_receives r q c [] reports = r
 after_receives r q c (x ∷ xs) [] = r

@@ -28,7 +28,7 @@ last_clock-append base [] zs = refl
 last_clock-append base (y ∷ ys) zs = last_clock-append y.clock ys zs
 
 module _ {A : Type 0} where
-  -- an element of two lists joined is of one of them
+  -- an element of two joined lists is in one of them
   pub at_append : (xs ys : List A) (c : ℕ) (x : A) → get_elem? (xs ++ ys) c ≡ some x → ((c < length xs) × (get_elem? xs c ≡ some x)) ⊎ ((i : ℕ) × (c ≡ length xs + i) × (get_elem? ys i ≡ some x))
   at_append [] ys c x at = inr (c, omega arith, at)
   at_append (y ∷ xs) ys zero x at = inl (omega arith, at)

@@ -1,4 +1,4 @@
--- Histories that grow by several sends or receives of one lane, whatever the recorders are.
+-- Histories that grow by several sends or receives on one lane, for any recorders.
 use Rattle.std.proofs.Common.{◌≡◌, ◌≢◌, ℕ, zero, suc, ◌+◌, ◌<◌, ◌≤◌, false, List, [], ◌∷◌, ◌++◌, length, refl, sym, ap, ap₂, ◌∙◌, subst, arith, append-nil, append_assoc}
 use Rattle.std.proofs.lemmas.List.{length-drop, length_push}
 use Rattle.std.proofs.lemmas.Bool.{eq-eqb, ne_eqb}
@@ -18,7 +18,7 @@ use Rattle.board_core.proofs.GoodsLemmas.{goods_many}
 use Rattle.board_table.specs.declared.packet.Packet.{Packet}
 use Rattle.board_table.specs.Carrying.{Carries, AreCarried, AreNext, with_sent, with_received}
 
--- one event more
+-- one more event
 pub own_here : (e : Occurrence) (h : List Occurrence) → own (e ∷ h) (by e) ≡ e ∷ own h (by e)
 own_here e h = rw (eq-eqb (by e) (by e) refl)
 
@@ -28,7 +28,7 @@ own_there e h b other = rw (ne_eqb (by e) b (λ same. other (sym same)))
 pub begins_event : (e : Occurrence) (h : List Occurrence) → Begins h (e ∷ h)
 begins_event e h = (e ∷ [], refl)
 
--- what q's next sends carry is fixed by its own line and what it knows
+-- what q's next sends carry depends only on its own line and on what it knows
 pub next_anywhere : (n q p : ℕ) (xs : List Packet) (base : List ℕ) (h g : List Occurrence) → chart_of g q ≡ chart_of h q → knowledge_of n g q ≡ knowledge_of n h q → AreNext n base h q p xs → AreNext n base g q p xs
 next_anywhere n q p [] base h g line knows are = tt
 next_anywhere n q p (x ∷ xs) base h g line knows are =
@@ -39,7 +39,7 @@ next_anywhere n q p (x ∷ xs) base h g line knows are =
     knows_after : (h g : List Occurrence) → knowledge_of n g q ≡ knowledge_of n h q → chart_of g q ≡ chart_of h q → knowledge_of n (Send q p x.message ∷ g) q ≡ knowledge_of n (Send q p x.message ∷ h) q
     knows_after h g same line = rw (eq-eqb q q refl) (ap₂ (λ known (m : ℕ). with_entry known q (m + 1)) same (ap length line))
 
--- q's sends of these to p
+-- q's sends of these packets to p
 pub record AreSent (n k q p : ℕ) (base : List ℕ) (xs : List Packet) (h g : List Occurrence) : Type 0 where
   pub legal : IsLegal n k g
   pub begins : Begins h g
@@ -90,7 +90,7 @@ are_sent n k q p base (x ∷ xs) h two legal unclosed next room short =
     beside_lane : (a b : ℕ) → is_lane q p a b ≡ false → goods n (Send q p x.message ∷ h) a b ≡ goods n h a b
     beside_lane a b other = rw other
 
--- so many receives of p from q
+-- `many` receives of p from q
 pub record AreReceived (n k q p many : ℕ) (h g mine : List Occurrence) : Type 0 where
   pub legal : IsLegal n k g
   pub begins : Begins h g
@@ -101,7 +101,7 @@ pub record AreReceived (n k q p many : ℕ) (h g mine : List Occurrence) : Type 
   pub made : own g p ≡ mine
   pub others : (b : ℕ) → b ≢ p → own g b ≡ own h b
 
--- the same of the receives behind the first
+-- the same for the receives after the first
 abbrev Onward : ℕ → ℕ → ℕ → ℕ → ℕ → ℕ → Occurrence → List Occurrence → Type 0
 Onward n k q p region many e h = IsLegal n k (e ∷ h) → MayHaveRegion (chart_of (e ∷ h) p) region → received (e ∷ h) q p + many ≤ length (sent (e ∷ h) q p) → length (chart_of (e ∷ h) p) + many ≤ MAX_EVENTS
     → AreReceived n k q p many (e ∷ h) (with_received p q region many (e ∷ h)) (with_received p q region many (own (e ∷ h) p))

@@ -1,4 +1,4 @@
--- An end that fills, or empties, the first of its slots, and turns it behind the others.
+-- An end that fills or empties the first of its slots, and moves it after the others.
 use Rattle.std.proofs.Common.{◌≡◌, ℕ, zero, suc, ◌+◌, ◌<◌, List, [], ◌∷◌, ◌++◌, length, take, drop, refl, sym, ap, ap₂, ◌∙◌, subst, arith, append_assoc, length-append}
 use Rattle.std.proofs.lemmas.Bool.{false≢true}
 use Rattle.std.specs.Prelude.{Option, Some, None, IfSome, IsSome}
@@ -30,7 +30,7 @@ pub contained : (slot : Option Packet) (P : Packet → Type 0) → IsSome slot �
 contained (Some x) P full is = (x, refl, is)
 contained None P full is = absurd (false≢true full)
 
--- the goods behind a first one
+-- the goods after a first one
 one_on : (base : List ℕ) (gs : List Parcel) (r : ℕ) (y : Parcel) (ys : List Parcel) → drop r gs ≡ y ∷ ys → (last_clock base (take (suc r) gs) ≡ y.clock) × (drop (suc r) gs ≡ ys)
 one_on base [] zero y ys at = absurd (omega (arith, ap length at))
 one_on base [] (suc r) y ys at = absurd (omega (arith, ap length at))
@@ -49,7 +49,7 @@ first_vacant l me count its some counted = go (vacant_out me) its.slots some
     go zero slots some = absurd (omega arith)
     go (suc v) slots some = slots ∙ ap₂ (λ c zs. (slot_of l.instances l.capacity l.sender l.receiver c, None) ∷ zs) (sym counted) (sym (ap rest slots))
 
--- the sender has filled it
+-- the sender has filled its first slot
 pub fill_first : (l : LaneView) (me new : Mine) (count : ℕ) (x : Packet) → IsFilling l me → 0 < vacant_out me → count ≡ length (sent (held me).seen l.sender l.receiver) + length (packets_out me)
     → new ≡ (me.0, rest me.1 ++ (slot_of l.instances l.capacity l.sender l.receiver count, Some x) ∷ [])
     → (v : ℕ) × (suc v ≡ vacant_out me) × (new ≡ (held me ∷ [], filling_slots l.instances l.capacity l.sender l.receiver (length (sent (held me).seen l.sender l.receiver)) v (packets_out me ++ x ∷ [])))
@@ -86,7 +86,7 @@ first_full l me count its some counted = go (packets_out me) refl its.slots
     go [] none slots = absurd (omega (arith, some, ap length none))
     go (x ∷ xs) same slots = (x, xs, same, slots ∙ ap₂ (λ c zs. (slot_of l.instances l.capacity l.sender l.receiver c, Some x) ∷ zs) (sym counted) (sym (ap rest slots)))
 
--- the receiver has taken it out
+-- the receiver has taken the first packet out
 pub take_first : (l : LaneView) (me new : Mine) (count : ℕ) (x : Packet) (xs : List Packet) → IsEmptying l me → packets_out me ≡ x ∷ xs → count ≡ received (held me).seen l.sender l.receiver + vacant_out me
     → new ≡ (me.0, rest me.1 ++ (slot_of l.instances l.capacity l.sender l.receiver count, None) ∷ [])
     → new ≡ (held me ∷ [], emptying_slots l.instances l.capacity l.sender l.receiver (received (held me).seen l.sender l.receiver) (suc (vacant_out me)) xs)

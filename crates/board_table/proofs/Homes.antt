@@ -7,12 +7,12 @@ use Rattle.atomic_table.specs.Table.{Act, keeps, takes, gives, chain, carried_af
 use Rattle.atomic_table.proofs.Lists.{set_else}
 
 module _ {S : Type 0} where
-  -- the act that takes these slots, the first of them last
+  -- the act that takes these slots, the first one last
   abbrev pub takes_all : List (ℕ × S) → Act S
   takes_all [] = keeps
   takes_all (x ∷ xs) = chain (takes_all xs) (takes x.0 x.1)
 
-  -- the act that gives them all back
+  -- the act that gives all of them back
   abbrev pub gives_all : List (ℕ × S) → Act S
   gives_all [] = keeps
   gives_all (x ∷ xs) = chain gives (gives_all xs)
@@ -25,7 +25,7 @@ module _ {S : Type 0} where
   put_in homes [] = homes
   put_in homes (x ∷ xs) = put_in (set homes x.0 (some x.1)) xs
 
-  -- none of them is the slot j
+  -- none of these slots is j
   abbrev pub Apart : ℕ → List (ℕ × S) → Type 0
   Apart j [] = Unit {0}
   Apart j (x ∷ xs) = (j ≢ x.0) × Apart j xs

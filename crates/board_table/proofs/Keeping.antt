@@ -1,4 +1,5 @@
--- The rule after a step of one post, which changes one lane of its own, what it knows, and maybe the history.
+-- The rule after a step of one post. The step changes one lane of this post, what the post knows, and maybe the
+-- history.
 use Rattle.std.proofs.Common.{◌≡◌, ◌≢◌, ℕ, zero, suc, ◌+◌, ◌*◌, ◌≤◌, true, false, ⊎_elim, List, [], ◌∷◌, length, set, refl, sym, ap, ◌∙◌, subst, arith}
 use Rattle.std.specs.Prelude.{slice_index, Option}
 use mathlib.Core.Option.{some, some-injective, some-ne-none}
@@ -15,7 +16,7 @@ use Rattle.board_table.specs.Layout.{board_lane, put_word, taken_word, slot_of}
 use Rattle.board_table.specs.Rule.{closed_bit, LaneNow, IsLane, Seating, Fits, Kept}
 use Rattle.board_table.proofs.Windows.{Homes}
 
--- What a step leaves of a lane: all that its record speaks of.
+-- What a step leaves of a lane: everything that the lane's record mentions.
 pub record LeavesLane (n k : ℕ) (log g : List Occurrence) (a b : ℕ) (words new_words : List ℕ) (homes new_homes : Homes) : Type 0 where
   pub goods : goods n g a b ≡ goods n log a b
   pub received : received g a b ≡ received log a b
@@ -42,16 +43,16 @@ lane_left n k log g a b packets filling emptying filling' emptying' words new_wo
   empty = λ c low high. left.slots c ∙ old.empty c (omega (arith, low, fills)) (omega (arith, high, left.received));
 }
 
--- Of the numbers of slots that are out, by lane: another one for one lane.
+-- The numbers of slots that are out, by lane, with a new number for one lane.
 abbrev pub with_number : (ℕ → ℕ → ℕ) → ℕ → ℕ → ℕ → ℕ → ℕ → ℕ
 with_number f q p m a b = elim (is_lane q p a b) [ true ↦ m | false ↦ f a b ]
 
--- of a view with one entry
+-- a view with one entry
 pub one_entry : (f e : Held) (place : ℕ) → get_elem? (f ∷ []) place ≡ some e → (place ≡ 0) × (f ≡ e)
 one_entry f e zero at = (refl, some-injective f e at)
 one_entry f e (suc place) at = absurd (some-ne-none e (sym at))
 
--- the entry of a post alone at its seat, after which the history may be longer, by its own events alone
+-- the entry of a post alone at its seat; after the step the history may be longer, but only by the post's own events
 pub kept_step : (n k : ℕ) (s : State (Option Packet) (List Held)) (r : Kept n k s) (id : ℕ) (e f : Held) → get_elem? s.views id ≡ some (e ∷ []) → 1 ≤ e.number → e.number ≤ n → (g : List Occurrence) (packets : ℕ → ℕ → List Packet) (filling emptying : ℕ → ℕ → ℕ) (words : List ℕ) (homes : Homes)
     → length words ≡ length s.words → length homes ≡ length s.homes → IsLegal n k g → Begins r.log g → ((b : ℕ) → b ≢ e.number → own g b ≡ own r.log b)
     → ((a b : ℕ) → a ≢ e.number → filling a b ≡ r.seats.filling a b) → ((a b : ℕ) → b ≢ e.number → emptying a b ≡ r.seats.emptying a b)

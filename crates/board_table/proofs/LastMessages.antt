@@ -1,4 +1,4 @@
--- A post that leaves takes along the messages that wait for it, and the rule is kept.
+-- A post that leaves with the messages that wait for it keeps the rule.
 use Rattle.std.proofs.Common.{◌≡◌, ◌≢◌, ℕ, zero, suc, ◌+◌, ◌-◌, ◌<◌, ◌≤◌, cond, ◌==◌, List, [], ◌∷◌, ◌++◌, length, take, drop, map, get_or, set, refl, sym, ap, ◌∙◌, subst, arith, length-drop, length-take}
 use Rattle.std.specs.Prelude.{Option, Some}
 use Rattle.std.proofs.lemmas.List.{take-map, drop-map, take_at, drop-append-le, set-get_or}
@@ -35,7 +35,7 @@ use Rattle.board_table.proofs.Windows.{Homes, apart_full, before_window, behind_
 abbrev Slots : Type 0
 Slots = List (ℕ × Option Packet)
 
--- each is at home with its content, and none is there twice
+-- each slot is at home with its content, and none is listed twice
 abbrev AreHome : Homes → Slots → Type 0
 AreHome homes [] = Unit {0}
 AreHome homes (x ∷ xs) = (get_elem? homes x.0 ≡ some (some x.1)) × Apart x.0 xs × AreHome homes xs
@@ -47,7 +47,7 @@ valid_home homes (x ∷ xs) are = (
   ap (λ hs. get_elem? hs x.0) (takes_all-homes homes [] xs) ∙ taken_out-else homes xs x.0 are.1 ∙ are.0,
 )
 
--- those of neighbouring places of a lane, before others
+-- the slots of neighbouring places of a lane, before others
 home_run : (n k q p : ℕ) → AreTwo n q p → 0 < k → (homes : Homes) (xs : List Packet) (c : ℕ) (others : Slots) → length xs ≤ k
     → ((i d : ℕ) (x : Packet) → d ≡ c + i → get_elem? xs i ≡ some x → get_elem? homes (slot_of n k q p d) ≡ some (some (Some x)))
     → ((d : ℕ) → Apart (slot_of n k q p d) others) → AreHome homes others → AreHome homes (full_slots n k q p c xs ++ others)
@@ -58,7 +58,7 @@ home_run n k q p two some_place homes (x ∷ xs) c others few home away are = (
   home_run n k q p two some_place homes xs (suc c) others (omega arith) (λ i d y at is. home (suc i) d y (omega arith) is) away are,
 )
 
--- No lane leads back.
+-- No lane leads from an instance to itself.
 
 sent_back : (n k : ℕ) (h : List Occurrence) → IsLegal n k h → (p : ℕ) → sent h p p ≡ []
 sent_back n k [] legal p = refl
@@ -77,16 +77,16 @@ none_left (suc r) xs none = ap (drop (suc r)) none
 pub waiting_back : (n k : ℕ) (h : List Occurrence) → IsLegal n k h → (p : ℕ) → waiting h p p ≡ []
 waiting_back n k h legal p = none_left (received h p p) (sent h p p) (sent_back n k h legal p)
 
--- carried messages are those of the goods
+-- the messages that packets carry are those of the goods
 carried_messages : (base : List ℕ) (xs : List Packet) (ys : List Parcel) → AreCarried base xs ys → map (λ (x : Packet). x.message) xs ≡ map (λ (y : Parcel). y.message) ys
 carried_messages base [] [] are = refl
 carried_messages base [] (y ∷ ys) are = absurd are
 carried_messages base (x ∷ xs) [] are = absurd are
 carried_messages base (x ∷ xs) (y ∷ ys) are = ap (λ m. m ∷ map (λ (z : Packet). z.message) xs) are.0.message ∙ ap (λ ms. y.message ∷ ms) (carried_messages y.clock xs ys are.1)
 
--- The slots with what waits for p, lane by lane.
+-- The slots with the messages that wait for p, lane by lane.
 module _ (n k p : ℕ) (h : List Occurrence) (packets : ℕ → List Packet) where
-  -- the packets of the lane from q that wait
+  -- the waiting packets of the lane from q
   abbrev run_packets : ℕ → List Packet
   run_packets q = take (length (waiting h q p)) (drop (received h q p) (packets q))
 
@@ -97,7 +97,7 @@ module _ (n k p : ℕ) (h : List Occurrence) (packets : ℕ → List Packet) whe
   runs q zero = []
   runs q (suc many) = run q ++ runs (suc q) many
 
-  -- what holds of no slots and of each lane's
+  -- what holds for no slots and for each lane's slots
   each_run : (P : Slots → Type 0) → IsLegal n k h → 1 ≤ p → p ≤ n → (q : ℕ) → 1 ≤ q → q ≤ n → P [] → (AreTwo n q p → P (run q)) → P (run q)
   each_run P legal low high q least few none each = go (dec_eq q p)
     where
@@ -148,7 +148,7 @@ module _ (n k : ℕ) (some_place : 0 < k) (s : State (Option Packet) (List Held)
   unemptied : (a : ℕ) → r.seats.emptying a e.number ≡ 0
   unemptied a = (fits.seated low high).empties a ∙ none_emptying e.hold a none
 
-  -- the lane's packets begin with those that were seen
+  -- the lane's packets begin with the seen messages
   messages_of : (a : ℕ) → AreTwo n a e.number → (rest : List Content) × (map (λ (x : Packet). x.message) (its a) ≡ sent e.seen a e.number ++ rest)
   messages_of a two =
       let more = sent_begins e.seen r.log fits.seen a e.number in
@@ -169,7 +169,7 @@ module _ (n k : ℕ) (some_place : 0 < k) (s : State (Option Packet) (List Held)
       let m : ℕ = received e.seen a e.number in
       omega (arith, length-take (length (waiting e.seen a e.number)) (drop m (its a)), length-drop m (its a))
 
-  -- a place of a lane to the post behind those that leave
+  -- a place on a lane to the post, after those of the messages that leave
   apart_behind : (a : ℕ) → AreTwo n a e.number → (c : ℕ) → received e.seen a e.number + length (now a) ≤ c → c < received e.seen a e.number + k → Apart (slot_of n k a e.number c) out
   apart_behind a two c behind near = apart_runs n k e.number e.seen its (slot_of n k a e.number c) 1 n (λ b first last.
       each_run n k e.number e.seen its (Apart (slot_of n k a e.number c)) fits.legal low high b first (omega arith) tt (λ these. go b these (dec_eq a b)))
@@ -179,7 +179,7 @@ module _ (n k : ℕ) (some_place : 0 < k) (s : State (Option Packet) (List Held)
           (apart_full n k a e.number (now a) (received e.seen a e.number) (slot_of n k a e.number c) (behind_window n k a e.number two some_place (received e.seen a e.number) c (length (now a)) behind near))
       go b these (no ne) = apart_full n k b e.number (now b) (received e.seen b e.number) (slot_of n k a e.number c) (λ d _ _. slot_beside n k a e.number b e.number c d two these some_place (λ same _. ne same))
 
-  -- a place of another post's lane
+  -- a place on another post's lane
   apart_other : (a b : ℕ) → AreTwo n a b → b ≢ e.number → (c : ℕ) → Apart (slot_of n k a b c) out
   apart_other a b two ne c = apart_runs n k e.number e.seen its (slot_of n k a b c) 1 n (λ d first last.
       each_run n k e.number e.seen its (Apart (slot_of n k a b c)) fits.legal low high d first (omega arith) tt

@@ -1,4 +1,4 @@
--- What the slots that are out with an end say of it.
+-- What follows from the slots that are out with an end.
 use Rattle.std.proofs.Common.{◌≡◌, ℕ, zero, suc, ◌+◌, List, [], ◌∷◌, ◌++◌, length, refl, sym, ap, ap₂, ◌∙◌, arith, append-nil, length-append}
 use Rattle.std.specs.Prelude.{Option}
 use Rattle.chart.specs.Histories.{sent}
@@ -34,11 +34,11 @@ module _ (n k q p : ℕ) where
   vacant_many c zero = refl
   vacant_many c (suc many) = ap suc (vacant_many (suc c) many)
 
-  -- the slots of a sender, of which so many are empty, and these are in the others
+  -- the slots of a sender, of which `many` are empty, and the others have these packets
   abbrev pub filling_slots : ℕ → ℕ → List Packet → List (ℕ × Option Packet)
   filling_slots m many xs = vacant_slots n k q p (m + length xs) many ++ full_slots n k q p m xs
 
-  -- the slots of a receiver, which has emptied so many, and these are in the others
+  -- the slots of a receiver, which has emptied `many`, and the others have these packets
   abbrev pub emptying_slots : ℕ → ℕ → List Packet → List (ℕ × Option Packet)
   emptying_slots m many xs = full_slots n k q p (m + many) xs ++ vacant_slots n k q p m many
 

@@ -1,4 +1,4 @@
--- The steps of a receiver, as its seat is.
+-- The steps of a receiver, by the state of its seat.
 use Rattle.std.proofs.Common.{◌≡◌, ℕ, ◌+◌, ◌*◌, ◌≤◌, List, [], ◌∷◌, length, take, drop, sym, ap, ◌∙◌, subst}
 use Rattle.std.specs.Prelude.{Option, slice_index}
 use Rattle.atomic_table.specs.Table.{Allows}

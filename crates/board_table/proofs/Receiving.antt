@@ -1,4 +1,4 @@
--- The steps of a lane's receiver keep the rule, and tell what they say.
+-- The steps of a lane's receiver keep the rule, and guarantee what they state.
 use Rattle.std.proofs.Common.{◌≡◌, ◌≢◌, ℕ, zero, suc, ◌+◌, ◌-◌, ◌*◌, ◌<◌, ◌≤◌, ⊎_elim, false, List, [], ◌∷◌, ◌++◌, length, take, drop, get_or, set, refl, sym, ap, ap₂, ◌∙◌, subst, lt_of_not-le, arith, append-nil, append_assoc, length-drop, length-take}
 use Rattle.std.specs.Prelude.{slice_index, Option}
 use Rattle.std.proofs.lemmas.List.{set-get_or, get_or-set_same, get_or-set_other, length-set, drop-drop, take-append-drop}
@@ -35,7 +35,7 @@ use Rattle.board_table.proofs.Places.{taken_within, taken_apart, put_taken, slot
 use Rattle.board_table.proofs.Stepping.{Stepped, OnlyEmpties, rests_emptying, only_emptying, kept_by_receiver}
 use Rattle.board_table.proofs.Windows.{Homes, apart_full, apart_vacant, behind_window, put_full, put_vacant, valid_full}
 
--- what was received is what came behind it
+-- without the last receives, the history is what it was before them
 pub drop_received : (p q c many : ℕ) (h : List Occurrence) → drop many (with_received p q c many h) ≡ h
 drop_received p q c zero h = refl
 drop_received p q c (suc many) h =
@@ -62,17 +62,17 @@ is_emptying l e many xs post hold waiting carried =
     }
 
 module _ (n k q p : ℕ) (two : AreTwo n q p) (some_place : 0 < k) where
-  -- a ring further a slot is the same
+  -- one ring further is the same slot
   slot_turn : (d : ℕ) → slot_of n k q p (d + k) ≡ slot_of n k q p d
   slot_turn d = ap (λ (i : ℕ). ((q - 1) * n + (p - 1)) * k + i) (add-mod_right d k)
 
-  -- other lanes' slots are none of these
+  -- the slots of other lanes are none of these
   apart_beside : (m many : ℕ) (xs : List Packet) (a b c : ℕ) → AreTwo n a b → is_lane q p a b ≡ false → Apart (slot_of n k a b c) (emptying_slots n k q p m many xs)
   apart_beside m many xs a b c these other =
       let away : (e : ℕ) → slot_of n k a b c ≢ slot_of n k q p e = λ e. slot_beside n k a b q p c e these two some_place (other_receiver q p a b other) in
       Apart-append (slot_of n k a b c) (full_slots n k q p (m + many) xs) (vacant_slots n k q p m many) (apart_full n k q p xs (m + many) (slot_of n k a b c) (λ e low high. away e)) (apart_vacant n k q p many m (slot_of n k a b c) (λ e low high. away e))
 
-  -- what a receiver finds in the rule
+  -- what a receiver knows from the rule
   pub record Standing (s : State (Option Packet) (List Held)) (r : Kept n k s) (id : ℕ) (e : Held) (many : ℕ) : Type 0 where
     pub fits : Fits n k r.log r.seats id 0 e
     pub lane : IsLane (board_lane n k q p) r.log (lane_now (r.packets q p) (r.seats.filling q p) (r.seats.emptying q p)) s.words s.homes
@@ -95,7 +95,7 @@ module _ (n k q p : ℕ) (two : AreTwo n q p) (some_place : 0 < k) where
         count = carried_many (zeros n) (r.packets q p) (goods n r.log q p) lane.carried ∙ goods_many n r.log q p;
       }
 
-  -- a lane's packets behind its first ones carry the goods behind those
+  -- a lane's packets after the first ones carry the goods after those
   behind_first : (packets : List Packet) (gs : List Parcel) (m : ℕ) → m ≤ length gs → AreCarried (zeros n) packets gs → AreCarried (last_clock (zeros n) (take m gs)) (drop m packets) (drop m gs)
   behind_first packets gs m few are =
       let split = carried_split (zeros n) packets (take m gs) (drop m gs) (subst (λ ys. AreCarried (zeros n) packets ys) (sym (take-append-drop m gs)) are) in
@@ -216,11 +216,11 @@ module _ (n k q p : ℕ) (two : AreTwo n q p) (some_place : 0 < k) where
         subst (λ z. stated (slice_index s.words i) (f ∷ [], z)) (sym whole ∙ sym (takes_all-carried out)) (states s r seat stated_finds refl refl),
       )
 
-  -- the packets of the lane, with these behind so many first ones
+  -- the packets of the lane, with these after the first ones
   abbrev replaced : List Packet → List Parcel → List Parcel → List Packet → List Packet
   replaced packets first waiting xs = take (length first) packets ++ (xs ++ drop (length waiting) (drop (length first) packets))
 
-  -- the lane when its receiver has given back its slots, of which it has emptied some
+  -- the lane after its receiver has given back its slots, some of which it has emptied
   record Given (s : State (Option Packet) (List Held)) (r : Kept n k s) (seen g : List Occurrence) (m j : ℕ) (xs : List Packet) (words : List ℕ) : Type 0 where
     pub lane : IsLane (board_lane n k q p) r.log (lane_now (r.packets q p) (r.seats.filling q p) (r.seats.emptying q p)) s.words s.homes
     pub emptying : r.seats.emptying q p ≡ j + length xs
@@ -294,7 +294,7 @@ module _ (n k q p : ℕ) (two : AreTwo n q p) (some_place : 0 < k) where
         ];
       }
 
-  -- a seat whose slots are given back
+  -- a seat whose slots were given back
   pub settled : (f : Held) (xs : List (ℕ × Option Packet)) → ◌≡◌ {A = Mine} (f ∷ [], []) (f ∷ [], carried_after xs (gives_all xs))
   settled f xs = λ t. (f ∷ [], sym (gives_all-carried xs) t)
 

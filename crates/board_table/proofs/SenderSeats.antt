@@ -1,4 +1,4 @@
--- The steps of a sender, as its seat is.
+-- The steps of a sender, by the state of its seat.
 use Rattle.std.proofs.Common.{◌≡◌, ℕ, ◌+◌, ◌*◌, ◌≤◌, false, List, [], ◌∷◌, length, sym, ap, ◌∙◌, subst}
 use Rattle.std.specs.Prelude.{Option, slice_index}
 use Rattle.atomic_table.specs.Table.{Allows}
@@ -14,7 +14,7 @@ use Rattle.board_table.specs.Plays.{ClaimsAnew, ClaimsAgain, Publishes, Closes, 
 use Rattle.board_table.proofs.OutSlots.{filling_slots, filling_many}
 use Rattle.board_table.proofs.Sending.{claims, publishes, puts_back, closes}
 
--- a fact of the table's size, and of the lane that a call has picked
+-- a fact about the table's size, and about the lane that a call has picked
 pub sized : (F : LaneView → ℕ → ℕ → Type 0) (l v : LaneView) (n k : ℕ) → l ≡ v → n ≡ l.instances → k ≡ l.capacity → F l l.instances l.capacity → F v n k
 sized F l v n k same instances capacity f = subst (λ z. F z n k) same (subst (λ z. F l z k) (sym instances) (subst (λ z. F l l.instances z) (sym capacity) f))
 

@@ -1,4 +1,4 @@
--- The steps of a lane's sender keep the rule, and tell what they say.
+-- The steps of a lane's sender keep the rule, and guarantee what they state.
 use Rattle.std.proofs.Common.{◌≡◌, ◌≢◌, ℕ, suc, ◌+◌, ◌-◌, ◌*◌, ◌<◌, ◌≤◌, ⊎_elim, false, List, [], ◌∷◌, ◌++◌, length, drop, get_or, set, refl, sym, ap, ◌∙◌, subst, lt_of_not-le, arith, append-nil, length-append}
 use Rattle.std.specs.Prelude.{slice_index, Option}
 use Rattle.std.proofs.lemmas.List.{set-get_or, get_or-set_same, get_or-set_other, length-set, drop-drop}
@@ -34,7 +34,7 @@ use Rattle.board_table.proofs.Places.{put_within, put_apart, put_taken, slot_bes
 use Rattle.board_table.proofs.Stepping.{Stepped, OnlyFills, rests_filling, only_filling, kept_by_sender}
 use Rattle.board_table.proofs.Windows.{Homes, apart_full, apart_vacant, before_window, behind_window, put_full, put_vacant, valid_vacant}
 
--- what was sent is what came behind it
+-- without the last sends, the history is what it was before them
 pub drop_sent : (q p : ℕ) (xs : List Packet) (h : List Occurrence) → drop (length xs) (with_sent q p xs h) ≡ h
 drop_sent q p [] h = refl
 drop_sent q p (x ∷ xs) h =
@@ -42,13 +42,13 @@ drop_sent q p (x ∷ xs) h =
     ap (λ i. drop i g) (let same : suc (length xs) ≡ length xs + 1 = omega arith in same) ∙ sym (drop-drop 1 (length xs) g) ∙ ap (drop 1) (drop_sent q p xs (Send q p x.message ∷ h))
 
 module _ (n k q p : ℕ) (two : AreTwo n q p) (some_place : 0 < k) where
-  -- other lanes' slots are none of these
+  -- the slots of other lanes are none of these
   apart_beside : (m many : ℕ) (xs : List Packet) (a b c : ℕ) → AreTwo n a b → is_lane q p a b ≡ false → Apart (slot_of n k a b c) (filling_slots n k q p m many xs)
   apart_beside m many xs a b c these other =
       let away : (e : ℕ) → slot_of n k a b c ≢ slot_of n k q p e = λ e. slot_beside n k a b q p c e these two some_place (other_receiver q p a b other) in
       Apart-append (slot_of n k a b c) (vacant_slots n k q p (m + length xs) many) (full_slots n k q p m xs) (apart_vacant n k q p many (m + length xs) (slot_of n k a b c) (λ e low high. away e)) (apart_full n k q p xs m (slot_of n k a b c) (λ e low high. away e))
 
-  -- what a sender finds in the rule
+  -- what a sender knows from the rule
   pub record Standing (s : State (Option Packet) (List Held)) (r : Kept n k s) (id : ℕ) (e : Held) (many : ℕ) : Type 0 where
     pub fits : Fits n k r.log r.seats id 0 e
     pub lane : IsLane (board_lane n k q p) r.log (lane_now (r.packets q p) (r.seats.filling q p) (r.seats.emptying q p)) s.words s.homes
@@ -140,7 +140,7 @@ module _ (n k q p : ℕ) (two : AreTwo n q p) (some_place : 0 < k) where
         subst (λ z. stated (slice_index s.words i) (f ∷ [], z)) (sym whole ∙ sym (takes_all-carried out)) (states s r seat stated_claims refl refl),
       )
 
-  -- the lane when its sender has given back its slots, of which it has filled some
+  -- the lane after its sender has given back its slots, some of which it has filled
   record Given (s : State (Option Packet) (List Held)) (r : Kept n k s) (g : List Occurrence) (v : ℕ) (xs : List Packet) (parcels : List Parcel) (words : List ℕ) : Type 0 where
     pub lane : IsLane (board_lane n k q p) r.log (lane_now (r.packets q p) (r.seats.filling q p) (r.seats.emptying q p)) s.words s.homes
     pub filling : r.seats.filling q p ≡ v + length xs
@@ -182,7 +182,7 @@ module _ (n k q p : ℕ) (two : AreTwo n q p) (some_place : 0 < k) where
         ];
       }
 
-  -- what the sender knows of its own events holds of the whole history
+  -- what the sender knows of its own events holds for the whole history
   module _ (s : State (Option Packet) (List Held)) (r : Kept n k s) (id : ℕ) (e : Held) (many : ℕ) (st : Standing s r id e many) where
     same_own : own r.log q ≡ own e.seen q
     same_own = st.made ∙ sym st.own
@@ -202,7 +202,7 @@ module _ (n k q p : ℕ) (two : AreTwo n q p) (some_place : 0 < k) where
     pub seen_knowledge : knowledge_of n r.log q ≡ knowledge_of n e.seen q
     seen_knowledge = same_knowledge n e.seen r.log st.fits.seen q same_own
 
-  -- a seat whose slots are given back
+  -- a seat whose slots were given back
   pub settled : (f : Held) (xs : List (ℕ × Option Packet)) → ◌≡◌ {A = Mine} (f ∷ [], []) (f ∷ [], carried_after xs (gives_all xs))
   settled f xs = λ t. (f ∷ [], sym (gives_all-carried xs) t)
 

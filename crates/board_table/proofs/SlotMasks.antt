@@ -1,4 +1,4 @@
--- Slots in turn, where a lane has a power of two of them.
+-- Slots in turn, if a lane's capacity is a power of two.
 use Rattle.std.proofs.Common.{◌≡◌, ℕ, zero, suc, ◌+◌, ◌-◌, ◌*◌, ◌/◌, ◌%◌, ◌^◌, ◌≤◌, bit_and, min, refl, sym, ap, ◌∙◌, subst, arith}
 use Rattle.std.proofs.lemmas.Grind.{pow_more}
 use lib.Bits.{and_step, and_self, and_mask}
@@ -19,7 +19,7 @@ module _ (c : ℕ) (some : 1 ≤ c) (none : bit_and c (c - 1) ≡ 0) where
       let half : bit_and (c / 2) ((c - 1) / 2) ≡ bit_and (c / 2) (c / 2 - 1) = ap (λ (h : ℕ). bit_and (c / 2) h) before in
       (omega (arith, rest, some), omega (arith, halves, half))
 
--- it is a power of two where its half is
+-- a number is a power of two if its half is
 doubled : (c rest : ℕ) → c % 2 ≡ rest → (some : 1 ≤ c) → (none : bit_and c (c - 1) ≡ 0) → (1 ≤ c / 2 → bit_and (c / 2) (c / 2 - 1) ≡ 0 → (k : ℕ) × (c / 2 ≡ 2 ^ k)) → (k : ℕ) × (c ≡ 2 ^ k)
 doubled c zero e some none half =
     let its = even c some none e in
@@ -33,7 +33,7 @@ is_power : (most c : ℕ) → c ≤ most → 1 ≤ c → bit_and c (c - 1) ≡ 0
 is_power zero c within some none = absurd (omega (arith, within, some))
 is_power (suc most) c within some none = doubled c (c % 2) refl some none (λ some_half none_half. is_power most (c / 2) (omega (arith, within, some)) some_half none_half)
 
--- so the number before it is the mask of its remainders
+-- the number before a power of two is the mask of its remainders
 pub masked : (c x : ℕ) → 1 ≤ c → bit_and c (c - 1) ≡ 0 → bit_and x (c - 1) ≡ x % c
 masked c x some none =
     let power = is_power c c (omega arith) some none in

@@ -1,4 +1,4 @@
--- The rule after a step of a lane's sender or receiver, which changes this lane alone.
+-- The rule after a step of a lane's sender or receiver, which changes only this lane.
 use Rattle.std.proofs.Common.{◌≡◌, ◌≢◌, ℕ, ◌≤◌, Bool, true, false, cond, ◌==◌, List, [], ◌∷◌, length, set, refl, sym, ap, ◌∙◌, subst}
 use Rattle.std.proofs.lemmas.Bool.{eqb-true, eq-eqb, ne_eqb, and_parts}
 use mathlib.Core.Option.{some}
@@ -19,13 +19,13 @@ use Rattle.board_table.specs.Rule.{LaneNow, IsLane, IsSeated, Fits, Kept}
 use Rattle.board_table.proofs.Windows.{Homes}
 use Rattle.board_table.proofs.Keeping.{LeavesLane, lane_now, lane_left, kept_step}
 
--- nothing is out but so many slots of the lane to p
+-- `many` slots of the lane to p are out, and nothing else
 pub record OnlyFills (p many : ℕ) (h : Hold) : Type 0 where
   pub here : filling_to h p ≡ many
   pub there : (b : ℕ) → b ≢ p → filling_to h b ≡ 0
   pub none : (a : ℕ) → emptying_from h a ≡ 0
 
--- nothing is out but so many slots of the lane from q
+-- `many` slots of the lane from q are out, and nothing else
 pub record OnlyEmpties (q many : ℕ) (h : Hold) : Type 0 where
   pub here : emptying_from h q ≡ many
   pub there : (a : ℕ) → a ≢ q → emptying_from h a ≡ 0
@@ -61,7 +61,7 @@ only_filling p many = record { here = rw (eq-eqb p p refl) refl; there = λ b ne
 pub only_emptying : (q many : ℕ) → OnlyEmpties q many (Emptying q many)
 only_emptying q many = record { here = rw (eq-eqb q q refl) refl; there = λ a ne. rw (ne_eqb q a (λ same. ne (sym same))) refl; none = λ b. refl }
 
--- a value by lane, with another one for one lane
+-- a value by lane, with a new one for one lane
 abbrev pub with_value : {A : Type 0} → (ℕ → ℕ → A) → ℕ → ℕ → A → ℕ → ℕ → A
 with_value f q p x a b = cond (is_lane q p a b) x (f a b)
 
@@ -78,7 +78,7 @@ with_value-here {A} f q p x = ap (λ its. cond its x (f q p)) (is_lane-same q p)
 pub with_value-there : {A : Type 0} (f : ℕ → ℕ → A) (q p : ℕ) (x : A) (a b : ℕ) → is_lane q p a b ≡ false → with_value f q p x a b ≡ f a b
 with_value-there {A} f q p x a b other = ap (λ its. cond its x (f a b)) other
 
--- Before the step, and what it changes.
+-- The state before the step, and what the step changes.
 pub record Stepped (n k q p : ℕ) (s : State (Option Packet) (List Held)) (r : Kept n k s) (number id : ℕ) (e f : Held) (g : List Occurrence) (now : LaneNow) (words : List ℕ) (homes : Homes) : Type 0 where
   pub two : AreTwo n q p
   pub at : get_elem? s.views id ≡ some (e ∷ [])

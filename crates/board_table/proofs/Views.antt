@@ -1,4 +1,4 @@
--- Seats that are cut, joined and met: the rule, where what seats know is shared out in another way.
+-- Seats that are split, joined and met: the rule still holds when the seats' knowledge is divided differently.
 use Rattle.std.proofs.Common.{◌≡◌, ◌≢◌, ℕ, zero, suc, ◌+◌, ◌-◌, ◌<◌, ◌≤◌, ◌⊎◌, inl, inr, ⊎_elim, true, false, cond, ◌==◌, List, [], ◌∷◌, ◌++◌, length, drop, get_or, set, refl, sym, ap, ap₂, ◌∙◌, subst, subst₂, arith, length-append}
 use Rattle.std.specs.Prelude.{Option, None, leb, map, replicate, slice_index}
 use Rattle.std.proofs.lemmas.List.{set-get_or, length-set, length-map, length-replicate}
@@ -22,7 +22,7 @@ use Rattle.board_table.proofs.Carried.{at_append}
 use Rattle.board_table.proofs.Keeping.{lane_now, one_entry}
 use Rattle.board_table.proofs.Places.{slot_within}
 
--- Of two beginnings of one history the shorter begins the longer.
+-- The shorter of two beginnings of one history begins the longer.
 
 same_tail : (a b : List Occurrence) (g h : List Occurrence) → a ++ g ≡ b ++ h → length g ≤ length h → Begins g h
 same_tail a [] g h same le = (a, sym same)
@@ -32,7 +32,7 @@ same_tail (x ∷ a) (y ∷ b) g h same le = same_tail a b g h (ap (drop 1) same)
 pub shorter_begins : (g h f : List Occurrence) → Begins g f → Begins h f → length g ≤ length h → Begins g h
 shorter_begins g h f (a, one) (b, two) le = same_tail a b g h (sym one ∙ two) le
 
--- where each begins the other they are one
+-- if each begins the other, they are equal
 pub begins_both : (g h : List Occurrence) → Begins g h → Begins h g → g ≡ h
 begins_both g h ([], same) back = sym same
 begins_both g h (x ∷ more, same) (rest, back) = absurd (omega (arith, ap length same, ap length back, length-append more g, length-append rest h))
@@ -44,7 +44,7 @@ longer_is g h = go (leb_tells (length g) (length h))
     go (inl t) = inl (ap (λ b. cond b h g) t.0, t.1)
     go (inr f) = inr (ap (λ b. cond b h g) f.0, f.1)
 
--- nobody but the instances does anything
+-- only the instances make events
 pub own_outside : (n k : ℕ) (h : List Occurrence) (b : ℕ) → IsLegal n k h → n < b → own h b ≡ []
 own_outside n k [] b legal out = refl
 own_outside n k (Send p q m ∷ h) b legal out = ap (λ its. cond its (Send p q m ∷ own h b) (own h b)) (ne_eqb p b (λ same. absurd (omega (arith, same, legal.0.0.1)))) ∙ own_outside n k h b legal.1 out
@@ -65,7 +65,7 @@ module _ (n k : ℕ) where
     entries = entries;
   }
 
-  -- where a view is, in the views of a table with one changed and one more
+  -- the place of a view, in the views of a table with one changed and one added
   pub in_views : (views : List (List Held)) (id : ℕ) (left right : List Held) (j : ℕ) (v : List Held) → get_elem? (set views id left ++ right ∷ []) j ≡ some v → ((j ≡ id) × (left ≡ v)) ⊎ (((j ≢ id) × (get_elem? views j ≡ some v)) ⊎ ((j ≡ length views) × (right ≡ v)))
   in_views views id left right j v at = ⊎_elim
       (λ old. ⊎_elim (λ here. inl here) (λ there. inr (inl there)) (at_set views id j left v old.1))
@@ -79,7 +79,7 @@ module _ (n k : ℕ) where
   one_of : (f e : Held) (place : ℕ) → get_elem? (f ∷ []) place ≡ some e → f ≡ e
   one_of f e place at = (one_entry f e place at).1
 
-  -- a note fits at any seat
+  -- a note agrees with the rule at any seat
   pub fits_note : (log : List Occurrence) (seats : Seating) (id place : ℕ) (e : Held) → e.instances ≡ n → e.capacity ≡ k → n < e.number → e.made ≡ [] → IsLegal n k log → Begins e.seen log → IsLegal n k e.seen → Fits n k log seats id place e
   fits_note log seats id place e instances capacity out none whole seen legal = record {
     instances = instances;
@@ -91,7 +91,7 @@ module _ (n k : ℕ) where
     seated = λ low high. absurd (omega (arith, out, high));
   }
 
-  -- a post at one seat and place is so for what it knows of the history
+  -- a post that fits at a seat and place still fits when it knows more of the history
   pub fits_more : (log : List Occurrence) (seats : Seating) (id place : ℕ) (e : Held) (h : List Occurrence) → Begins e.seen h → Begins h log → IsLegal n k h → Fits n k log seats id place e → Fits n k log seats id place (record e { seen = h })
   fits_more log seats id place e h before after legal old = record {
     instances = old.instances;
@@ -116,7 +116,7 @@ module _ (n k : ℕ) where
       mine : Fits n k r.log r.seats id 0 e
       mine = r.entries id 0 (e ∷ []) e at refl
 
-  -- of two entries of a view
+  -- the two entries of a view
   two_of : (P : ℕ → Held → Type 0) (e f : Held) → P 0 e → P 1 f → (place : ℕ) (w : Held) → get_elem? (e ∷ f ∷ []) place ≡ some w → P place w
   two_of P e f one two zero w is = subst (P 0) (some-injective e w is) one
   two_of P e f one two (suc zero) w is = subst (P 1) (some-injective f w is) two
@@ -249,7 +249,7 @@ module _ (n k : ℕ) where
           (λ seat. to id 0 (r.seats.seat e.number) (j, place) seat (ap (λ b. cond b (length s.views, 0) (id, 0)) (eq-eqb id id refl) ∙ ap₂ (λ (a b : ℕ). (a, b)) (sym last) (sym one.0)))
           (r.entries id 0 (e ∷ es) e at refl))
 
-  -- the table as it is made
+  -- the new table
   zero_at : (many i : ℕ) → ◌≡◌ {A = ℕ} (get_or (replicate many 0) i 0) 0
   zero_at zero i = refl
   zero_at (suc many) zero = refl
@@ -268,7 +268,7 @@ module _ (n k : ℕ) where
   new_at (suc many) number zero e is = sym (some-injective (new_held n k number) e is) ∙ ap (new_held n k) (let z : number ≡ number + 0 = omega arith in z)
   new_at (suc many) number (suc place) e is = new_at many (suc number) place e is ∙ ap (new_held n k) (let z : suc number + place ≡ number + suc place = omega arith in z)
 
-  -- all posts sit at one seat, and no slot is out
+  -- all posts are at one seat, and no slot is out
   abbrev opening_seats : Seating
   opening_seats = record { seat = λ x. (0, x - 1); filling = λ q p. 0; emptying = λ q p. 0 }
 

@@ -1,4 +1,4 @@
--- The slots of neighbouring places of one lane, taken out and put in.
+-- The slots of neighbouring places on one lane, taken out and put back.
 use Rattle.std.proofs.Common.{◌≡◌, ◌≢◌, ℕ, zero, suc, ◌+◌, ◌<◌, ◌≤◌, List, [], ◌∷◌, length, set, refl, sym, ap, ◌∙◌, subst, lt_of_not-le, arith, length-set}
 use Rattle.std.specs.Prelude.{Option, Some, None}
 use mathlib.Core.Option.{none, some, some-ne-none, some-injective}
@@ -21,7 +21,7 @@ module _ (n k q p : ℕ) where
   abbrev pub slot : ℕ → ℕ
   slot c = slot_of n k q p c
 
-  -- the slot of d is empty, once these are put in
+  -- the slot of d is empty after these are put back
   abbrev Found : Homes → ℕ → ℕ → ℕ → Type 0
   Found homes c many d = get_elem? (put_in homes (vacant_slots n k q p c many)) (slot d) ≡ some (some None)
 
@@ -34,7 +34,7 @@ module _ (n k q p : ℕ) where
   apart_vacant (suc many) c j away = (away c (omega arith) (omega arith), apart_vacant many (suc c) j (λ e low high. away e (omega arith) (omega arith)))
 
   module _ (two : AreTwo n q p) (some_place : 0 < k) where
-    -- a place in front of a window, or behind it, less than a ring from all of it
+    -- a place before a window, or after it, less than a ring away from all of it
     pub before_window : (c d many : ℕ) → d < c → c + many ≤ d + k → (e : ℕ) → c ≤ e → e < c + many → slot d ≢ slot e
     before_window c d many less near e low high = slot_other n k q p d e two (omega arith) (omega arith)
 

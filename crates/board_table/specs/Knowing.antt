@@ -13,7 +13,7 @@ use Rattle.board_table.specs.declared.held.Held.{Held}
 use Rattle.board_table.specs.Layout.{LaneView}
 use Rattle.board_table.specs.Carrying.{AreCarried, last_clock, vacant_slots, full_slots, packets_in, vacant_in}
 
--- a seat's view, which is a list of what it knows of each post that it stands for, and the slots that are out with it
+-- a seat's view: a list of what it knows of each of its posts, and the slots that are out with it
 abbrev pub Mine : Type 0
 Mine = Me (Option Packet) (List Held)
 
@@ -23,19 +23,19 @@ many_out Nothing = 0
 many_out (Filling to many) = many
 many_out (Emptying from many) = many
 
--- how many of the lane to p are out with its sender
+-- how many slots of the lane to p are out with its sender
 abbrev pub filling_to : Hold → ℕ → ℕ
 filling_to Nothing p = 0
 filling_to (Filling to many) p = if to == p then many else 0
 filling_to (Emptying from many) p = 0
 
--- how many of the lane from q are out with its receiver
+-- how many slots of the lane from q are out with its receiver
 abbrev pub emptying_from : Hold → ℕ → ℕ
 emptying_from Nothing q = 0
 emptying_from (Filling to many) q = 0
 emptying_from (Emptying from many) q = if from == q then many else 0
 
--- before the first step
+-- what is known of a post before its first step
 abbrev pub new_held : ℕ → ℕ → ℕ → Held
 new_held n k number = record {
   instances = n;
@@ -52,7 +52,7 @@ abbrev pub first_of : List Held → Held
 first_of [] = new_held 0 0 0
 first_of (e ∷ es) = e
 
--- and of the others
+-- what a view knows of the other posts
 abbrev pub later_of : List Held → List Held
 later_of [] = []
 later_of (e ∷ es) = es
@@ -61,7 +61,7 @@ later_of (e ∷ es) = es
 abbrev pub held : Mine → Held
 held me = first_of me.0
 
--- what a seat of several posts knows of those behind the first
+-- what a seat of several posts knows of those after the first
 abbrev pub later_helds : Mine → List Held
 later_helds me = later_of me.0
 
@@ -69,25 +69,25 @@ later_helds me = later_of me.0
 abbrev pub packets_out : Mine → List Packet
 packets_out me = packets_in me.1
 
--- how many empty slots are
+-- how many empty slots are out with the seat
 abbrev pub vacant_out : Mine → ℕ
 vacant_out me = vacant_in me.1
 
--- the seat stands for one post, that of this number on a board of this size
+-- the seat is that of one post, with this number, on a board of this size
 pub record IsPost (n k p : ℕ) (me : Mine) : Type 0 where
   pub alone : me.0 ≡ held me ∷ []
   pub instances : (held me).instances ≡ n
   pub capacity : (held me).capacity ≡ k
   pub number : (held me).number ≡ p
 
--- and no slot is out with it
+-- the seat is that of one post, and no slot is out with it
 pub record Rests (n k p : ℕ) (me : Mine) : Type 0 where
   pub post : IsPost n k p me
   pub hold : many_out (held me).hold ≡ 0
   pub slots : me.1 ≡ []
 
--- slots of the lane are out with its sender: first the empty ones, and then those that it has filled, from the place
--- of its next message on
+-- slots of the lane are out with its sender: first the empty ones, and then those that it has filled, from the slot of
+-- its next message on
 pub record IsFilling (l : LaneView) (me : Mine) : Type 0 where
   pub post : IsPost l.instances l.capacity l.sender me
   pub hold : (held me).hold ≡ Filling l.receiver (length me.1)
@@ -96,19 +96,19 @@ pub record IsFilling (l : LaneView) (me : Mine) : Type 0 where
       ++ full_slots l.instances l.capacity l.sender l.receiver (length (sent (held me).seen l.sender l.receiver))
       (packets_out me)
 
--- the goods that wait, without those that the receiver has taken out
+-- the waiting goods, without those that the receiver has taken out
 abbrev pub waiting_goods : LaneView → Mine → List Parcel
 waiting_goods l me = drop (received (held me).seen l.sender l.receiver + vacant_out me)
     (goods l.instances (held me).seen l.sender l.receiver)
 
--- the clock of the last one that it has taken out, or received
+-- the clock of the last message that the receiver has taken out, or received
 abbrev pub emptied_base : LaneView → Mine → Clock
 emptied_base l me =
     last_clock (zeros l.instances) (take (received (held me).seen l.sender l.receiver + vacant_out me)
     (goods l.instances (held me).seen l.sender l.receiver))
 
--- slots of the lane are out with its receiver: first those that it has not emptied, with what waits, and then those
--- that it has, from the place of the first message that waits on
+-- slots of the lane are out with its receiver: first those with messages that wait, and then those that it has emptied,
+-- from the slot of the first waiting message on
 pub record IsEmptying (l : LaneView) (me : Mine) : Type 0 where
   pub post : IsPost l.instances l.capacity l.receiver me
   pub hold : (held me).hold ≡ Emptying l.sender (length me.1)
@@ -120,16 +120,16 @@ pub record IsEmptying (l : LaneView) (me : Mine) : Type 0 where
       ≡ length (sent (held me).seen l.sender l.receiver)
   pub carried : AreCarried (emptied_base l me) (packets_out me) (waiting_goods l me)
 
--- How what is known grows.
+-- How this knowledge grows.
 
--- it is the same post
+-- they are the same post
 pub record IsSamePost (e f : Held) : Type 0 where
   pub instances : f.instances ≡ e.instances
   pub capacity : f.capacity ≡ e.capacity
   pub number : f.number ≡ e.number
 
--- f has seen all that e has seen, and maybe more, and has made nothing more. What it has seen is legal, and has just
--- what it made of its own
+-- f has seen all that e has seen, and maybe more, and has made nothing more. What f has seen is legal, and has just
+-- those events of f that it made
 pub record Sees (n k : ℕ) (e f : Held) : Type 0 where
   pub same : IsSamePost e f
   pub later : Begins e.seen f.seen
@@ -137,7 +137,7 @@ pub record Sees (n k : ℕ) (e f : Held) : Type 0 where
   pub made : f.made ≡ e.made
   pub own : own f.seen f.number ≡ f.made
 
--- f has made these events, directly after a history that it has seen by then
+-- f has made these events, directly after a history that it had seen by then
 pub record Moves (n k : ℕ) (e f : Held) (before : List Occurrence) (events : List Occurrence
     → List Occurrence) : Type 0 where
   pub same : IsSamePost e f
@@ -150,7 +150,7 @@ pub record Moves (n k : ℕ) (e f : Held) (before : List Occurrence) (events : L
   pub own : own f.seen f.number ≡ f.made
   pub looks : f.looks ≡ e.looks
 
--- it has given its slots back, and nothing else is changed
+-- it has given its slots back, and nothing else has changed
 abbrev pub at_rest : Held → Held
 at_rest e = record e { hold = Nothing }
 
@@ -158,10 +158,10 @@ at_rest e = record e { hold = Nothing }
 abbrev pub longer : List Occurrence → List Occurrence → List Occurrence
 longer g h = cond (leb (length g) (length h)) h g
 
--- a note of what it has seen, with a number that no post of the board has
+-- a note of what it has seen; the note's number is that of no post of the board
 abbrev pub note_of : Held → Held
 note_of e = record (new_held e.instances e.capacity (e.instances + 1)) { seen = e.seen }
 
--- what is known of one when it has met the other, of which one is a note
+-- what is known of one after it has met the other; one of the two is a note
 abbrev pub met : Held → Held → Held
 met e other = record e { seen = longer e.seen other.seen }

@@ -1,10 +1,10 @@
--- Where the words and slots of a board lie (this project's profile). The words are grouped by who writes them, and
--- between two groups lie seven words that nobody uses, so that no cache line has words of two writers.
+-- The places of a board's words and slots (this project's profile). The words are grouped by who writes them. Between
+-- two groups are seven unused words, so that no cache line has words of two writers.
 use Rattle.std.specs.Prelude.{◌≡◌, ℕ, ◌+◌, ◌-◌, ◌*◌, ◌%◌}
 use Rattle.atomic_table.specs.Seated.{TableId}
 use Rattle.board_table.specs.declared.shape.Shape.{Shape}
 
--- a lane of a board: of how many instances and what capacity that is, who sends on it, and who receives
+-- a lane of a board: the board's size and capacity, the lane's sender, and its receiver
 pub record LaneView : Type 0 where
   pub instances : ℕ
   pub capacity : ℕ
@@ -15,11 +15,11 @@ pub record LaneView : Type 0 where
 abbrev pub board_lane : ℕ → ℕ → ℕ → ℕ → LaneView
 board_lane n k q p = record { instances = n; capacity = k; sender = q; receiver = p }
 
--- the words of one writer, and those that part it from the next
+-- how many words a writer has, with the unused ones after them
 abbrev pub row_length : ℕ → ℕ
 row_length n = 2 * n + 7
 
--- the word that has how many messages q sent to p, twice, and one more when the lane is closed
+-- the word that has twice the number of messages sent from q to p, and one more when the lane is closed
 abbrev pub put_word : ℕ → ℕ → ℕ → ℕ
 put_word n q p = (q - 1) * row_length n + (p - 1)
 

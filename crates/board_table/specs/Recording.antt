@@ -1,5 +1,5 @@
--- What a receiver records of the first message that is out with it (this project's profile; differences between clocks
--- as Singhal and Kshemkalyani 1992 have them).
+-- What a receiver records of the first message that is out with it (this project's profile; differences between clocks:
+-- after Singhal and Kshemkalyani 1992).
 use Rattle.std.specs.Prelude.{◌≡◌, ℕ, List, ◌∷◌, length}
 use Rattle.chart.specs.Words.{Clock}
 use Rattle.chart.specs.Events.{MayHaveRegion}
@@ -15,14 +15,14 @@ pub record IsReady (l : LaneView) (region : ℕ) (recorder : RecorderView) : Typ
   pub knows : length recorder.knowledge ≡ l.instances
   pub region_fits : MayHaveRegion recorder.line.events region
 
--- a receive: who sent its message, its coregion, the clock that the message came with, and its report
+-- a receive: the sender of its message, its coregion, the clock of the message, and its report
 pub record ReceiptView : Type 0 where
   pub from : ℕ
   pub region : ℕ
   pub clock : Clock
   pub report : ReportView
 
--- the recorder has recorded the receive of the first of these packets, whose difference is over the base
+-- the recorder has recorded the receive of the first of these packets; the packet's difference is from the base
 pub record IsRecorded (packets : List Packet) (base : Clock) (old : RecorderView) (receipt : ReceiptView)
     (new : RecorderView) : Type 0 where
   pub clock_is : (x : Packet) (xs : List Packet) → packets ≡ x ∷ xs → apply_diff base x.diff ≡ receipt.clock

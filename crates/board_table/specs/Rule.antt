@@ -1,5 +1,5 @@
--- The rule of a running board (this project's profile): whatever the words are, whatever the slots at home contain, and
--- whatever the seats know, there is one legal history that all of it fits.
+-- The rule of a running board (this project's profile). There is always one legal history that agrees with the words,
+-- with the contents of the slots at home, and with what the seats know.
 use Rattle.std.specs.Prelude.{◌≡◌, ℕ, zero, suc, ◌+◌, ◌*◌, ◌<◌, ◌≤◌, Bool, true, false, List, [], ◌∷◌, length, slice_index, Option, Some, None}
 use mathlib.Core.Option.{some}
 use mathlib.Core.Option as maybe
@@ -15,18 +15,18 @@ use Rattle.board_table.specs.Layout.{LaneView, board_lane, put_word, taken_word,
 use Rattle.board_table.specs.Carrying.{AreCarried}
 use Rattle.board_table.specs.Knowing.{filling_to, emptying_from, new_held}
 
--- what a lane's first word says beside the count
+-- what a lane's first word has besides the count: whether the lane is closed
 abbrev pub closed_bit : Bool → ℕ
 closed_bit true = 1
 closed_bit false = 0
 
--- what was put on a lane, and how many of its slots are out with its sender and with its receiver
+-- the packets put on a lane, and how many of its slots are out with its sender and with its receiver
 pub record LaneNow : Type 0 where
   pub packets : List Packet
   pub filling : ℕ
   pub emptying : ℕ
 
--- the words and the slots at home have the lane as the history has it, and as it is now
+-- the words and the slots at home agree with the lane's history and with its present state
 pub record IsLane (l : LaneView) (log : List Occurrence) (now : LaneNow) (words : List ℕ)
     (homes : List (maybe.Option (Option Packet))) : Type 0 where
   pub carried : AreCarried (zeros l.instances) now.packets (goods l.instances log l.sender l.receiver)
@@ -41,21 +41,21 @@ pub record IsLane (l : LaneView) (log : List Occurrence) (now : LaneNow) (words 
   pub empty : (c : ℕ) → length now.packets + now.filling ≤ c → c < received log l.sender l.receiver + l.capacity
       → get_elem? homes (slot_of l.instances l.capacity l.sender l.receiver c) ≡ some (some None)
 
--- who sits where: the seat of each post's number, with the place in the seat's view; and, by sender and receiver, how
--- many slots of their lane are out with the one and with the other
+-- the seat of each post's number, with the place in the seat's view. And, by sender and receiver, how many slots of
+-- their lane are out with the sender and with the receiver
 pub record Seating : Type 0 where
   pub seat : ℕ → ℕ × ℕ
   pub filling : ℕ → ℕ → ℕ
   pub emptying : ℕ → ℕ → ℕ
 
--- the seat of a post's number is this one, and the slots that are out with the post are those that it knows of
+-- the seat of the post's number is this one, and the slots that are out with the post are those that it knows of
 pub record IsSeated (seats : Seating) (id place : ℕ) (e : Held) : Type 0 where
   pub here : seats.seat e.number ≡ (id, place)
   pub fills : (p : ℕ) → seats.filling e.number p ≡ filling_to e.hold p
   pub empties : (q : ℕ) → seats.emptying q e.number ≡ emptying_from e.hold q
 
--- What a seat knows at this place of its view fits the history: it has seen a beginning of it, which has all that it
--- made. A number above the board's is a note's, which owns nothing.
+-- What a seat knows at this place of its view agrees with the history: the post has seen a beginning of it, which has
+-- all that the post made. A number above the board's size is that of a note, which owns nothing.
 pub record Fits (n k : ℕ) (log : List Occurrence) (seats : Seating) (id place : ℕ) (e : Held) : Type 0 where
   pub instances : e.instances ≡ n
   pub capacity : e.capacity ≡ k
@@ -81,7 +81,7 @@ pub record Kept (n k : ℕ) (s : State (Option Packet) (List Held)) : Type 0 whe
   pub entries : (id place : ℕ) (v : List Held) (e : Held) → get_elem? s.views id ≡ some v → get_elem? v place ≡ some e
       → Fits n k log seats id place e
 
--- what the first seat knows of the posts from this number on, which are so many
+-- what the first seat knows of `many` posts from this number on
 abbrev pub new_helds : ℕ → ℕ → ℕ → ℕ → List Held
 new_helds n k number zero = []
 new_helds n k number (suc many) = new_held n k number ∷ new_helds n k (suc number) many

@@ -1,4 +1,4 @@
-//! Fills of slots by messages that are sent directly after another one.
+//! Fills slots with messages that are sent directly after another one.
 ghost use Rattle.std.specs.Prelude.{◌≡◌, ◌≢◌, ◌+◌, ◌<◌, ◌≤◌, [], ◌∷◌, ◌++◌, length, suc, None, IfSome, IsSome};
 ghost use Rattle.chart.specs.Histories.{sent};
 ghost use Rattle.chart.specs.declared.line.TheConstants.{MAX_EVENTS};
@@ -14,8 +14,8 @@ use chart::{InstanceNo, Message};
 use clock::Diff;
 use line_recorder::Recorder;
 
-/// Puts a message into an empty slot and records its send, which comes directly after another one. Its difference is
-/// made in the slot: what changed since that one.
+/// Puts a message into an empty slot, and records its send, which comes directly after another send. The message's
+/// difference is made in the slot: what changed since that send.
 #[inline(always)]
 fn put_next(slot: &mut Option<Packet>, recorder: &mut Recorder, to: InstanceNo, message: Message)
     requires vacant { slot.old ≡ None }
@@ -28,20 +28,20 @@ fn put_next(slot: &mut Option<Packet>, recorder: &mut Recorder, to: InstanceNo, 
         (record { message = message; clock = send_clock recorder.old })) }
     ensures recorder { recorder.new ≡ after_send recorder.old to message.name }
 {
-    // So the compiler reads nothing that there would be to let go of.
+    // So the compiler knows that the slot is empty, and emits no code that drops an old value.
     let None = slot else { unreachable!() };
     let name = message.name();
     let diff = Diff::none(recorder.alloc());
     *slot = Some(Packet { message, diff });
     let Some(packet) = slot else { unreachable!() };
     recorder.send_next(to, name, &mut packet.diff);
-    // What was written through the packet is known of the slot once the packet is read again.
+    // The prover knows what was written through the packet only after the packet is read again.
     let _changes = packet.diff.len();
 }
 
-/// Puts a message into the first empty slot, which is that of the message before which `count` were put on the lane,
-/// and records its send, which comes directly after another one. With the room that was made on the line it isn't
-/// refused, and takes no memory.
+/// Puts a message into the first empty slot, and records its send, which comes directly after another send. `count`
+/// messages were put on the lane before this one. With the room that was made on the line the send isn't refused, and
+/// takes no memory.
 #[inline(always)]
 pub fn fill_next(
     words: &SharedTable,

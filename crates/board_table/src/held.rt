@@ -1,4 +1,4 @@
-//! What a seat at a board's table knows. Contracts alone speak of it, so no value of these types is made.
+//! What a seat at a board's table knows. Only contracts mention these types, so no value of them is made.
 
 use chart::InstanceNo;
 use chart::history::Occurrence;
@@ -8,14 +8,14 @@ use std::collections::LinkedList;
 #[derive(Drop)]
 pub enum Hold {
     Nothing,
-    /// So many slots of the lane to this instance, to be filled.
+    /// This many slots of the lane to this instance, to be filled.
     Filling(InstanceNo, usize),
-    /// So many slots of the lane from this instance, to be emptied.
+    /// This many slots of the lane from this instance, to be emptied.
     Emptying(InstanceNo, usize),
 }
 
-/// What a seat knows of a post: the board's size, the post's number, the history that it has seen and the events of
-/// its own, the newest first, how often it has looked at a word of a partner's, and what it holds.
+/// What a seat knows of a post: the board's size, the post's number, the history that it has seen, and its own events,
+/// the newest first. It also knows how often the post looked at a partner's word, and which slots it holds.
 #[derive(Drop)]
 pub struct Held {
     pub instances: usize,

@@ -1,4 +1,4 @@
-//! The lane from one instance of a board to another, and where its words and slots lie.
+//! The lane from one instance of a board to another, and the places of its words and slots.
 ghost use Rattle.std.specs.Prelude.{◌≡◌, ◌≢◌, ℕ, suc, ◌%◌, ◌≤◌, ◌<◌};
 ghost use Rattle.chart.specs.Histories.{AreTwo};
 ghost use Rattle.chart.specs.declared.instance.TheConstants.{MAX_INSTANCES};
@@ -9,7 +9,7 @@ use crate::Shape;
 use chart::{InstanceNo, MAX_CAPACITY, MAX_INSTANCES};
 use std::marker::Model;
 
-/// A lane of a board, which others call a channel: who sends on it, and who receives.
+/// A lane of a board, by its sender and its receiver. Elsewhere a lane is called a channel.
 #[derive(Debug, Drop)]
 pub struct Lane {
     shape: Shape,
@@ -37,8 +37,8 @@ impl Model for Lane {
         × (1 ≤ l.shape.capacity) × (l.shape.capacity ≤ MAX_CAPACITY) };
 }
 
-/// Which of a lane's slots, from 0, has the message before which so many were sent: they are used in turn. Where their
-/// number is a power of two it takes no division.
+/// The slot of a lane, from 0, for the message before which `count` were sent: slots are used in turn. If `capacity` is
+/// a power of two, this takes no division.
 #[inline(always)]
 fn slot_in_turn(count: usize, capacity: usize) -> usize
     requires { 1 ≤ capacity }
@@ -73,7 +73,7 @@ impl Lane {
         }
     }
 
-    /// Who sends on it.
+    /// The lane's sender.
     #[inline(always)]
     pub(crate) fn sender(&self) -> InstanceNo
         ensures value { result ≡ self.now.sender }
@@ -82,7 +82,7 @@ impl Lane {
         self.sender
     }
 
-    /// Who receives on it.
+    /// The lane's receiver.
     #[inline(always)]
     pub fn receiver(&self) -> InstanceNo
         ensures value { result ≡ self.now.receiver }
@@ -91,7 +91,7 @@ impl Lane {
         self.receiver
     }
 
-    /// The word that has how many messages were sent, twice, and one more when the lane is closed.
+    /// The number of the word that has twice the number of messages sent, and one more when the lane is closed.
     #[inline(always)]
     pub fn put_word(&self) -> usize
         ensures value { result ≡ put_word self.now.instances self.now.sender self.now.receiver }
@@ -102,7 +102,7 @@ impl Lane {
         self.sender.place() * (2 * self.shape.instances + 7) + self.receiver.place()
     }
 
-    /// That word of the lane from the next instance to the same one, where this is the lane's own.
+    /// The same word of the lane from the next instance to the same receiver; `word` is this lane's.
     #[inline(always)]
     pub fn put_word_after(&self, word: usize) -> usize
         requires { word ≡ put_word self.now.instances self.now.sender self.now.receiver }
@@ -111,7 +111,7 @@ impl Lane {
         word + (2 * self.shape.instances + 7)
     }
 
-    /// The word that has how many messages were received.
+    /// The number of the word that has the number of messages received.
     #[inline(always)]
     pub(crate) fn taken_word(&self) -> usize
         ensures value { result ≡ taken_word self.now.instances self.now.sender self.now.receiver }
@@ -124,7 +124,7 @@ impl Lane {
             + self.sender.place()
     }
 
-    /// The slot of the message before which so many were sent.
+    /// The slot of the message before which `count` messages were sent.
     #[inline(always)]
     pub(crate) fn slot(&self, count: u64) -> usize
         ensures value { result ≡ slot_of self.now.instances self.now.capacity self.now.sender self.now.receiver count }

@@ -1,4 +1,4 @@
-//! How a post leaves its board, and takes the messages along that wait for it.
+//! How a post leaves its board with the messages that wait for it.
 ghost use Rattle.std.specs.Prelude.{◌≡◌, ◌≤◌, [], ◌∷◌, ◌++◌, Some, None};
 ghost use Rattle.atomic_table.specs.Table.{rest};
 ghost use Rattle.board_table.specs.Layout.{IsBoard, slot_of};
@@ -9,8 +9,8 @@ use crate::rule::Leave;
 use crate::{Lane, Packet, Seat, SharedTable};
 use chart::Message;
 
-/// A post leaves its board, and makes no step any more: the slots of all messages that wait for it, in what it has
-/// seen, go with its seat, by sender. It takes no memory.
+/// Lets a post leave its board: it makes no further step. The slots of all messages that wait for it, in what it has
+/// seen, go with its seat, sorted by sender. The call takes no memory.
 pub fn leave(words: &SharedTable, seat: &mut Seat)
     requires table { seat.old.table_id ≡ words.now.table_id }
     requires board { IsBoard (held seat.old.me).instances (held seat.old.me).capacity words.now.key words.now.table_id }
@@ -24,8 +24,8 @@ pub fn leave(words: &SharedTable, seat: &mut Seat)
     words.load::<Leave>(seat, 0);
 }
 
-/// Takes the message out of the first slot that went with the seat: that of the lane's message before which `count`
-/// were sent. The slot goes behind the others.
+/// Takes the message out of the first slot that went with the seat. It is the slot of the lane's message before which
+/// `count` were sent. The slot is then the last of the slots.
 pub fn draw(words: &SharedTable, seat: &mut Seat, lane: &Lane, count: u64) -> Message
     requires table { seat.old.table_id ≡ words.now.table_id }
     requires first { (x : Packet)

@@ -1,20 +1,20 @@
 //! The table of a running board: its words and slots, what each seat at it knows, the rule that all of it keeps, and
 //! the steps of both ends of a lane.
 //!
-//! The board's posts stand on this crate alone for what other threads do. A post holds a [`Seat`], a token of no
-//! bytes, whose contract has the history that the post has seen, the events of its own in it, and how often it has
-//! looked at a word of a partner's. Whatever the words are, whatever the slots at home contain, and whatever all
-//! seats know, there is one legal history that begins with each of the histories that were seen, has just its own
-//! events for each post, and is told by the words: this is the rule (`specs/Rule.antt`), and each step is proved to
-//! keep it.
+//! For what other threads do, the board's posts rely only on this crate. A post holds a [`Seat`], a token of no bytes.
+//! The seat's contract has the history that the post has seen, and the post's own events in it. It also has how often
+//! the post looked at a partner's word. There is always one legal history that begins with each seen history, has just
+//! its own events for each post, and agrees with all words. This holds for any words, for any contents of the slots at
+//! home, and for anything that the seats know. It is the rule (`specs/Rule.antt`), and each step is proved to keep it.
 //!
-//! A lane has two words: how many messages were sent on it, twice, with one more when it is closed, and how many were
-//! received. A load takes all slots that are free, or all that have a message, and a store gives all of them back; so
-//! a publish or a free carries one message or several. A load of the end's own word takes and gives back likewise, so
-//! that an end that keeps the last number which it loaded needn't look again. A message carries what changed in its
-//! sender's clock since the message before it on the lane (Singhal and Kshemkalyani 1992).
+//! A lane has two words. One is twice the number of messages that were sent on it, and one more when the lane is
+//! closed. The other is the number of messages that were received. A load takes all free slots, or all slots with a
+//! message, and a store gives all of them back. So a publish or a free carries one message or several. A load of the
+//! end's own word takes and gives back in the same way. So an end that keeps the last number which it loaded needn't
+//! look again. A message carries the entries of its sender's clock that changed since the message before it on the lane
+//! (Singhal and Kshemkalyani 1992).
 //!
-//! What the steps tell stands in `specs/Plays.antt`. The words are grouped by who writes them (`specs/Layout.antt`).
+//! `specs/Plays.antt` states what each step guarantees. The words are grouped by who writes them (`specs/Layout.antt`).
 #![tactic(auto)]
 
 mod filling;

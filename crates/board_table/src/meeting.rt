@@ -1,4 +1,4 @@
-//! How posts meet: by a note, which carries what one has seen to the others.
+//! How posts meet: a note carries what one post has seen to the others.
 ghost use Rattle.std.specs.Prelude.{◌≡◌, ◌≤◌};
 ghost use Rattle.board_table.specs.Layout.{IsBoard};
 ghost use Rattle.board_table.specs.Knowing.{held, IsPost};
@@ -7,7 +7,7 @@ ghost use Rattle.board_table.specs.Plays.{IsNote, Meets};
 use crate::rule::{Beside, Copied, Meet, Parted};
 use crate::{Seat, SharedTable};
 
-/// A note of what the post has seen. It takes no memory.
+/// A note of what the post has seen. The call takes no memory.
 pub fn note(words: &SharedTable, seat: &mut Seat) -> Seat
     requires table { seat.old.table_id ≡ words.now.table_id }
     requires board { IsBoard (held seat.old.me).instances (held seat.old.me).capacity words.now.key words.now.table_id }
@@ -23,7 +23,8 @@ pub fn note(words: &SharedTable, seat: &mut Seat) -> Seat
     words.split_seat::<Copied>(seat)
 }
 
-/// Brings a post and a note together: both have then seen the longer of what they had seen. It takes no memory.
+/// Brings a post and a note together: afterwards both have seen the longer of the two histories that they had seen. The
+/// call takes no memory.
 pub fn meet_note(words: &SharedTable, seat: &mut Seat, note: Seat) -> Seat
     requires table { (seat.old.table_id ≡ words.now.table_id) × (note.table_id ≡ words.now.table_id) }
     requires board { IsBoard (held seat.old.me).instances (held seat.old.me).capacity words.now.key words.now.table_id }

@@ -16,8 +16,8 @@ use clock::Clock;
 use line_recorder::{RecordError, Recorder};
 use std::marker::Brand;
 
-/// Takes the slots of all messages that wait, by a look at how many were sent, and whether the lane is closed, which it
-/// answers.
+/// Takes the slots of all waiting messages, by a look at the sender's word. It returns this word: twice the number of
+/// sent messages, and one more if the lane is closed.
 #[inline(always)]
 pub fn find_anew(words: &SharedTable, seat: &mut Seat, lane: &Lane) -> u64
     requires table { seat.old.table_id ≡ words.now.table_id }
@@ -41,7 +41,8 @@ fn find_anew_at<A: Site>(words: &SharedTable, seat: &mut Seat, lane: &Lane) -> u
     words.load::<FindAnew<A>>(seat, lane.put_word())
 }
 
-/// Looks at how many were sent, and whether the lane is closed, which it answers, and takes no slot.
+/// Looks at the sender's word without taking a slot. It returns this word: twice the number of sent messages, and one
+/// more if the lane is closed.
 #[inline(always)]
 pub fn look(words: &SharedTable, seat: &mut Seat, lane: &Lane) -> u64
     requires table { seat.old.table_id ≡ words.now.table_id }
@@ -53,7 +54,7 @@ pub fn look(words: &SharedTable, seat: &mut Seat, lane: &Lane) -> u64
     look_at::<Brand>(words, seat, lane, lane.put_word())
 }
 
-/// The same, at the word of the lane, which the caller knows.
+/// The same, if the caller knows the number of the lane's word.
 #[inline(always)]
 pub fn look_there(words: &SharedTable, seat: &mut Seat, lane: &Lane, word: usize) -> u64
     requires table { seat.old.table_id ≡ words.now.table_id }
@@ -76,12 +77,12 @@ fn look_at<A: Site>(words: &SharedTable, seat: &mut Seat, lane: &Lane, word: usi
     ensures table { (seat.new.table_id ≡ seat.old.table_id) × (seat.new.id ≡ seat.old.id) }
     ensures looks { LooksAt lane.now seat.old.me result seat.new.me }
 {
-    // (what is known of the lane's word is known where it is asked for)
+    // The prover learns the facts about the lane's word from this call.
     let _ = lane.put_word();
     words.load::<LookAt<A>>(seat, word)
 }
 
-/// Takes the slots of all messages that wait, by a load of the receiver's own word, which is no look.
+/// Takes the slots of all waiting messages, by a load of the receiver's own word, which is no look.
 #[inline(always)]
 pub fn find_again(words: &SharedTable, seat: &mut Seat, lane: &Lane)
     requires table { seat.old.table_id ≡ words.now.table_id }
@@ -105,11 +106,11 @@ fn find_again_at<A: Site>(words: &SharedTable, seat: &mut Seat, lane: &Lane)
     words.load::<FindAgain<A>>(seat, lane.taken_word());
 }
 
-/// Records the receive of the first message that is in the slots, in this coregion (0 outside of one), and takes it out
-/// of its own: it answers the message and its report. The base is the clock of the message before it, and is this one's
-/// afterwards. The message stands behind `count` messages.
+/// Records the receive of the first message in the slots, in the coregion `region` (0 outside of one), and takes the
+/// message out of its slot. It returns the message and its report. The base is the clock of the message before it, and
+/// afterwards the clock of this one. `count` messages came before it on the lane.
 ///
-/// A refusal, the first of F7 and F6 that applies, changes nothing, and the message is where it was.
+/// The first of F7 and F6 that applies refuses it. Then nothing has changed, and the message is where it was.
 #[inline(always)]
 pub fn take_recorded(
     words: &SharedTable,
@@ -157,8 +158,8 @@ pub fn take_recorded(
     Ok((message, report))
 }
 
-/// Receives the messages that were taken out, one directly after another, in this coregion (0 outside of one), and
-/// gives all slots back. The others wait again. With these, `count` messages were received on the lane.
+/// Receives the messages that were taken out, one directly after another, in the coregion `region` (0 outside of one),
+/// and gives all slots back. The other messages wait again. With these, `count` messages were received on the lane.
 #[inline(always)]
 pub fn free(words: &SharedTable, seat: &mut Seat, lane: &Lane, count: u64, region: u32)
     requires table { seat.old.table_id ≡ words.now.table_id }
@@ -190,7 +191,7 @@ fn free_at<A: Site>(words: &SharedTable, seat: &mut Seat, lane: &Lane, count: u6
     words.store::<Free<A>>(seat, lane.taken_word(), count);
 }
 
-/// Gives all slots back, from which nothing was taken out, by a load of the receiver's own word.
+/// Gives all slots back, if nothing was taken out of them, by a load of the receiver's own word.
 pub fn give_back_full(words: &SharedTable, seat: &mut Seat, lane: &Lane)
     requires table { seat.old.table_id ≡ words.now.table_id }
     requires board { IsBoard lane.now.instances lane.now.capacity words.now.key words.now.table_id }

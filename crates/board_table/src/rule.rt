@@ -1,4 +1,4 @@
-//! The rule of a board's table, and what its steps tell.
+//! The rule of a board's table, and what its steps guarantee.
 ghost use Rattle.std.specs.Prelude.{ℕ, [], ◌∷◌};
 ghost use Rattle.board_table.specs.Layout.{LaneView};
 ghost use Rattle.board_table.specs.Knowing.{first_of, later_of, note_of};
@@ -12,7 +12,8 @@ use atomic_table::{Join, Play, Split, TableRule};
 use std::collections::LinkedList;
 use std::marker::{Brand, PhantomData};
 
-/// There is one legal history that all words, all slots at home and all that seats know fit.
+/// The rule: there is one legal history with which all words, all slots at home and everything that the seats know
+/// agree.
 pub struct BoardRule;
 
 impl TableRule<Option<Packet>, LinkedList<Held>, Shape> for BoardRule {
@@ -24,10 +25,10 @@ impl TableRule<Option<Packet>, LinkedList<Held>, Shape> for BoardRule {
 /// A board's table, as threads share it.
 pub type SharedTable = atomic_table::Shared<Option<Packet>, LinkedList<Held>, Shape, BoardRule>;
 
-/// A token of no bytes, with which a post steps, and which has what it knows.
+/// A token of no bytes, with which a post makes its steps. It has what the post knows.
 pub type Seat = atomic_table::Seat<Option<Packet>, LinkedList<Held>>;
 
-/// Where a step is made, for the proof alone: the lane, and the coregion of a free. A call at `Brand` picks them.
+/// The place of a step, only for the proof: the lane, and the coregion of a free. A call at `Brand` picks them.
 pub(crate) trait Site {
     ghost lane: { LaneView };
 
@@ -100,7 +101,7 @@ impl<A: Site> Play<Option<Packet>, LinkedList<Held>> for PutBackEmptying<A> {
     ghost then = { λ step m found w. PutsBack m w };
 }
 
-/// A seat for the first post of several.
+/// Splits off a seat for the first post of several.
 pub(crate) struct First;
 
 impl Split<LinkedList<Held>> for First {
@@ -109,7 +110,7 @@ impl Split<LinkedList<Held>> for First {
     ghost right = { λ view. first_of view ∷ [] };
 }
 
-/// A note of what a post has seen, beside it.
+/// Splits off a note of what a post has seen.
 pub(crate) struct Copied;
 
 impl Split<LinkedList<Held>> for Copied {
@@ -118,7 +119,7 @@ impl Split<LinkedList<Held>> for Copied {
     ghost right = { λ view. note_of (first_of view) ∷ [] };
 }
 
-/// The view of a post with that of a note behind it.
+/// Joins the view of a post with that of a note after it.
 pub(crate) struct Beside;
 
 impl Join<LinkedList<Held>> for Beside {
@@ -127,7 +128,7 @@ impl Join<LinkedList<Held>> for Beside {
     ghost spent = { [] };
 }
 
-/// A note leaves the post that it stands beside.
+/// A note leaves the post beside it.
 pub(crate) struct Parted;
 
 impl Split<LinkedList<Held>> for Parted {
@@ -136,7 +137,7 @@ impl Split<LinkedList<Held>> for Parted {
     ghost right = { later_of };
 }
 
-/// A post sees what the note beside it has seen, and the note what the post has.
+/// A post sees what the note beside it has seen, and the note sees what the post has seen.
 pub(crate) struct Meet;
 
 impl Play<Option<Packet>, LinkedList<Held>> for Meet {

@@ -19,7 +19,7 @@ use clock::{Clock, Diff};
 use line_recorder::Recorder;
 use std::marker::Brand;
 
-/// Takes all slots that are free, by a look at how many messages were received, which it answers.
+/// Takes all free slots, by a look at the number of received messages, which it returns.
 #[inline(always)]
 pub fn claim_anew(words: &SharedTable, seat: &mut Seat, lane: &Lane) -> u64
     requires table { seat.old.table_id ≡ words.now.table_id }
@@ -43,7 +43,7 @@ fn claim_anew_at<A: Site>(words: &SharedTable, seat: &mut Seat, lane: &Lane) -> 
     words.load::<ClaimAnew<A>>(seat, lane.taken_word())
 }
 
-/// Takes all slots that are free, by a load of the sender's own word, which is no look.
+/// Takes all free slots, by a load of the sender's own word, which is no look.
 #[inline(always)]
 pub fn claim_again(words: &SharedTable, seat: &mut Seat, lane: &Lane)
     requires table { seat.old.table_id ≡ words.now.table_id }
@@ -67,7 +67,7 @@ fn claim_again_at<A: Site>(words: &SharedTable, seat: &mut Seat, lane: &Lane)
     words.load::<ClaimAgain<A>>(seat, lane.put_word());
 }
 
-/// Fills the first empty slot, which is that of the message before which `count` were put on the lane.
+/// Fills the first empty slot: that of the message before which `count` were put on the lane.
 #[inline(always)]
 pub fn fill(words: &SharedTable, seat: &mut Seat, lane: &Lane, count: u64, packet: Packet)
     requires table { seat.old.table_id ≡ words.now.table_id }
@@ -91,7 +91,7 @@ pub fn fill(words: &SharedTable, seat: &mut Seat, lane: &Lane, count: u64, packe
     seat.turn();
 }
 
-/// The message of a slot that is emptied again.
+/// Empties a slot again, and returns its message.
 #[cold]
 #[inline(never)]
 fn taken_out(slot: &mut Option<Packet>) -> Message
@@ -105,10 +105,10 @@ fn taken_out(slot: &mut Option<Packet>) -> Message
     }
 }
 
-/// Puts a message into an empty slot, begins its send, and makes its difference, in the slot, what changed in the
-/// sender's clock since the base. The base is the message's clock from then on.
+/// Puts a message into an empty slot, and begins its send. In the slot it makes the message's difference: what changed
+/// in the sender's clock since the base. Afterwards the base is the message's clock.
 ///
-/// F6: where there is no memory, nothing has changed, and the message comes back.
+/// F6: if there is no memory, nothing has changed, and the message comes back.
 #[inline(always)]
 fn begin_in(
     slot: &mut Option<Packet>,
@@ -132,8 +132,8 @@ fn begin_in(
     ensures alone { 0 < recorder.old.room → AgreeBut recorder.old.line.instance base.old recorder.old.knowledge
         → IsOk result }
 {
-    // So the compiler reads nothing that there would be to let go of. An `if` that ends in an `unreachable!()` says nothing to
-    // it: a proved build leaves the whole of it out.
+    // So the compiler knows that the slot is empty, and emits no code that drops an old value. An `if` that ends in
+    // `unreachable!()` wouldn't show this to the compiler: a proved build omits all of it.
     let None = slot else { unreachable!() };
     let diff = Diff::none(recorder.alloc());
     *slot = Some(Packet { message, diff });
@@ -145,12 +145,12 @@ fn begin_in(
     Ok(())
 }
 
-/// Puts a message into the first empty slot, which is that of the message before which `count` were put on the lane,
-/// and begins its send, which isn't on the sender's line yet. The base is the clock of the message before it, and is
-/// this one's afterwards.
+/// Puts a message into the first empty slot, and begins its send, which isn't on the sender's line yet. `count`
+/// messages were put on the lane before this one. The base is the clock of the message before it, and afterwards the
+/// clock of this one.
 ///
-/// F6: where there is no memory, nothing has changed, and the message comes back. With room on the line it takes none
-/// up to [`INLINE_ENTRIES`] instances, and none where nothing new is known of the others since the base.
+/// F6: if there is no memory, nothing has changed, and the message comes back. With room on the line it needs no memory
+/// up to [`INLINE_ENTRIES`] instances, and none if nothing new is known of the others since the base.
 #[inline(always)]
 pub fn fill_begun(
     words: &SharedTable,
@@ -192,8 +192,8 @@ pub fn fill_begun(
     Ok(())
 }
 
-/// Sends what is in the slots, one message directly after another, and gives all slots back. With these, `count`
-/// messages were sent on the lane.
+/// Sends the messages in the slots, one directly after another, and gives all slots back. With these, `count` messages
+/// were sent on the lane.
 #[inline(always)]
 pub fn publish(words: &SharedTable, seat: &mut Seat, lane: &Lane, count: u64)
     requires table { seat.old.table_id ≡ words.now.table_id }
@@ -235,7 +235,7 @@ fn publish_at<A: Site>(words: &SharedTable, seat: &mut Seat, lane: &Lane, count:
     words.store::<Publish<A>>(seat, lane.put_word(), 2 * count);
 }
 
-/// Gives all slots back, none of which is filled, by a load of the sender's own word.
+/// Gives all slots back, if none is filled, by a load of the sender's own word.
 pub fn give_back_vacant(words: &SharedTable, seat: &mut Seat, lane: &Lane)
     requires table { seat.old.table_id ≡ words.now.table_id }
     requires board { IsBoard lane.now.instances lane.now.capacity words.now.key words.now.table_id }

@@ -1,4 +1,4 @@
-//! The table itself: made for a board of some size, and dealt out to its posts.
+//! The table itself: how it is made for a board of some size, and dealt out to its posts.
 ghost use Rattle.std.specs.Prelude.{◌≡◌, ◌≤◌, [], ◌∷◌, IfOk};
 ghost use Rattle.chart.specs.declared.instance.TheConstants.{MAX_INSTANCES};
 ghost use Rattle.chart.specs.declared.history.TheConstants.{MAX_CAPACITY};
@@ -15,9 +15,9 @@ use std::collections::LinkedList;
 /// A board's words and slots, in memory of its own.
 pub type BoardTable = Table<Option<Packet>, LinkedList<Held>, Shape, BoardRule, Global>;
 
-/// A table for a board of this size, and a seat that stands for all its posts, which [`deal`] cuts up.
+/// Makes a table for a board of this size, and one seat for all its posts, which [`deal`] divides.
 ///
-/// F6: it fails only where there is no memory.
+/// F6: it fails only if there is no memory.
 pub fn open(alloc: Global, shape: &Shape) -> Result<(BoardTable, Seat), AllocError>
     requires instances { (2 ≤ shape.now.instances) × (shape.now.instances ≤ MAX_INSTANCES) }
     requires capacity { (1 ≤ shape.now.capacity) × (shape.now.capacity ≤ MAX_CAPACITY) }
@@ -31,7 +31,7 @@ pub fn open(alloc: Global, shape: &Shape) -> Result<(BoardTable, Seat), AllocErr
     BoardTable::vacant(alloc, words.as_slice(), n * n * shape.capacity, shape)
 }
 
-/// Cuts a seat for the first post off one that stands for several.
+/// Splits a seat for the first post off a seat of several posts.
 pub fn deal(words: &SharedTable, seat: &mut Seat) -> Seat
     requires table { seat.old.table_id ≡ words.now.table_id }
     requires board { IsBoard (held seat.old.me).instances (held seat.old.me).capacity words.now.key words.now.table_id }

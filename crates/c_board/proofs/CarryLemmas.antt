@@ -1,4 +1,4 @@
--- What posts that were taken out of handles carry over.
+-- Carrying over to posts that were taken out of handles.
 use Rattle.std.proofs.Common.{◌≡◌, ℕ, suc, List, [], ◌∷◌, length, refl, sym, ap, ◌∙◌, subst, arith}
 use Rattle.std.specs.Prelude.{slice_get, true, false, unwrap_or, IsErrAnd, Option, None, Some, Ok, Err, Result}
 use Rattle.board_table.specs.Layout.{IsBoard}
@@ -64,12 +64,12 @@ unborne-fit : (chairs : List Chair) (posts new : List PostView) (why_not : Carry
 unborne-fit chairs posts new cause.NotAllPosts fit its = subst (λ (ps : List PostView). AreFit chairs ps) (sym its.1) fit
 unborne-fit chairs posts new cause.Memory fit its = more-fit chairs posts new fit its
 
--- they fit their seats still
+-- the posts still fit their seats
 pub borne-fit : (chairs : List Chair) (left : List Left) (closed : List ClosedLane) (posts new : List PostView) (answer : Result Carried CarryError) → AreFit chairs posts → CarriesParked left closed posts answer new → AreFit chairs new
 borne-fit chairs left closed posts new (Ok carried) fit its = fit-boards chairs posts new fit its.carried.as_many (λ i x y at_x at_y. (its.carried.each i x y at_x at_y).same.board)
 borne-fit chairs left closed posts new (Err error) fit its = unborne-fit chairs posts new error.cause fit its.1
 
--- and keep what they got last
+-- the posts keep the messages that they received last
 keep_all : (chairs : List Chair) (posts new : List PostView) → AreFit chairs posts → AreFit chairs new → KeepAll (seats_with chairs posts) (seats_with chairs new)
 keep_all [] [] [] fit fits = record { last = refl; came = refl }
 keep_all [] [] (y ∷ new) fit fits = absurd fits
@@ -101,11 +101,11 @@ seats_in (Some Away ∷ all) keep = absurd (different (keep 0 (Some Away) refl))
 keep_same : (seats : List PostStateView) → KeepAll seats seats
 keep_same seats = record { last = refl; came = refl }
 
--- there was no memory to take them out
+-- there was no memory for the lists
 pub no_lists : (old new : List (Option Kept)) → new ≡ old → KeepPosts old → HaveRoomOver old new
 no_lists old new same keep = let its = seats_in old keep in record { seats = its.0; kept = its.1; after = its.0; more = more_same (posts_of its.0); stay = keep_same its.0; new_is = same ∙ its.1 }
 
--- what was carried over
+-- everything was carried over
 pub all_carried : (it now : Gathered) (chairs : List Chair) (posts after : List PostView) (old new : List (Option Kept)) (carried : Carried) (room out : List ℕ) (many : ℕ)
     → AreFit chairs posts → old ≡ kept_seats (seats_with chairs posts) → CarriesParked it.left.items it.closed.items posts (Ok carried) after → new ≡ kept_seats (seats_with chairs after)
     → many ≡ length carried.sends.items → out ≡ put_over carried.sends.items room → now ≡ record it { left = now.left } → now.left.items ≡ [] → IsCarried it old room many now new out
@@ -126,7 +126,7 @@ all_carried it now chairs posts after old new carried room out many fit kept its
       none = none;
     }
 
--- why nothing was
+-- why nothing was carried over
 pub none_carried : (it now : Gathered) (chairs : List Chair) (posts after : List PostView) (old new : List (Option Kept)) (why_not : CarryCause) (room : List ℕ)
     → AreFit chairs posts → old ≡ kept_seats (seats_with chairs posts) → IsUnborne posts why_not after → new ≡ kept_seats (seats_with chairs after)
     → now ≡ record it { left = now.left } → now.left.items ≡ it.left.items → CarriesGathered it old room (Err (refusal_for why_not)) now new room
@@ -148,7 +148,7 @@ none_carried it now chairs posts after old new cause.Memory room fit kept its pu
       },
     )
 
--- of the same lanes
+-- the same for equal lanes
 pub borne_at : (left_out left : List Left) (closed_out closed : List ClosedLane) (posts : List PostView) (answer answered : Result Carried CarryError) (after : List PostView) → left_out ≡ left → closed_out ≡ closed → answer ≡ answered
     → CarriesParked left_out closed_out posts answer after → CarriesParked left closed posts answered after
 borne_at left_out left closed_out closed posts answer answered after same_left same_closed same_answer its =

@@ -16,14 +16,14 @@ use Rattle.c_board.proofs.Lists.{put_all, take_none}
 use Rattle.c_board.specs.Chairs.{Fits, AreFit, seat_with, seats_with, kept_seats, posts_of, is_post, AreTaken, KeepOneBoard}
 use Rattle.c_board.specs.PostStates.{PostStateView}
 
--- one more
+-- one more post with its seat
 pub fit-push : (chairs : List Chair) (posts : List PostView) (chair : Chair) (post : PostView) → AreFit chairs posts → Fits chair post → AreFit (chairs ++ chair ∷ []) (posts ++ post ∷ [])
 fit-push [] [] chair post all fits = (fits, tt)
 fit-push [] (p ∷ posts) chair post all fits = absurd all
 fit-push (c ∷ chairs) [] chair post all fits = absurd all
 fit-push (c ∷ chairs) (p ∷ posts) chair post all fits = (all.0, fit-push chairs posts chair post all.1 fits)
 
--- and what the handles kept so far
+-- what the handles have kept so far
 pub seats_next : (chairs : List Chair) (posts : List PostView) (chair : Chair) (post : PostView) (rest : List (Option Kept)) → AreFit chairs posts
     → kept_seats (seats_with (chairs ++ chair ∷ []) (posts ++ post ∷ [])) ++ rest ≡ kept_seats (seats_with chairs posts) ++ Some (Post (seat_with chair post)) ∷ rest
 seats_next [] [] chair post rest all = refl
@@ -31,7 +31,7 @@ seats_next [] (p ∷ posts) chair post rest all = absurd all
 seats_next (c ∷ chairs) [] chair post rest all = absurd all
 seats_next (c ∷ chairs) (p ∷ posts) chair post rest all = ap (λ (xs : List (Option Kept)). Some (Post (seat_with c p)) ∷ xs) (seats_next chairs posts chair post rest all.1)
 
--- the next one of a list
+-- the next element of a list
 pub drop_at : {X : Type 0} (xs : List X) (n : ℕ) (x : X) → slice_get xs n ≡ Some x → drop n xs ≡ x ∷ drop (n + 1) xs
 drop_at {X = X} xs n x there = let next : suc n ≡ n + 1 = omega arith in subst (λ (m : ℕ). drop n xs ≡ x ∷ drop m xs) next (go xs n there)
   where
@@ -70,7 +70,7 @@ are_empty (one ∷ all) zero kept there = same kept there
     same kept e = cc
 are_empty (one ∷ all) (suc i) kept there = are_empty all i kept there
 
--- a list whose element is written over with itself
+-- a list with an element overwritten by itself
 pub set_same : {X : Type 0} (xs : List X) (n : ℕ) (x : X) → slice_get xs n ≡ Some x → set xs n x ≡ xs
 set_same {X = X} [] n x there = refl
 set_same {X = X} (a ∷ xs) zero x there = ap (λ (b : X). b ∷ xs) (same a x there)
@@ -98,7 +98,7 @@ posts-same [] (p ∷ posts) all = absurd all
 posts-same (c ∷ chairs) [] all = absurd all
 posts-same (c ∷ chairs) (p ∷ posts) all = ap (λ (xs : List PostView). p ∷ xs) (posts-same chairs posts all.1)
 
--- one of them, in its seat
+-- one of the posts, in its seat
 pub seated_at : (chairs : List Chair) (posts : List PostView) (i : ℕ) (post : PostView) → AreFit chairs posts → slice_get posts i ≡ Some post
     → (state : PostStateView) × (state.post ≡ post) × (slice_get (kept_seats (seats_with chairs posts)) i ≡ Some (Some (Post state)))
 seated_at [] [] i post all there = absurd (never there)
@@ -113,7 +113,7 @@ seated_at (c ∷ chairs) (p ∷ posts) zero post all there = (seat_with c p, sam
     same a x e = cc
 seated_at (c ∷ chairs) (p ∷ posts) (suc i) post all there = seated_at chairs posts i post all.1 there
 
--- posts whose handles keep posts of one board are of one
+-- posts from handles that keep posts of one board are of one board
 pub one_board : (old : List (Option Kept)) (chairs : List Chair) (posts : List PostView) → KeepOneBoard old → old ≡ kept_seats (seats_with chairs posts) → AreFit chairs posts → AreOfOneBoard posts
 one_board old chairs posts one same fit i j x y at_i at_j =
     let a = seated_at chairs posts i x fit at_i in
@@ -140,7 +140,7 @@ at_first (c ∷ chairs) (p ∷ posts) chair there fit one = λ i post at. subst 
       board = subst (λ (b : BoardView). IsBoard b.size b.capacity c.table.value.shared.key c.table.value.shared.table_id) e fits.at.board;
     }
 
--- those that are left behind the first so many
+-- the posts after the first n, and their seats
 pub fit-drop : (chairs : List Chair) (posts : List PostView) (n : ℕ) → AreFit chairs posts → AreFit (drop n chairs) (drop n posts)
 fit-drop chairs posts zero all = all
 fit-drop [] [] (suc n) all = tt
@@ -156,7 +156,7 @@ seats-drop [] (p ∷ posts) (suc n) all = absurd all
 seats-drop (c ∷ chairs) [] (suc n) all = absurd all
 seats-drop (c ∷ chairs) (p ∷ posts) (suc n) all = seats-drop chairs posts n all.1
 
--- a handle that keeps what it kept
+-- a handle that still keeps what it kept
 pub kept_same : (handles : List Handle) (n : ℕ) (d new : Handle) → n < length handles → new.slot.value ≡ (get_or handles n d).slot.value → kept_by (set handles n new) ≡ kept_by handles
 kept_same handles n d new less same = map-set (λ (handle : Handle). handle.slot.value) handles n new
     ∙ ap (λ (one : Option Kept). set (kept_by handles) n one) same
@@ -171,7 +171,7 @@ split_last zero (suc n) h = inl (omega arith)
 split_last (suc i) zero h = absurd (omega (arith, h))
 split_last (suc i) (suc n) h = ⊎_elim (λ (low : i < n). inl (omega (arith, low))) (λ (same : i ≡ n). inr (omega (arith, same))) (split_last i n (omega (arith, h)))
 
--- one more that keeps a post
+-- one more handle keeps a post
 pub post_next : (all : List (Option Kept)) (n : ℕ) (one : Option Kept) → slice_get all n ≡ Some one → is_post one ≡ true
     → ((i : ℕ) (kept : Option Kept) → i < n → slice_get all i ≡ Some kept → is_post kept ≡ true)
     → (i : ℕ) (kept : Option Kept) → i < n + 1 → slice_get all i ≡ Some kept → is_post kept ≡ true
@@ -189,7 +189,7 @@ pub with_none : {X : Type 0} (xs : List X) → xs ++ [] ≡ xs
 with_none [] = refl
 with_none (x ∷ xs) = ap (λ zs. x ∷ zs) (with_none xs)
 
--- one more was taken
+-- one more post was taken
 pub seats_more : (olds : List (Option Kept)) (chairs more_chairs : List Chair) (posts more_posts : List PostView) (chair : Chair) (post : PostView) (n : ℕ) → AreFit chairs posts
     → kept_seats (seats_with chairs posts) ++ drop n olds ≡ olds → slice_get olds n ≡ Some (Some (Post (seat_with chair post)))
     → more_chairs ≡ chairs ++ chair ∷ [] → more_posts ≡ posts ++ post ∷ [] → kept_seats (seats_with more_chairs more_posts) ++ drop (n + 1) olds ≡ olds
@@ -205,7 +205,7 @@ pub fit_more : (chairs more_chairs : List Chair) (posts more_posts : List PostVi
 fit_more chairs more_chairs posts more_posts chair post fit fits are_chairs are_posts =
     subst (λ (cs : List Chair). AreFit cs more_posts) (sym are_chairs) (subst (λ (ps : List PostView). AreFit (chairs ++ chair ∷ []) ps) (sym are_posts) (fit-push chairs posts chair post fit fits))
 
--- all were taken
+-- all posts were taken
 pub all_taken : (olds new : List (Option Kept)) (chairs : List Chair) (posts : List PostView) (n : ℕ) → n ≡ length olds → AreFit chairs posts
     → kept_seats (seats_with chairs posts) ++ drop n olds ≡ olds → new ≡ take n (nones olds) ++ drop n olds → AreTaken olds chairs posts new
 all_taken olds new chairs posts n many fit so_far put = record {
@@ -214,7 +214,7 @@ all_taken olds new chairs posts n many fit so_far put = record {
   empty = subst AreEmpty (sym (put ∙ put_all (nones olds) olds n (omega (arith, many)) (omega (arith, many, length-nones olds)) (inr many) ∙ take_none (nones olds) olds (length-nones olds))) (are_empty olds);
 }
 
--- what is kept is no post
+-- nothing isn't a post
 pub never_post : (one : Option Kept) → one ≡ None → is_post one ≡ true → ⊥
 never_post one none is = different (sym (ap is_post none) ∙ is)
   where
@@ -227,7 +227,7 @@ pub fits_next : (chairs rest : List Chair) (posts more : List PostView) (chair :
 fits_next chairs rest posts more chair post n fit are_chairs are_posts =
     (subst (λ (ps : List PostView). AreFit (chair ∷ rest) ps) are_posts (subst (λ (cs : List Chair). AreFit cs (drop n posts)) are_chairs (fit-drop chairs posts n fit))).0
 
--- and is the next that is kept
+-- the next seat is the next to be kept
 pub seats_left : (chairs rest : List Chair) (posts more : List PostView) (chair : Chair) (post : PostView) (n : ℕ) → AreFit chairs posts
     → drop n chairs ≡ chair ∷ rest → drop n posts ≡ post ∷ more → drop n (kept_seats (seats_with chairs posts)) ≡ Some (Post (seat_with chair post)) ∷ kept_seats (seats_with rest more)
 seats_left chairs rest posts more chair post n fit are_chairs are_posts = seats-drop chairs posts n fit
@@ -244,7 +244,7 @@ take_all [] (suc n) few = refl
 take_all (x ∷ xs) zero few = absurd (omega (arith, few))
 take_all (x ∷ xs) (suc n) few = ap (λ zs. x ∷ zs) (take_all xs n (omega (arith, few)))
 
--- all were put back
+-- all posts were put back
 pub all_put : {new : List (Option Kept)} (olds : List (Option Kept)) (chairs : List Chair) (posts : List PostView) (n : ℕ) → length (drop n chairs) ≡ 0 → AreFit chairs posts → length chairs ≡ length olds
     → new ≡ take n (kept_seats (seats_with chairs posts)) ++ drop n olds → new ≡ kept_seats (seats_with chairs posts)
 all_put olds chairs posts n none fit many put =
@@ -252,7 +252,7 @@ all_put olds chairs posts n none fit many put =
     let few : length chairs ≤ n = few_left chairs n none in
     put ∙ ap (λ (xs : List (Option Kept)). take n all ++ xs) (drop_all olds n (omega (arith, few, many))) ∙ with_none (take n all) ∙ take_all all n (omega (arith, few, length-seats chairs posts fit))
 
--- there is a first one
+-- there is a first seat
 pub first_there : (olds : List (Option Kept)) (chairs : List Chair) (posts : List PostView) (chair : Chair) → (length olds ≡ 0 → ⊥) → olds ≡ kept_seats (seats_with chairs posts) → AreFit chairs posts
     → chair ≡ get_or chairs 0 chair → slice_get chairs 0 ≡ Some chair
 first_there olds [] posts chair some seats fit is = absurd (some (ap length seats))

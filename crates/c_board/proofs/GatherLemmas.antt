@@ -1,4 +1,4 @@
--- What gathering posts that were taken out of handles leaves.
+-- The effect of gathering posts that were taken out of handles.
 use Rattle.std.proofs.Common.{◌≡◌, List, sym, subst}
 use Rattle.std.specs.Prelude.{Option, None, Err}
 use Rattle.board.specs.Views.{PostView}

@@ -13,7 +13,7 @@ use Rattle.chart.specs.declared.instance.EventNo.{EventNo}
 use Rattle.c_board.specs.Copying.{indices}
 use Rattle.board.specs.Boards.{AreNewPosts, new_post}
 
--- one of them
+-- what one handle keeps
 pub kept_at : (handles : List Handle) (i : ℕ) (d : Handle) → i < length handles → slice_get (kept_by handles) i ≡ Some (get_or handles i d).slot.value
 kept_at [] i d less = absurd (omega (arith, less))
 kept_at (handle ∷ handles) zero d less = refl
@@ -22,7 +22,7 @@ kept_at (handle ∷ handles) (suc i) d less = kept_at handles i d (omega (arith,
 some_same : {X : Type 0} (x y : X) → Some x ≡ Some y → x ≡ y
 some_same x y e = cc
 
--- one more that keeps nothing
+-- one more handle keeps nothing
 pub empty_next : (handles : List Handle) (n : ℕ) (d : Handle) → n < length handles → (get_or handles n d).slot.value ≡ None
     → ((i : ℕ) (kept : Option Kept) → i < n → slice_get (kept_by handles) i ≡ Some kept → kept ≡ None)
     → (i : ℕ) (kept : Option Kept) → i < n + 1 → slice_get (kept_by handles) i ≡ Some kept → kept ≡ None
@@ -36,7 +36,7 @@ empty_next handles n d less empty before i kept within there = ⊎_elim (λ (low
     split_last (suc i) zero h = absurd (omega (arith, h))
     split_last (suc i) (suc n) h = ⊎_elim (λ (low : i < n). inl (omega (arith, low))) (λ (same : i ≡ n). inr (omega (arith, same))) (split_last i n (omega (arith, h)))
 
--- one that keeps something
+-- one handle keeps something
 pub full_there : (handles : List Handle) (n : ℕ) (d : Handle) → n < length handles → ((get_or handles n d).slot.value ≡ None → ⊥) → IsOneFull (kept_by handles)
 full_there handles n d less full = go (get_or handles n d).slot.value refl
   where
@@ -56,13 +56,13 @@ at_kept [] i kept there = absurd (never there)
 at_kept (handle ∷ handles) zero kept there = omega arith
 at_kept (handle ∷ handles) (suc i) kept there = omega (arith, at_kept handles i kept there)
 
--- one box more of those that are made
+-- one more box is made
 pub all_next : (done : List (Box Kept Global)) (box : Box Kept Global) (post : PostView) (rest : List PostView) (all : List Kept)
     → values_of done ++ seats_of (post ∷ rest) ≡ all → box.value ≡ Post (seated post) → values_of (done ++ box ∷ []) ++ seats_of rest ≡ all
 all_next [] box post rest all before is = ap (λ (kept : Kept). kept ∷ seats_of rest) is ∙ before
 all_next (first ∷ done) box post rest all before is = ap (λ (xs : List Kept). first.value ∷ xs) (all_next done box post rest _ refl is) ∙ before
 
--- the posts that are seated, one by one
+-- the seated posts, one by one
 seated_each : (posts : List PostView) (i : ℕ) (kept : Option Kept) → slice_get (all_of (seats_of posts)) i ≡ Some kept
     → (post : PostView) × (slice_get posts i ≡ Some post) × (kept ≡ Some (Post (seated post)))
 seated_each [] i kept there = absurd (never there)

@@ -1,8 +1,8 @@
--- Lists that a loop writes over, element by element.
+-- Lists that a loop overwrites, element by element.
 use Rattle.std.proofs.Common.{◌≡◌, ℕ, zero, suc, ◌+◌, ◌<◌, ◌≤◌, ◌⊎◌, inl, inr, List, [], ◌∷◌, ◌++◌, length, take, drop, map, min, set, get_or, refl, ap, subst, arith}
 use Rattle.std.specs.Prelude.{slice_get}
 
--- the next of these written over the next of those
+-- the next element of one list overwrites the next of the other
 pub put_step : {X : Type 0} (xs ys : List X) (n : ℕ) (x : X) (rest : List X) → n < length ys → drop n xs ≡ x ∷ rest
     → set (take n xs ++ drop n ys) n x ≡ take (suc n) xs ++ drop (suc n) ys
 put_step [] ys zero x rest less e = cc
@@ -11,7 +11,7 @@ put_step (a ∷ xs) [] n x rest less e = absurd (omega (arith, less))
 put_step (a ∷ xs) (b ∷ ys) zero x rest less e = cc
 put_step (a ∷ xs) (b ∷ ys) (suc n) x rest less e = ap (λ zs. a ∷ zs) (put_step xs ys n x rest (omega (arith, less)) e)
 
--- all that find room were written
+-- all elements for which there is room were written
 pub put_all : {X : Type 0} (xs ys : List X) (n : ℕ) → n ≤ length ys → n ≤ length xs → (drop n xs ≡ []) ⊎ (n ≡ length ys)
     → take n xs ++ drop n ys ≡ take (length ys) xs ++ drop (length xs) ys
 put_all [] [] zero less few done = refl
@@ -24,14 +24,14 @@ put_all (x ∷ xs) (y ∷ ys) zero less few (inr done) = absurd (omega (arith, d
 put_all (x ∷ xs) (y ∷ ys) (suc n) less few (inl done) = ap (λ zs. x ∷ zs) (put_all xs ys n (omega (arith, less)) (omega (arith, few)) (inl done))
 put_all (x ∷ xs) (y ∷ ys) (suc n) less few (inr done) = ap (λ zs. x ∷ zs) (put_all xs ys n (omega (arith, less)) (omega (arith, few)) (inr (omega (arith, done))))
 
--- what was there comes behind, where none was written over
+-- no old element is left if the lists have one length
 pub take_none : {X : Type 0} (xs ys : List X) → length xs ≡ length ys → take (length ys) xs ++ drop (length xs) ys ≡ xs
 take_none [] [] same = refl
 take_none [] (y ∷ ys) same = absurd (omega (arith, same))
 take_none (x ∷ xs) [] same = absurd (omega (arith, same))
 take_none (x ∷ xs) (y ∷ ys) same = ap (λ zs. x ∷ zs) (take_none xs ys (omega (arith, same)))
 
--- the same, with the number of the next one as loops count it
+-- the same, with the next number as loops count it
 pub put_next : {X : Type 0} (xs ys : List X) (n : ℕ) (x : X) (rest : List X) → n < length ys → drop n xs ≡ x ∷ rest
     → set (take n xs ++ drop n ys) n x ≡ take (n + 1) xs ++ drop (n + 1) ys
 put_next xs ys n x rest less e = let next : suc n ≡ n + 1 = omega arith in subst (λ (m : ℕ). set (take n xs ++ drop n ys) n x ≡ take m xs ++ drop m ys) next (put_step xs ys n x rest less e)
@@ -42,25 +42,25 @@ drop_step [] (suc n) x rest e = cc
 drop_step (a ∷ xs) zero x rest e = cc
 drop_step (a ∷ xs) (suc n) x rest e = drop_step xs n x rest e
 
--- what is left behind the next one
+-- the elements after the next one
 pub drop_next : {X : Type 0} (xs : List X) (n : ℕ) (x : X) (rest : List X) → drop n xs ≡ x ∷ rest → drop (n + 1) xs ≡ rest
 drop_next xs n x rest e = let next : suc n ≡ n + 1 = omega arith in subst (λ (m : ℕ). drop m xs ≡ rest) next (drop_step xs n x rest e)
 
--- where something is left, there is a next one
+-- if elements are left, there is a next one
 pub drop_less : {X : Type 0} (xs : List X) (n : ℕ) (x : X) (rest : List X) → drop n xs ≡ x ∷ rest → n < length xs
 drop_less [] zero x rest e = cc
 drop_less [] (suc n) x rest e = cc
 drop_less (a ∷ xs) zero x rest e = omega arith
 drop_less (a ∷ xs) (suc n) x rest e = omega (arith, drop_less xs n x rest e)
 
--- the next one is still as it was
+-- the next element is still as it was
 pub mid_at : {X : Type 0} (xs ys : List X) (n : ℕ) → n ≤ length xs → n < length ys → slice_get (take n xs ++ drop n ys) n ≡ slice_get ys n
 mid_at xs ys zero few less = refl
 mid_at [] ys (suc n) few less = absurd (omega (arith, few))
 mid_at (x ∷ xs) [] (suc n) few less = absurd (omega (arith, less))
 mid_at (x ∷ xs) (y ∷ ys) (suc n) few less = mid_at xs ys n (omega (arith, few)) (omega (arith, less))
 
--- what is left of those that come of these begins with what comes of the next one
+-- the rest of a mapped list begins with the image of the next element
 pub drop_mapped : {X Y : Type 0} (f : X → Y) (xs : List X) (n : ℕ) (d : X) → n < length xs → drop n (map f xs) ≡ f (get_or xs n d) ∷ drop (n + 1) (map f xs)
 drop_mapped {X = X} f xs n d less = let next : suc n ≡ n + 1 = omega arith in subst (λ (m : ℕ). drop n (map f xs) ≡ f (get_or xs n d) ∷ drop m (map f xs)) next (go xs n less)
   where
@@ -69,7 +69,7 @@ drop_mapped {X = X} f xs n d less = let next : suc n ≡ n + 1 = omega arith in 
     go (x ∷ xs) zero less = refl
     go (x ∷ xs) (suc n) less = go xs n (omega (arith, less))
 
--- as many were written as there are and find room
+-- all elements for which there is room were written, by the number of the writes
 pub put_min : {X : Type 0} (xs ys : List X) (n : ℕ) → n ≡ min (length xs) (length ys) → take n xs ++ drop n ys ≡ take (length ys) xs ++ drop (length xs) ys
 put_min [] [] zero same = refl
 put_min [] [] (suc n) same = absurd (omega (arith, same))

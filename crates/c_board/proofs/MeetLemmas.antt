@@ -1,4 +1,4 @@
--- What a meeting of posts that were taken out of handles leaves.
+-- The effect of a meeting of posts that were taken out of handles.
 use Rattle.std.proofs.Common.{◌≡◌, zero, suc, List, [], ◌∷◌, map, refl, sym, ap, ◌∙◌, subst}
 use Rattle.std.specs.Prelude.{slice_get, true, Option, None, Some, Ok, Err, Result}
 use Rattle.chart.specs.declared.history.Occurrence.{Occurrence}
@@ -20,7 +20,7 @@ post_seen h post = record post { seen = h }
 fits-seen : (chair : Chair) (post : PostView) (h : List Occurrence) → Fits chair post → Fits chair (post_seen h post)
 fits-seen chair post h fits = record { at = record { table_is = fits.at.table_is; board = fits.at.board }; known = fits.known }
 
--- they fit their seats still
+-- the posts still fit their seats
 fit-seen : (chairs : List Chair) (posts : List PostView) (h : List Occurrence) → AreFit chairs posts → AreFit chairs (map (post_seen h) posts)
 fit-seen [] [] h all = all
 fit-seen [] (p ∷ posts) h all = absurd all
@@ -63,7 +63,7 @@ seats_kept (state ∷ seats) zero kept there = subst (λ (it : Option Kept). is_
     same a b e = cc
 seats_kept (state ∷ seats) (suc i) kept there = seats_kept seats i kept there
 
--- and the posts are put back
+-- the posts are put back
 pub met_again : (chairs : List Chair) (posts new : List PostView) (olds news : List (Option Kept)) (answer : Result (Unit {0}) Refusal) → AreFit chairs posts → olds ≡ kept_seats (seats_with chairs posts)
     → KeepPosts olds → MeetsParked posts answer new → news ≡ kept_seats (seats_with chairs new) → Meets olds answer news
 met_again chairs posts new olds news (Ok done) fit kept keep its put = record {

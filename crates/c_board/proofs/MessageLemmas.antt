@@ -11,7 +11,7 @@ use Rattle.c_board.specs.SendingAll.{contents_in, AreMessages, ReadsMessages}
 use Rattle.c_board.proofs.ChairLemmas.{drop_at, drop_all, with_none}
 use Rattle.c_board.proofs.WordLemmas.{drop_more}
 
--- the next message lies here
+-- the next message begins here
 pub next_content : (bytes : List ℕ) (lengths : List MessageLengths) (messages : List Content) (name body : List ℕ) (its : MessageLengths) (start n : ℕ)
     → contents_in bytes lengths ≡ messages ++ contents_in (drop start bytes) (drop n lengths) → slice_get lengths n ≡ Some its → name ≡ take its.name (drop start bytes) → body ≡ take its.body (drop (start + length name) bytes)
     → contents_in bytes lengths ≡ messages ++ record { name = name; body = body } ∷ contents_in (drop (start + length name + length body) bytes) (drop (n + 1) lengths)
@@ -25,7 +25,7 @@ next_content bytes lengths messages name body its start n so_far there is_name i
     ∙ ap (λ (w : List ℕ). messages ++ record { name = w; body = take its.body (drop its.name rest) } ∷ contents_in (drop (start + length name + length body) bytes) (drop (n + 1) lengths)) (sym is_name)
     ∙ ap (λ (w : List ℕ). messages ++ record { name = name; body = w } ∷ contents_in (drop (start + length name + length body) bytes) (drop (n + 1) lengths)) (sym (is_body ∙ ap (λ (xs : List ℕ). take its.body xs) behind))
 
--- it is a message
+-- the next one is a message
 pub content_is : (all : List Content) (messages new rest : List Content) (message it : Content) → all ≡ messages ++ it ∷ rest → message ≡ it → new ≡ messages ++ message ∷ [] → all ≡ new ++ rest
 content_is all messages new rest message it splits same added = splits ∙ ap (λ (m : Content). messages ++ m ∷ rest) (sym same) ∙ sym (append_assoc messages (message ∷ []) rest) ∙ ap (λ (ms : List Content). ms ++ rest) (sym added)
 
@@ -47,7 +47,7 @@ are_more messages new message name body all its same added = subst AreMessages (
     go (m ∷ ms) all zero it there = all 0 it there
     go (m ∷ ms) all (suc i) it there = go ms (λ j x at. all (suc j) x at) i it there
 
--- it is refused
+-- the next one is refused
 pub content_refused : (all : List Content) (messages rest : List Content) (name body : List ℕ) (refusal : Refusal) → all ≡ messages ++ record { name = name; body = body } ∷ rest → AreMessages messages
     → MakesMessage name body (Err refusal) → ReadsMessages all (Err refusal)
 content_refused all messages rest name body why.Memory splits are its = tt
@@ -65,11 +65,11 @@ content_refused all messages rest name body (why.Taking error) splits are its = 
 content_refused all messages rest name body (why.Closing error) splits are its = absurd its
 content_refused all messages rest name body (why.Region error) splits are its = absurd its
 
--- what is handed on
+-- a refusal that is passed on
 pub refused_on : (all : List Content) (result : Result (Vec Content) Refusal) (error : Refusal) → IsErrAnd result (λ e. e ≡ error) → ReadsMessages all (Err error) → ReadsMessages all result
 refused_on all (Ok messages) error never its = absurd never
 refused_on all (Err e) error same its = subst (λ (x : Refusal). ReadsMessages all (Err x)) (sym same) its
 
--- all were read
+-- all messages were read
 pub all_contents : (bytes : List ℕ) (lengths : List MessageLengths) (messages : List Content) (start n : ℕ) → length lengths ≤ n → contents_in bytes lengths ≡ messages ++ contents_in (drop start bytes) (drop n lengths) → contents_in bytes lengths ≡ messages
 all_contents bytes lengths messages start n few so_far = so_far ∙ ap (λ (ls : List MessageLengths). messages ++ contents_in (drop start bytes) ls) (drop_all lengths n few) ∙ with_none messages

@@ -1,8 +1,8 @@
--- The name that bytes are.
+-- The name with given bytes.
 use Rattle.std.proofs.Common.{◌≡◌, ℕ, List, Ok, subst, arith}
 use Rattle.chart.specs.Names.{IsName, name_of}
 
--- bytes that are a name are that name
+-- bytes that make a name are this name
 pub named_same : (w v : List ℕ) → name_of w ≡ Ok v → v ≡ w
 unfolding name_of
 named_same w v e = grind arith

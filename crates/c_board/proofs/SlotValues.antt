@@ -19,7 +19,7 @@ use Rattle.c_board.specs.declared.kept.Kept.{Kept}
 use Rattle.c_board.specs.contracts.kept.Kept as kept
 use Rattle.c_board.specs.contracts.slot.Slot as slot
 
--- what the box has
+-- the content of the box
 abbrev pub Held : RattleType
 Held = kept.the_row
 
@@ -46,7 +46,7 @@ module _ {M : Type 1} {𝓤 : Ura M} {𝓛 : Logic 𝓤} {K : Type 0} {Γ : List
       fsplit t $ fpick t (λ vss. fsplit t $ feq_l t (λ ev. fsplit t $ feq_l t (λ ep. drop t $
       k (subst (λ (ps : List Val). vs ≡ vstruct (mir.Val.of_list (ps ++ [])) ∷ []) ep ev))))
 
-  -- what is not nothing is such a box
+  -- a slot that isn't empty owns such a box
   pub full_at : K → (p : Ptr) (o : Option Kept) → (o ≡ None → ⊥)
       → ((x : Kept) (g : Global) → o ≡ Some x → Seq K 𝓛 (‵ (boxed p x g) ∷ Γ) G) → Seq K 𝓛 (‵ (slot_owns p o) ∷ Γ) G
   full_at t p None full k = absurd (full refl)

@@ -1,4 +1,4 @@
--- Words that lie one after another in bytes.
+-- Words one after another in bytes.
 use Rattle.std.proofs.Common.{◌≡◌, ℕ, zero, suc, ◌+◌, ◌≤◌, List, [], ◌∷◌, length, take, drop, min, refl, sym, ap, ◌∙◌, subst, arith, length-drop, ◌-◌}
 use Rattle.c_board.proofs.ChairLemmas.{take_all}
 

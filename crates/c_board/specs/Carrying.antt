@@ -1,4 +1,5 @@
--- What carrying over what a gathered board left answers, over handles (this project's profile).
+-- What carrying over between handles answers: a new board takes over what a gathered board left (this project's
+-- profile).
 use Rattle.std.specs.Prelude.{◌≡◌, ℕ, List, [], length, map, Option, None, Some, Result, Ok, Err}
 use Rattle.board.specs.declared.gathering.ClosedLane.{ClosedLane}
 use Rattle.board.specs.declared.gathering.Gathered.{Gathered}
@@ -20,7 +21,7 @@ use Rattle.c_board.specs.Copying.{put_over}
 use Rattle.c_board.specs.Gathering.{LackPosts}
 use Rattle.c_board.specs.PostStates.{PostStateView}
 
--- what the board left may be carried over to the posts that are kept
+-- what the board left may be carried over to the posts that these handles keep
 abbrev pub MayCarryAll : Gathered → List (Option Kept) → Type 0
 MayCarryAll it all = (seats : List PostStateView) → all ≡ kept_seats seats
     → MayAllCarry (map left_view it.left.items) (map closed_view it.closed.items) (posts_of seats)
@@ -34,13 +35,13 @@ abbrev pub MayCarryOver : Option Kept → List (Option Kept) → Type 0
 MayCarryOver None all = Unit {0}
 MayCarryOver (Some kept) all = MayCarryKept kept all
 
--- the messages that came last stay in their seats
+-- each seat keeps the messages that were received last
 pub record KeepAll (old new : List PostStateView) : Type 0 where
   pub last : map (λ (state : PostStateView). state.last) new ≡ map (λ (state : PostStateView). state.last) old
   pub came : map (λ (state : PostStateView). state.came) new ≡ map (λ (state : PostStateView). state.came) old
 
--- the posts have carried over what the board left, which is left no more; how many sends each instance carried is
--- copied out
+-- the posts have carried over what the board left, and no message is left on it; how many sends each instance made
+-- again is copied out
 pub record IsCarried (it : Gathered) (old : List (Option Kept)) (room : List ℕ) (many : ℕ) (now : Gathered)
     (new : List (Option Kept)) (out : List ℕ) : Type 0 where
   pub seats : List PostStateView
@@ -61,7 +62,7 @@ pub record IsUncarried (it : Gathered) (room : List ℕ) (now : Gathered) (out :
   pub left : now.left.items ≡ it.left.items
   pub out_is : out ≡ room
 
--- nothing has changed but that there may be more room for events
+-- nothing has changed, except that there may be more room for events
 pub record HaveRoomOver (old new : List (Option Kept)) : Type 0 where
   pub seats : List PostStateView
   pub kept : old ≡ kept_seats seats
@@ -70,7 +71,7 @@ pub record HaveRoomOver (old new : List (Option Kept)) : Type 0 where
   pub stay : KeepAll seats after
   pub new_is : new ≡ kept_seats after
 
--- what carrying over what a board left to the posts of these handles answers
+-- what carrying over to the posts of these handles answers
 abbrev pub CarriesGathered : Gathered → List (Option Kept) → List ℕ → Result ℕ Refusal → Gathered
     → List (Option Kept) → List ℕ → Type 0
 CarriesGathered it old room (Ok many) now new out = IsCarried it old room many now new out
@@ -95,7 +96,7 @@ CarriesAll None old room result now new out = (now ≡ None) × (new ≡ old) ×
 CarriesAll (Some it) old room result now new out = (kept : Kept) × (now ≡ Some kept)
     × CarriesKept it old room result kept new out
 
--- what it answers over posts without their board's words
+-- what it answers for posts without their board's words
 abbrev pub IsUnborne : List PostView → CarryCause → List PostView → Type 0
 IsUnborne old cause.NotAllPosts new = AreNotAll old × (new ≡ old)
 IsUnborne old cause.Memory new = HaveMoreRoom old new

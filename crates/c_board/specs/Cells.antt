@@ -12,7 +12,7 @@ use Rattle.c_board.specs.contracts.kept.Kept.{the_row}
 abbrev pub boxed : Ptr → Kept → Global → Fml
 boxed p x heap = box_owns (ghosts.dealloc_token heap) the_row p x
 
--- nothing, or such a box
+-- a slot owns nothing, or such a box
 abbrev pub slot_owns : Ptr → Option Kept → Fml
 slot_owns p None = ftrue
 slot_owns p (Some x) = fex Global (boxed p x)

@@ -1,4 +1,4 @@
--- Seats whose posts are elsewhere, one by one and several in a row (this project's profile).
+-- Seats whose posts are elsewhere: a single seat, and several in order (this project's profile).
 use Rattle.std.specs.Prelude.{◌≡◌, ℕ, ◌≤◌, Bool, true, false, List, [], ◌∷◌, map, length, slice_get, unwrap_or, Option, None, Some, Result, Ok, Err}
 use Rattle.board.specs.Views.{PostView}
 use Rattle.board.specs.Parked.{IsAtBoard}
@@ -12,7 +12,7 @@ use Rattle.c_board.specs.declared.refusal.Refusal.TheVariants as why
 use Rattle.c_board.specs.Opening.{AreEmpty}
 use Rattle.c_board.specs.PostStates.{PostStateView}
 
--- the seat is that of this post, or of another one at the same board
+-- the seat is the one of this post, or of another post of the same board
 pub record Fits (chair : Chair) (post : PostView) : Type 0 where
   pub at : IsAtBoard chair.table.value.shared.key chair.table.value.shared.table_id post
   pub known : unwrap_or chair.last 0 ≤ post.board.size
@@ -26,7 +26,7 @@ pub record IsParted (kept : Kept) (chair : Chair) (post : PostView) : Type 0 whe
   pub same : kept ≡ Post (seat_with chair post)
   pub fits : Fits chair post
 
--- several seats, each with a post
+-- several seats, each with its post
 abbrev pub AreFit : List Chair → List PostView → Type 0
 AreFit [] [] = Unit {0}
 AreFit [] (post ∷ posts) = ⊥
@@ -38,14 +38,14 @@ seats_with [] posts = []
 seats_with (chair ∷ chairs) [] = []
 seats_with (chair ∷ chairs) (post ∷ posts) = seat_with chair post ∷ seats_with chairs posts
 
--- what handles keep that keep these seats, in their order, and the posts of these seats
+-- what handles that keep these seats in order keep, and the posts of these seats
 abbrev pub kept_seats : List PostStateView → List (Option Kept)
 kept_seats seats = map (λ (state : PostStateView). Some (Post state)) seats
 
 abbrev pub posts_of : List PostStateView → List PostView
 posts_of seats = map (λ (state : PostStateView). state.post) seats
 
--- it is a post
+-- what is kept is a post
 abbrev pub is_post : Option Kept → Bool
 is_post None = false
 is_post (Some (Post state)) = true
@@ -56,11 +56,11 @@ is_post (Some Away) = false
 abbrev pub KeepPosts : List (Option Kept) → Type 0
 KeepPosts all = (i : ℕ) (kept : Option Kept) → slice_get all i ≡ Some kept → is_post kept ≡ true
 
--- one of them keeps none
+-- one of the handles keeps no post
 abbrev pub IsOneNoPost : List (Option Kept) → Type 0
 IsOneNoPost all = (i : ℕ) × (kept : Option Kept) × (slice_get all i ≡ Some kept) × (is_post kept ≡ false)
 
--- the posts that are kept are of one board
+-- all kept posts are of one board
 abbrev pub KeepOneBoard : List (Option Kept) → Type 0
 KeepOneBoard all = (i j : ℕ) (x y : PostStateView) → slice_get all i ≡ Some (Some (Post x))
     → slice_get all j ≡ Some (Some (Post y))

@@ -9,7 +9,7 @@ use Rattle.c_board.specs.declared.refusal.Refusal.TheVariants as why
 use Rattle.c_board.specs.PostStates.{PostStateView, Keeps}
 use Rattle.c_board.specs.Sending.{IsNoInstance, IsNoPost}
 
--- what closing a lane over a seated post answers: what the post's own call does
+-- what closing a lane answers for a seated post: the same as the post's own call
 abbrev pub SeatCloses : PostStateView → ℕ → Result (Unit {0}) Refusal → PostStateView → Type 0
 SeatCloses old to (Ok done) new = Keeps old new × Sound old.post new.post × IsClosed old.post to new.post
 SeatCloses old to (Err why.NoInstance) new = (new ≡ old) × IsNoInstance to

@@ -1,4 +1,4 @@
--- What is copied out of a handle (this project's profile): as much as there is room for.
+-- How a handle's contents are copied out: as much as there is room for (this project's profile).
 use Rattle.std.specs.Prelude.{◌≡◌, ℕ, ◌-◌, ◌^◌, min, List, ◌++◌, length, take, drop, map, Option, None, Some, Result, Ok, Err}
 use Rattle.chart.specs.declared.instance.EventNo.{EventNo}
 use Rattle.board.specs.declared.answer.Arrival.{Arrival}
@@ -9,11 +9,11 @@ use Rattle.c_board.specs.declared.kept.Kept.TheVariants.{Post, Board, Away}
 use Rattle.c_board.specs.declared.refusal.Refusal.{Refusal}
 use Rattle.c_board.specs.declared.refusal.Refusal.TheVariants as why
 
--- the first of these, as many as find room, and behind them what was there
+-- the first elements of the first list, as many as there is room for, and after them the second list's old ones
 abbrev pub put_over : {X : Type 0} → List X → List X → List X
 put_over items room = take (length room) items ++ drop (length items) room
 
--- this one of the messages that came last to what a handle keeps
+-- the selected one of the messages that were received last, if a handle keeps this
 abbrev pub picked_of : Which → Kept → Option Arrival
 picked_of which (Post state) = picked which state.came
 picked_of which (Board it) = None
@@ -37,7 +37,7 @@ indices events = map (λ (event : EventNo). event.index) events
 abbrev pub counted : List EventNo → ℕ
 counted events = min (length events) (2 ^ 64 - 1)
 
--- something of the message is copied out, and how much there is of it is told; where there is no message it is a misuse
+-- a part of the message is copied out, and its whole length is the answer; if there is no message, the call is a misuse
 abbrev pub CopiesOut : (Arrival → List ℕ) → Option Arrival → List ℕ → Result ℕ Refusal → List ℕ → Type 0
 CopiesOut what None room result out = (result ≡ Err why.Misuse) × (out ≡ room)
 CopiesOut what (Some arrival) room result out = (result ≡ Ok (length (what arrival)))

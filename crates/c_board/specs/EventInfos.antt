@@ -1,4 +1,4 @@
--- What is told of a post's line (this project's profile).
+-- How the events of a post's line are described (this project's profile).
 use Rattle.std.specs.Prelude.{◌≡◌, ℕ, List, length, Option, None, Some, Result, Ok, Err}
 use Rattle.chart.specs.declared.event.Event.{Event}
 use Rattle.chart.specs.Events.{ith, partner_of, name_of, region_of, is_receive}
@@ -10,7 +10,7 @@ use Rattle.c_board.specs.declared.refusal.Refusal.{Refusal}
 use Rattle.c_board.specs.declared.refusal.Refusal.TheVariants as why
 use Rattle.c_board.specs.Copying.{put_over}
 
--- what is told of an event
+-- the description of an event
 abbrev pub event_info : Event → EventInfo
 event_info event = record {
   receives = is_receive event;
@@ -19,12 +19,12 @@ event_info event = record {
   name = length (name_of event);
 }
 
--- there is no such event, or it is told and its name is copied out
+-- there is no such event, or it is described and its name is copied out
 abbrev pub CopiesEvent : Option Event → List ℕ → Result EventInfo Refusal → List ℕ → Type 0
 CopiesEvent None room result out = (result ≡ Err why.NoEvent) × (out ≡ room)
 CopiesEvent (Some event) room result out = (result ≡ Ok (event_info event)) × (out ≡ put_over (name_of event) room)
 
--- the event of this number, from 1, of the line of the post that is kept
+-- the event with this number, from 1, on the line of the post that is kept
 abbrev pub KeptCopies : Kept → ℕ → List ℕ → Result EventInfo Refusal → List ℕ → Type 0
 KeptCopies (Post state) number room result out = CopiesEvent (ith (line_of state.post) number) room result out
 KeptCopies (Board it) number room result out = (result ≡ Err why.Misuse) × (out ≡ room)

@@ -21,8 +21,8 @@ pub record LackPosts (all : List (Option Kept)) : Type 0 where
   pub kept : all ≡ kept_seats seats
   pub lacking : AreNotAll (posts_of seats)
 
--- the handles kept all posts of a board, and keep nothing now; what the board came to is kept by the other handle,
--- which kept nothing
+-- the handles kept all posts of a board, and keep nothing now; the other handle kept nothing, and keeps the result of
+-- the gathering now
 pub record IsGathered (old : List (Option Kept)) (board : Option Kept) (new : List (Option Kept))
     (made : Option Kept) : Type 0 where
   pub vacant : board ≡ None
@@ -61,7 +61,7 @@ IsUngathered posts why.NotAllPosts = AreNotAll posts
 IsUngathered posts why.Memory = Unit {0}
 IsUngathered posts _ = ⊥
 
--- what gathering posts without their board's words answers: a refusal gives them back as they were
+-- what gathering posts without their board's words answers; a refusal gives them back as they were
 abbrev pub GathersParked : List PostView → Result Gathered Returned → Type 0
 GathersParked posts (Ok it) = IsWhole posts it
 GathersParked posts (Err back) = (back.posts.items ≡ posts) × IsUngathered posts back.refusal

@@ -18,11 +18,11 @@ use Rattle.c_board.specs.PostStates.{PostStateView}
 abbrev pub kept_by : List Handle → List (Option Kept)
 kept_by handles = map (λ (handle : Handle). handle.slot.value) handles
 
--- none of them keeps anything
+-- none of these handles keeps anything
 abbrev pub AreEmpty : List (Option Kept) → Type 0
 AreEmpty all = (i : ℕ) (kept : Option Kept) → slice_get all i ≡ Some kept → kept ≡ None
 
--- one of them keeps something
+-- one of these handles keeps something
 abbrev pub IsOneFull : List (Option Kept) → Type 0
 IsOneFull all = (i : ℕ) × (kept : Kept) × (slice_get all i ≡ Some (Some kept))
 
@@ -30,12 +30,13 @@ IsOneFull all = (i : ℕ) × (kept : Kept) × (slice_get all i ≡ Some (Some ke
 abbrev pub seated : PostView → PostStateView
 seated post = record { post = post; last = 0; came = [] }
 
--- they keep the posts of a new board, in order of their instances
+-- the handles keep the posts of a new board, in order of their instances
 abbrev pub AreSeated : BoardView → List (Option Kept) → Type 0
 AreSeated board all = (i : ℕ) (kept : Option Kept) → slice_get all i ≡ Some kept
     → kept ≡ Some (Post (seated (new_post board (suc i))))
 
--- what opening a board whose lanes have k slots answers, over handles that keep nothing: as many instances as handles
+-- what opening a board answers: its lanes have k slots, and it has an instance for each of the handles, which kept
+-- nothing
 abbrev pub Opens : ℕ → List (Option Kept) → Result (Unit {0}) Refusal → List (Option Kept) → Type 0
 Opens k old (Ok done) new = AreEmpty old × IsSized (length old) k × (length new ≡ length old)
     × (table : TableId) × AreSeated (record { table = table; size = length old; capacity = k }) new
@@ -54,7 +55,7 @@ Opens k old (Err (why.Taking error)) new = ⊥
 Opens k old (Err (why.Closing error)) new = ⊥
 Opens k old (Err (why.Region error)) new = ⊥
 
--- the boxes keep these posts, in their order
+-- what boxes with these posts keep, in their order
 abbrev pub seats_of : List PostView → List Kept
 seats_of posts = map (λ (post : PostView). Post (seated post)) posts
 

@@ -1,4 +1,4 @@
--- What a receive over a handle answers, and what is told of the message (this project's profile).
+-- What a receive over a handle answers, and how the message is described (this project's profile).
 use Rattle.std.specs.Prelude.{◌≡◌, ℕ, ◌-◌, ◌^◌, true, false, List, [], ◌∷◌, length, slice_get, min, Option, None, Some, Result, Ok, Err}
 use Rattle.chart.specs.declared.event.Event.{Event}
 use Rattle.chart.specs.Events.{name_of}
@@ -19,8 +19,8 @@ use Rattle.c_board.specs.declared.refusal.Refusal.TheVariants as why
 use Rattle.c_board.specs.PostStates.{PostStateView, Keeps}
 use Rattle.c_board.specs.Sending.{IsNoInstance, IsNoPost}
 
--- what is told of a message: who sent it, the number of its receive, how long its name and its body are, and how many
--- races its receive has
+-- the description of a message: its sender, the number of its receive, the lengths of its name and its body, and how
+-- many races its receive has
 abbrev pub arrived_of : Arrival → Arrived
 arrived_of arrival = record {
   from = arrival.from;
@@ -30,14 +30,14 @@ arrived_of arrival = record {
   races = min (length arrival.report.earlier) (2 ^ 64 - 1);
 }
 
--- what a receive finds, where what is told of the message stands in a place of its own
+-- what a receive finds, if the description of the message is in a place of its own
 abbrev pub found_with : Result Peek Refusal → Arrived → Result Found Refusal
 found_with (Ok peek.Message) output = Ok (Message output)
 found_with (Ok peek.Nothing) output = Ok Nothing
 found_with (Ok peek.Ended) output = Ok Ended
 found_with (Err refusal) output = Err refusal
 
--- what is told after a receive: of the message that came, and else what was told before
+-- the description after a receive: of the received message, or the old one if none was received
 abbrev pub arrived_after : Arrived → Result Found Refusal → Arrived
 arrived_after before (Ok (Message arrived)) = arrived
 arrived_after before (Ok Nothing) = before
@@ -49,13 +49,13 @@ abbrev pub IsLastNamed : PostView → List ℕ → Type 0
 IsLastNamed post name = (event : Event) × (slice_get (line_of post) (length (line_of post) - 1) ≡ Some event)
     × (name_of event ≡ name)
 
--- the message stays in the handle, which tells of it
+-- the message stays in the handle, and this describes it
 pub record IsOutput (arrival : Arrival) (arrived : Arrived) (new : PostStateView) : Type 0 where
   pub output : arrived ≡ arrived_of arrival
   pub stays : new.came ≡ arrival ∷ []
   pub last : new.last ≡ arrival.from
 
--- what a receive over a seated post answers: what the post's own receive does
+-- what a receive answers for a seated post: the same as the post's own receive
 abbrev pub SeatTakes : PostStateView → ℕ → Result Found Refusal → PostStateView → Type 0
 SeatTakes old from (Ok (Message arrived)) new = (arrival : Arrival) × IsOutput arrival arrived new
     × Sound old.post new.post × IsGot old.post from arrival new.post
@@ -79,8 +79,8 @@ SeatTakes old from (Err (why.Sending error)) new = ⊥
 SeatTakes old from (Err (why.Closing error)) new = ⊥
 SeatTakes old from (Err (why.Region error)) new = ⊥
 
--- what a receive from any instance answers: what a mailbox's does, which begins after the instance that the post got a
--- message from last
+-- what a receive from any instance answers: the same as that of a mailbox which begins after the instance from which
+-- the post received last
 abbrev pub SeatTakesAny : PostStateView → Result Found Refusal → PostStateView → Type 0
 SeatTakesAny old (Ok (Message arrived)) new = (arrival : Arrival) × IsOutput arrival arrived new
     × Sound old.post new.post × TakesAny old.post old.last (Ok (taken.Got arrival)) new.post
@@ -104,7 +104,7 @@ SeatTakesAny old (Err (why.Sending error)) new = ⊥
 SeatTakesAny old (Err (why.Closing error)) new = ⊥
 SeatTakesAny old (Err (why.Region error)) new = ⊥
 
--- and over what a handle keeps
+-- the same for what a handle keeps
 abbrev pub KeptTakes : Kept → ℕ → Result Found Refusal → Kept → Type 0
 KeptTakes (Post old) from result new = (state : PostStateView) × (new ≡ Post state) × SeatTakes old from result state
 KeptTakes (Board it) from result new = (new ≡ Board it) × (result ≡ Err why.Misuse)
@@ -115,7 +115,7 @@ KeptTakesAny (Post old) result new = (state : PostStateView) × (new ≡ Post st
 KeptTakesAny (Board it) result new = (new ≡ Board it) × (result ≡ Err why.Misuse)
 KeptTakesAny Away result new = (new ≡ Away) × (result ≡ Err why.Misuse)
 
--- and over a handle
+-- the same for a handle
 abbrev pub HandleTakes : Option Kept → ℕ → Result Found Refusal → Option Kept → Type 0
 HandleTakes None from result new = IsNoPost None result new
 HandleTakes (Some old) from result new = (kept : Kept) × (new ≡ Some kept) × KeptTakes old from result kept

@@ -1,4 +1,4 @@
--- What a receive of several messages over a handle answers, and what is told of them (this project's profile).
+-- What a receive of several messages over a handle answers, and how they are described (this project's profile).
 use Rattle.std.specs.Prelude.{◌≡◌, ℕ, List, [], length, map, Option, None, Some, Result, Ok, Err}
 use Rattle.std.specs.Global.{Vec}
 use Rattle.board.specs.declared.answer.Arrival.{Arrival}
@@ -17,7 +17,7 @@ use Rattle.c_board.specs.Receiving.{arrived_of}
 use Rattle.c_board.specs.PostStates.{PostStateView, Keeps}
 use Rattle.c_board.specs.Sending.{IsNoInstance}
 
--- the messages stay in the handle, which tells of each, in their order, and how many they are
+-- the messages stay in the handle; each is described, in their order, and they are counted
 pub record AreOutput (arrivals : List Arrival) (from : ℕ) (room : List Arrived) (count : ℕ) (new : PostStateView)
     (output : List Arrived) : Type 0 where
   pub each : output ≡ put_over (map arrived_of arrivals) room
@@ -25,8 +25,8 @@ pub record AreOutput (arrivals : List Arrival) (from : ℕ) (room : List Arrived
   pub stay : new.came ≡ arrivals
   pub last : new.last ≡ from
 
--- what a receive of several messages over a seated post answers: what the post's own call does, of at most as many as
--- there is room to tell of
+-- what a receive of several messages answers for a seated post: the same as the post's own call, for at most as many as
+-- there are places for descriptions
 abbrev pub SeatTakesMany : PostStateView → ℕ → List Arrived → Result FoundMany Refusal → PostStateView → List Arrived → Type 0
 SeatTakesMany old from room (Ok (Messages count stop)) new output = (arrivals : Vec Arrival)
     × AreOutput arrivals.items from room count new output × Sound old.post new.post
@@ -41,14 +41,14 @@ SeatTakesMany old from room (Err why.NoInstance) new output = (new ≡ old) × (
 SeatTakesMany old from room (Err why.Misuse) new output = (new ≡ old) × (output ≡ room) × (room ≡ [])
 SeatTakesMany old from room (Err _) new output = ⊥
 
--- and over what a handle keeps
+-- the same for what a handle keeps
 abbrev pub KeptTakesMany : Kept → ℕ → List Arrived → Result FoundMany Refusal → Kept → List Arrived → Type 0
 KeptTakesMany (Post old) from room result new output = (state : PostStateView) × (new ≡ Post state)
     × SeatTakesMany old from room result state output
 KeptTakesMany (Board it) from room result new output = (new ≡ Board it) × (output ≡ room) × (result ≡ Err why.Misuse)
 KeptTakesMany Away from room result new output = (new ≡ Away) × (output ≡ room) × (result ≡ Err why.Misuse)
 
--- and over a handle
+-- the same for a handle
 abbrev pub HandleTakesMany : Option Kept → ℕ → List Arrived → Result FoundMany Refusal → Option Kept → List Arrived
     → Type 0
 HandleTakesMany None from room result new output = (new ≡ None) × (output ≡ room) × (result ≡ Err why.Misuse)

@@ -1,4 +1,4 @@
--- The number of each refusal (`docs/FORMATS.md`).
+-- The number of each refusal (`docs/reference/refusals.md`).
 use Rattle.std.specs.Prelude.{ℕ}
 use Rattle.chart.specs.declared.name.NameError.{NameError}
 use Rattle.chart.specs.declared.name.NameError.TheVariants as naming
@@ -51,7 +51,7 @@ abbrev pub of_region : RegionError → ℕ
 of_region region.CoregionOpen = 28
 of_region region.CoregionNotOpen = 29
 
--- 100 tells of a misuse, as posts of two boards are one, which has no number there
+-- 100 is for a misuse, also for posts of two boards. Misuse has no number in that document
 abbrev pub number_of : Refusal → ℕ
 number_of why.Misuse = 100
 number_of (why.Naming error) = of_name error

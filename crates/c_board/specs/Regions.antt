@@ -10,7 +10,7 @@ use Rattle.c_board.specs.declared.refusal.Refusal.TheVariants as why
 use Rattle.c_board.specs.PostStates.{PostStateView}
 use Rattle.c_board.specs.Sending.{IsNoPost}
 
--- opening a coregion: none was open, and a new one is; or one is open
+-- opening a coregion: none was open, and a new one is open now; or one is open already
 abbrev pub SeatOpens : PostStateView → Result (Unit {0}) Refusal → PostStateView → Type 0
 SeatOpens old (Ok done) new = (old.post.region ≡ 0)
     × (new ≡ record old { post = record old.post { region = greatest_region (line_of old.post) + 1 } })
@@ -30,7 +30,7 @@ SeatOpens old (Err (why.Sending error)) new = ⊥
 SeatOpens old (Err (why.Taking error)) new = ⊥
 SeatOpens old (Err (why.Closing error)) new = ⊥
 
--- closing it: one was open, and none is; or none is open
+-- closing it: one was open, and none is open now; or none is open
 abbrev pub SeatShuts : PostStateView → Result (Unit {0}) Refusal → PostStateView → Type 0
 SeatShuts old (Ok done) new = (0 < old.post.region) × (new ≡ record old { post = record old.post { region = 0 } })
 SeatShuts old (Err (why.Region CoregionNotOpen)) new = (old.post.region ≡ 0) × (new ≡ old)
@@ -49,7 +49,7 @@ SeatShuts old (Err (why.Sending error)) new = ⊥
 SeatShuts old (Err (why.Taking error)) new = ⊥
 SeatShuts old (Err (why.Closing error)) new = ⊥
 
--- and over what a handle keeps
+-- the same for what a handle keeps
 abbrev pub KeptOpens : Kept → Result (Unit {0}) Refusal → Kept → Type 0
 KeptOpens (Post old) result new = (state : PostStateView) × (new ≡ Post state) × SeatOpens old result state
 KeptOpens (Board it) result new = (new ≡ Board it) × (result ≡ Err why.Misuse)

@@ -8,7 +8,7 @@ use Rattle.c_board.specs.declared.refusal.Refusal.TheVariants as why
 use Rattle.c_board.specs.PostStates.{PostStateView}
 use Rattle.c_board.specs.Sending.{IsNoPost}
 
--- there is room for so many events, and for no more than a line has; or nothing has changed for want of memory
+-- there is room for as many events, but for no more than a line has; or nothing has changed for lack of memory
 abbrev pub SeatReserves : PostStateView → ℕ → Result (Unit {0}) Refusal → PostStateView → Type 0
 SeatReserves old events (Ok done) new = new ≡ record old {
   post = record old.post { room = max old.post.room (min events MAX_EVENTS) };

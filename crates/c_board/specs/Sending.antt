@@ -13,7 +13,7 @@ use Rattle.c_board.specs.declared.refusal.Refusal.{Refusal}
 use Rattle.c_board.specs.declared.refusal.Refusal.TheVariants as why
 use Rattle.c_board.specs.PostStates.{PostStateView, Keeps}
 
--- an instance's number is none of 1 to the most
+-- the number isn't one of 1 to MAX_INSTANCES
 abbrev pub IsNoInstance : ℕ → Type 0
 IsNoInstance number = (number < 1) ⊎ (MAX_INSTANCES < number)
 
@@ -22,7 +22,7 @@ pub record IsMessage (name body : List ℕ) : Type 0 where
   pub is_name : IsName name
   pub short : length body ≤ MAX_BODY
 
--- what a send over a seated post answers: what the post's own send does, where the bytes make a message
+-- what a send answers for a seated post: the same as the post's own send, if the bytes make a message
 abbrev pub SeatSends : PostStateView → ℕ → List ℕ → List ℕ → Result EventNo Refusal → PostStateView → Type 0
 SeatSends old to name body (Ok event) new = IsMessage name body × Keeps old new × Sound old.post new.post
     × IsSent old.post to (record { name = name; body = body }) (record { event = event }) new.post
@@ -42,24 +42,24 @@ SeatSends old to name body (Err (why.Taking error)) new = ⊥
 SeatSends old to name body (Err (why.Closing error)) new = ⊥
 SeatSends old to name body (Err (why.Region error)) new = ⊥
 
--- a call that wants a post finds none in the handle, and changes nothing
+-- a call that needs a post finds none in the handle, and changes nothing
 abbrev pub IsNoPost : {A : Type 0} → Option Kept → Result A Refusal → Option Kept → Type 0
 IsNoPost old result new = (new ≡ old) × (result ≡ Err why.Misuse)
 
--- what a send over what a handle keeps answers
+-- what a send answers for what a handle keeps
 abbrev pub KeptSends : Kept → ℕ → List ℕ → List ℕ → Result EventNo Refusal → Kept → Type 0
 KeptSends (Post old) to name body result new = (state : PostStateView) × (new ≡ Post state)
     × SeatSends old to name body result state
 KeptSends (Board it) to name body result new = (new ≡ Board it) × (result ≡ Err why.Misuse)
 KeptSends Away to name body result new = (new ≡ Away) × (result ≡ Err why.Misuse)
 
--- what a send over a handle answers
+-- what a send answers for a handle
 abbrev pub HandleSends : Option Kept → ℕ → List ℕ → List ℕ → Result EventNo Refusal → Option Kept → Type 0
 HandleSends None to name body result new = IsNoPost None result new
 HandleSends (Some old) to name body result new = (kept : Kept) × (new ≡ Some kept)
     × KeptSends old to name body result kept
 
--- the message of bytes, or why they make none
+-- the message with these bytes, or why they make none
 abbrev pub MakesMessage : List ℕ → List ℕ → Result Content Refusal → Type 0
 MakesMessage name body (Ok message) = (message ≡ record { name = name; body = body }) × IsMessage name body
 MakesMessage name body (Err (why.Naming error)) = name_of name ≡ Err error

@@ -13,7 +13,7 @@ use Rattle.c_board.specs.declared.refusal.Refusal.TheVariants as why
 use Rattle.c_board.specs.PostStates.{PostStateView, Keeps}
 use Rattle.c_board.specs.Sending.{IsMessage, IsNoInstance, IsNoPost, MakesMessage}
 
--- the messages whose names and bodies lie one after another
+-- the messages whose names and bodies are one after another
 abbrev pub contents_in : List ℕ → List MessageLengths → List Content
 contents_in bytes [] = []
 contents_in bytes (its ∷ more) = record { name = take its.name bytes; body = take its.body (drop its.name bytes) }
@@ -28,7 +28,7 @@ first_event (sent ∷ more) = sent.event.index
 abbrev pub AreMessages : List Content → Type 0
 AreMessages all = (i : ℕ) (it : Content) → slice_get all i ≡ Some it → IsMessage it.name it.body
 
--- one of these is refused, and those before it are messages
+-- one of these messages is refused with this, and those before it are messages
 pub record IsFirstRefused (all : List Content) (refusal : Refusal) : Type 0 where
   pub before : List Content
   pub it : Content
@@ -37,13 +37,13 @@ pub record IsFirstRefused (all : List Content) (refusal : Refusal) : Type 0 wher
   pub messages : AreMessages before
   pub refused : MakesMessage it.name it.body (Err refusal)
 
--- the messages, or why they are none
+-- the messages, or why they aren't
 abbrev pub ReadsMessages : List Content → Result (Vec Content) Refusal → Type 0
 ReadsMessages all (Ok messages) = (messages.items ≡ all) × AreMessages all
 ReadsMessages all (Err why.Memory) = Unit {0}
 ReadsMessages all (Err refusal) = IsFirstRefused all refusal
 
--- what a send of these messages over a seated post answers: what the post's own call does
+-- what a send of these messages answers for a seated post: the same as the post's own call
 abbrev pub SeatSendsAll : PostStateView → ℕ → List Content → Result ℕ Refusal → PostStateView → Type 0
 SeatSendsAll old to all (Ok event) new = AreMessages all × Keeps old new × Sound old.post new.post
     × (sents : List Sent) × AreSent old.post to all sents new.post × (event ≡ first_event sents)

@@ -1,4 +1,4 @@
-//! Receives from whichever instance has a message, by a post that borrows nothing.
+//! Receives from whichever instance has a message, for a post that borrows nothing.
 ghost use Rattle.std.specs.Prelude.{◌≤◌};
 ghost use Rattle.chart.specs.Scans.{scan};
 ghost use Rattle.board.specs.Views.{Sound};
@@ -10,8 +10,8 @@ ghost use Rattle.mailbox.specs.TakingAny.{TakesAny};
 use board::{Parked, Scan, SharedTable, TakeError, Taken};
 use chart::InstanceNo;
 
-/// Receives the first message that waits on the lanes to a post, which are looked at in cyclic order after the lane
-/// from the instance of this number, 0 for none, as [`mailbox::any_from`] does.
+/// Receives the first message that it finds on the lanes to a post. It looks at them in cyclic order, after the lane
+/// from the instance `last`, 0 for none, as [`mailbox::any_from`] does.
 pub(crate) fn any_after(
     post: &mut Parked,
     words: &SharedTable,
@@ -31,8 +31,8 @@ pub(crate) fn any_after(
     }
 }
 
-/// Whether a message waits on one of the lanes to a post, which it looks at in cyclic order after the instance of this
-/// number, until it finds one.
+/// Whether a message waits on one of the lanes to a post. It looks at them in cyclic order after the instance `last`,
+/// until it finds a message.
 fn scan_after(post: &mut Parked, words: &SharedTable, last: usize) -> Scan
     requires known { last ≤ post.old.board.size }
     requires board { IsAtBoard words.now.key words.now.table_id post.old }
@@ -51,8 +51,8 @@ fn scan_after(post: &mut Parked, words: &SharedTable, last: usize) -> Scan
     }
 }
 
-/// Receives the message that was found on the lane from this instance. It stands apart, so a scan that finds none makes
-/// nothing that a receive needs.
+/// Receives the message that was found on the lane from this instance. This function isn't inlined, so a scan that
+/// finds no message prepares nothing for a receive.
 #[inline(never)]
 fn receive_found(
     post: &mut Parked,

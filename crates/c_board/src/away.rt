@@ -1,4 +1,4 @@
-//! Calls that want all posts of a board, over posts that borrow nothing.
+//! Calls that take all posts of a board, for posts that borrow nothing.
 ghost use Rattle.std.specs.Prelude.{◌≡◌, ◌≤◌, [], length, vec_capacity};
 ghost use Rattle.board.specs.Parked.{AreAtBoard};
 ghost use Rattle.board.specs.Meeting.{AreOfOneBoard};
@@ -9,7 +9,7 @@ use crate::refusal::Refusal;
 use board::{GatherCause, Gathered, Parked, Post, SharedTable, gather, meet_all, wake_all};
 use std::alloc::Global;
 
-/// Posts that come back, and why.
+/// Posts that come back, and the reason.
 #[derive(Drop)]
 pub(crate) struct Returned {
     pub posts: Vec<Parked>,
@@ -38,7 +38,7 @@ fn refusal_of(cause: GatherCause) -> Refusal
     }
 }
 
-/// Gathers these posts at their board's words. F15 and F6: then they come back as they were.
+/// Gathers these posts with their board's words. F15 or F6 refuses it, and then they come back as they were.
 pub(crate) fn gather_parked(
     alloc: Global,
     words: &SharedTable,
@@ -75,7 +75,7 @@ pub(crate) struct Met {
     pub answer: Result<(), Refusal>,
 }
 
-/// The posts meet at their board's words. F15 and F6: then they come back as they were.
+/// Lets these posts meet with their board's words. F15 or F6 refuses it, and then they come back as they were.
 pub(crate) fn meet_parked(alloc: Global, words: &SharedTable, posts: Vec<Parked>) -> Met
     requires at { AreAtBoard words.now.key words.now.table_id posts.items }
     requires board { AreOfOneBoard posts.items }

@@ -1,4 +1,4 @@
-//! What a board left, carried over by posts that borrow nothing.
+//! Carries over what a board left to posts that borrow nothing.
 ghost use Rattle.std.specs.Prelude.{◌≡◌, List, map};
 ghost use Rattle.board.specs.declared.gathering.ClosedLane.{ClosedLane};
 ghost use Rattle.board.specs.Parked.{AreAtBoard};
@@ -13,7 +13,7 @@ use board::long_runs::{Carried, CarryCause, CarryError, carry_over};
 use board::{ClosedLane, Left, Parked, SharedTable, wake_all};
 use std::alloc::Global;
 
-/// Posts that came back, and what they carried over.
+/// Posts that came back, and the answer of carrying over.
 #[derive(Drop)]
 pub(crate) struct Borne {
     pub posts: Vec<Parked>,
@@ -30,7 +30,7 @@ pub(crate) fn refusal_for(cause: CarryCause) -> Refusal
     }
 }
 
-/// Nothing is carried over, for want of memory.
+/// Nothing is carried over, for lack of memory.
 fn unborne(posts: Vec<Parked>, left: Vec<Left>) -> Borne
     ensures posts { result.posts.items ≡ posts.items }
     ensures left { (closed : List ClosedLane) → CarriesParked left.items closed posts.items result.answer posts.items }
@@ -44,8 +44,8 @@ fn unborne(posts: Vec<Parked>, left: Vec<Left>) -> Borne
     }
 }
 
-/// Carries what a board left over to these posts at their board's words. F15 and F6: then they come back as they were,
-/// but that they may have more room, and so does what was left.
+/// Carries over what a board left to these posts, with their board's words. F15 or F6 refuses it. Then the posts come
+/// back as they were, except that they may have more room, and what was left comes back too.
 pub(crate) fn bear(
     alloc: Global,
     words: &SharedTable,

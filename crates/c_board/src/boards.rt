@@ -1,9 +1,9 @@
-//! What is told of a gathered board in the memory of another language: its chart's text, its reports, and the
-//! messages that wait on its lanes.
+//! Copies of what a gathered board has, for another language: the text of its chart, its reports, and the messages that
+//! wait on its lanes.
 //!
-//! Each call borrows the board from the handle that keeps it, and leaves it as it was. A handle that keeps no board
-//! is answered [`crate::Refusal::Misuse`]. What is copied out is as much as finds room, and the whole lengths are
-//! told.
+//! Each call borrows the board from the handle that keeps it, and leaves it as it was. If the handle keeps no board,
+//! the call is refused with [`crate::Refusal::Misuse`]. A call copies out as much as there is room for, and returns the
+//! whole lengths.
 
 mod left;
 mod naming;

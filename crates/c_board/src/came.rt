@@ -1,4 +1,4 @@
-//! The messages that came last.
+//! The messages that were received last.
 ghost use Rattle.std.specs.Prelude.{◌≡◌};
 ghost use Rattle.c_board.specs.declared.came.Came.TheVariants.{One};
 ghost use Rattle.c_board.specs.Came.{came_list, picked, IsSeen};
@@ -7,18 +7,18 @@ use board::Arrival;
 use chart::{InstanceNo, Message, Report};
 use std::slice;
 
-/// The messages of the last call that got some.
+/// The messages of the last call that received some.
 #[derive(Drop)]
 pub enum Came {
-    /// No call got one yet.
+    /// No call received one yet.
     None,
-    /// The one that a receive got.
+    /// The message of a receive of one.
     One(Arrival),
-    /// Those that a receive of several got, in their order.
+    /// The messages of a receive of several, in their order.
     Several(Vec<Arrival>),
 }
 
-/// Which of the messages that came last.
+/// Selects one of the messages that were received last.
 #[derive(Clone, Copy)]
 pub enum Which {
     /// The last one.
@@ -28,7 +28,7 @@ pub enum Which {
 }
 
 impl Came {
-    /// Keeps this message alone. It is put where the one before was, part by part.
+    /// Keeps only this message. It replaces the one before in place, part by part.
     #[inline(always)]
     pub(crate) fn keep(&mut self, from: InstanceNo, message: Message, report: Report)
         ensures { self.new ≡ One (record { from = from; message = message; report = report }) }
@@ -60,7 +60,7 @@ impl Came {
         }
     }
 
-    /// This one of them, if there is such a one.
+    /// The message that `which` selects, if there is one.
     pub(crate) fn pick(&self, which: Which) -> Option<&Arrival>
         ensures { IsSeen (picked which (came_list self.now)) result }
     {

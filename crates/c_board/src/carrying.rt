@@ -1,4 +1,4 @@
-//! What a board left, carried over between handles.
+//! Carries over between handles what a board left.
 ghost use Rattle.std.specs.Prelude.{◌≡◌, length};
 ghost use Rattle.c_board.specs.Opening.{kept_by};
 ghost use Rattle.c_board.specs.Chairs.{KeepOneBoard};
@@ -17,7 +17,7 @@ use board::long_runs::CarryError;
 use std::alloc::Global;
 use std::mem;
 
-/// Writes the first of these counts, as many as find room, and tells how many they are.
+/// Writes the first of these counts, as many as there is room for, and returns how many counts there are.
 fn copy_counts(counts: &[usize], out: &mut [usize]) -> usize
     ensures all { result ≡ length counts.now }
     ensures copied { out.new ≡ put_over counts.now out.old }
@@ -27,7 +27,7 @@ fn copy_counts(counts: &[usize], out: &mut [usize]) -> usize
     counts.len()
 }
 
-/// Carries what the board left over to the posts of these handles.
+/// Carries over what the board left to the posts of these handles.
 fn carry_gathered(
     alloc: Global,
     it: &mut Gathered,
@@ -72,13 +72,14 @@ impl Kept {
 }
 
 impl Handle {
-    /// Carries what the board in the handle left over to all posts of a new one, which come in any order: each message
-    /// that was left is sent again by its sender, lane by lane, in the order in which it waited, and each lane that was
-    /// closed is closed again. Then nothing is left on the old board. It tells how many sends each instance carried, by
-    /// instance, and of how many instances.
+    /// Carries over what the board in this handle left to all posts of a new board, which come in any order. Each
+    /// message that was left is sent again by its sender, lane by lane, in the order in which it waited. Then each lane
+    /// that was closed is closed again. Afterwards no message is left on the old board. The call copies out how many
+    /// sends each instance made again, by instance, and returns the number of instances.
     ///
-    /// A handle that keeps no board, or no post, is a misuse, and so are posts of two boards as far as that can be
-    /// told. F15: posts lack. F6. Then nothing was sent, and what was left stays.
+    /// A handle that keeps no board, or no post, is a misuse. Posts of two boards are refused as far as this can be
+    /// detected. F15: posts are missing. F6: there is no memory. After a refusal nothing was sent, and what was left is
+    /// still there.
     pub fn carry_over(
         &mut self,
         alloc: Global,

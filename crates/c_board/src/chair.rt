@@ -12,7 +12,8 @@ use chart::InstanceNo;
 use std::mem;
 use std::sync::Arc;
 
-/// What is left of a seat while its post is elsewhere. It has the box too, so that the post comes back without memory.
+/// What remains of a seat while its post is elsewhere. It keeps the box too, so that the post comes back without
+/// memory.
 #[derive(Drop)]
 pub(crate) struct Chair {
     kept: Box<Kept>,
@@ -21,7 +22,7 @@ pub(crate) struct Chair {
     came: Came,
 }
 
-/// Posts that were taken out of their seats, and these in the same order.
+/// Posts that were taken out of their seats, and the seats in the same order.
 #[derive(Drop)]
 pub(crate) struct Taken {
     pub chairs: Vec<Chair>,

@@ -26,7 +26,7 @@ impl PostState {
 }
 
 impl Kept {
-    /// Closes a lane of the post that it is.
+    /// Closes a lane of the post, if a post is kept.
     fn close(&mut self, to: u32) -> Result<(), Refusal>
         ensures { KeptCloses self.old to result self.new }
     {

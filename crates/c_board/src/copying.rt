@@ -1,4 +1,4 @@
-//! What is copied out of a handle.
+//! Copies out what a handle keeps.
 ghost use Rattle.std.specs.Prelude.{◌≡◌, length};
 ghost use Rattle.c_board.specs.Came.{IsSeen};
 ghost use Rattle.c_board.specs.Copying.{put_over, picked_of, picked_in, name_in, body_in, CopiesOut, CopiesRaces};
@@ -12,7 +12,7 @@ use board::Arrival;
 use chart::EventRanges;
 use std::alloc::Global;
 
-/// Writes the first of these bytes, as many as find room, and tells how many they are.
+/// Writes the first of these bytes, as many as there is room for, and returns how many bytes there are.
 #[inline(never)]
 pub fn copy_out(bytes: &[u8], out: &mut [u8]) -> usize
     ensures all { result ≡ length bytes.now }
@@ -23,7 +23,8 @@ pub fn copy_out(bytes: &[u8], out: &mut [u8]) -> usize
     bytes.len()
 }
 
-/// Writes the numbers of the first of these events, as many as find room, and tells how many events they are.
+/// Writes the numbers of the first of these events, as many as there is room for, and returns how many events there
+/// are.
 pub fn copy_events(events: &EventRanges, out: &mut [u32]) -> usize
     ensures all { result ≡ counted events.now }
     ensures copied { out.new ≡ put_over (indices events.now) out.old }
@@ -40,7 +41,7 @@ pub fn copy_events(events: &EventRanges, out: &mut [u32]) -> usize
 }
 
 impl Kept {
-    /// This one of the messages that came last, where it is a post.
+    /// The message that `which` selects among those received last, if a post is kept.
     fn arrival(&self, which: Which) -> Option<&Arrival>
         ensures { IsSeen (picked_of which self.now) result }
     {
@@ -80,8 +81,8 @@ impl Kept {
 }
 
 impl Handle {
-    /// Copies the name of this one of the messages that came last out: as many bytes as there is room for. It tells how
-    /// many the name has.
+    /// Copies out the name of one of the messages that were received last, as many bytes as there is room for. It
+    /// returns how many bytes the name has.
     pub fn copy_name(
         &mut self,
         alloc: Global,
@@ -99,7 +100,7 @@ impl Handle {
         result
     }
 
-    /// Copies its body out, likewise.
+    /// Copies out the body of such a message, in the same way.
     pub fn copy_body(
         &mut self,
         alloc: Global,
@@ -117,8 +118,8 @@ impl Handle {
         result
     }
 
-    /// Copies its races out: the numbers of the earlier events, as many as there is room for. It tells how many there
-    /// are.
+    /// Copies out the races of such a message: the numbers of the earlier events, as many as there is room for. It
+    /// returns how many there are.
     pub fn copy_races(
         &mut self,
         alloc: Global,

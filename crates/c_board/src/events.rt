@@ -14,7 +14,7 @@ use crate::refusal::Refusal;
 use chart::Event;
 use std::alloc::Global;
 
-/// What is told of an event; its name is copied out, as much as there is room for.
+/// Describes an event, and copies its name out, as much as there is room for.
 fn copy_event(event: &Event, out: &mut [u8]) -> EventInfo
     ensures output { result ≡ event_info event.now }
     ensures copied { out.new ≡ put_over (name_of event.now) out.old }
@@ -33,7 +33,7 @@ fn copy_event(event: &Event, out: &mut [u8]) -> EventInfo
 }
 
 impl PostState {
-    /// Tells of the event of this number, from 1.
+    /// Describes the event with this number, from 1. F31: there is no such event.
     fn event(&self, number: u32, out: &mut [u8]) -> Result<EventInfo, Refusal>
         ensures { CopiesEvent (ith (line_of self.now.post) number) out.old result out.new }
     {
@@ -58,8 +58,8 @@ impl Kept {
 }
 
 impl Handle {
-    /// Tells of the event of this number, from 1, of the post's line, and copies its name out, as much as there is room
-    /// for. F31: there is no such event.
+    /// Describes the event with this number, from 1, on the post's line. It copies the event's name out, as much as
+    /// there is room for. F31: there is no such event.
     pub fn event(
         &mut self,
         alloc: Global,

@@ -1,7 +1,7 @@
 //! What a receive over a handle finds.
 use board::Stop;
 
-/// What is told of a message that came, which stays in the handle. Another language reads it as it lies.
+/// The description of a received message, which stays in the handle. Another language reads this structure in place.
 #[repr(C)]
 #[derive(Clone, Copy)]
 pub struct Arrived {
@@ -31,7 +31,7 @@ pub enum Found {
 /// What a receive of several messages finds.
 #[derive(Clone, Copy)]
 pub enum FoundMany {
-    /// So many messages, one or more, which stay in the handle until the next ones come, and why no more.
+    /// `count` messages, one or more, and why there are no more. They stay in the handle until the next ones come.
     Messages { count: usize, stop: Stop },
     /// None waits, and the lane is open.
     Nothing,
@@ -39,20 +39,20 @@ pub enum FoundMany {
     Ended,
 }
 
-/// What is told of an event of a post's line.
+/// The description of an event on a post's line.
 #[derive(Clone, Copy)]
 pub struct EventInfo {
     /// Whether it is a receive.
     pub receives: bool,
     /// The number of the instance at the other end of the message, from 1.
     pub partner: u32,
-    /// The coregion that it is in, from 1, or 0 outside of one.
+    /// Its coregion, from 1, or 0 outside of one.
     pub region: u32,
     /// How many bytes the message's name has.
     pub name: usize,
 }
 
-/// How long the name and the body of a message are, in bytes.
+/// The lengths of a message's name and body, in bytes.
 #[repr(C)]
 #[derive(Clone, Copy)]
 pub struct MessageLengths {

@@ -14,7 +14,7 @@ use crate::taking::{put_posts, take_posts};
 use board::Gathered;
 use std::alloc::Global;
 
-/// This box, with what a board came to in it.
+/// This box, with the result of a gathering in it.
 fn board_in(kept: Box<Kept>, gathered: Gathered) -> Box<Kept>
     ensures { result.value ≡ Board gathered }
 {
@@ -23,11 +23,12 @@ fn board_in(kept: Box<Kept>, gathered: Gathered) -> Box<Kept>
     kept
 }
 
-/// Gathers a whole board: what all its posts came to goes into another handle, and those of the posts keep nothing
-/// then. The posts may come in any order.
+/// Gathers a whole board into the handle `board`. The handles of its posts, which may come in any order, keep nothing
+/// afterwards.
 ///
-/// A handle for the board that keeps something is a misuse, and so is one for a post that keeps none, and posts of two
-/// boards as far as that can be told. F15: posts lack. F6. After a refusal all is as it was.
+/// If `board` keeps something, or one of the handles keeps no post, the call is a misuse. Posts of two boards are
+/// refused as far as this can be detected. F15: posts are missing. F6: there is no memory. After a refusal everything
+/// is as it was.
 pub fn gather(alloc: Global, handles: &mut [Handle], board: &mut Handle) -> Result<(), Refusal>
     requires { KeepOneBoard (kept_by handles.old) }
     ensures { Gathers (kept_by handles.old) board.old.slot.value result (kept_by handles.new) board.new.slot.value }

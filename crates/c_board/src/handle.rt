@@ -39,7 +39,7 @@ impl Handle {
         self.word == 0
     }
 
-    /// Takes out what it keeps, if it keeps anything; then it keeps nothing.
+    /// Takes out what the handle keeps, if anything. Then it keeps nothing.
     #[inline(always)]
     pub fn take(&mut self, alloc: Global) -> Option<Box<Kept>>
         ensures some { IfSome result (λ kept. self.old.slot.value ≡ Some kept.value) }
@@ -54,7 +54,7 @@ impl Handle {
         Some(slot.into_loose(alloc).into_box())
     }
 
-    /// Puts this into it, where it keeps nothing.
+    /// Puts this into the handle, which keeps nothing.
     #[inline(always)]
     pub fn put(&mut self, kept: Box<Kept>)
         requires { self.old.slot.value ≡ None }
@@ -64,15 +64,15 @@ impl Handle {
         self.word = 1;
     }
 
-    /// Lets go of what it keeps, if it keeps anything: then the post or the board isn't there any more.
+    /// Frees what the handle keeps, if anything: then the post or the board doesn't exist any more.
     pub fn free(&mut self, alloc: Global)
         ensures { self.new.slot.value ≡ None }
     {
         drop(self.take(alloc));
     }
 
-    /// Lets go of what it keeps, and of the handle itself: for who has one in this language. In another one a handle
-    /// lies in memory of its caller's, and isn't let go of.
+    /// Frees what the handle keeps, and ends the handle itself: for owners of a handle in this language. In another
+    /// language a handle is in its caller's memory, and isn't ended.
     pub fn end(self, alloc: Global) {
         let mut handle = self;
         handle.free(alloc);

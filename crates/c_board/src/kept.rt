@@ -11,16 +11,16 @@ use std::alloc::{AllocError, Global};
 pub enum Kept {
     /// The post of an instance.
     Post(PostState),
-    /// What a whole board came to.
+    /// The result of gathering a whole board.
     Board(Gathered),
     /// Nothing, while it is moved elsewhere.
     Away,
 }
 
-// All kinds of a handle's content are as large as the greatest, and each move of one is compiled to more than a hundred
-// instructions. So what moves one stands here once.
+// All variants are as large as the largest, and each move of one is compiled to more than a hundred instructions. So
+// the functions that move one are compiled only once, and aren't inlined.
 impl Kept {
-    /// A box for what is to come.
+    /// A box that is to be filled.
     #[inline(never)]
     pub(crate) fn away(alloc: Global) -> Result<Box<Kept>, AllocError>
         ensures { IfOk result (λ kept. kept.value ≡ variant.Away) }
@@ -28,7 +28,7 @@ impl Kept {
         Ok(Box::new(alloc, Kept::Away)?)
     }
 
-    /// Makes it this post.
+    /// Replaces the content by this post.
     #[inline(never)]
     pub(crate) fn put_seat(&mut self, state: PostState)
         ensures { self.new ≡ variant.Post state }

@@ -1,12 +1,12 @@
-//! Posts and boards in the memory of another language: a [`Handle`] is two words, and what it keeps lies in a box.
+//! Posts and boards in the memory of another language: a [`Handle`] is two words, and its content is in a box.
 //!
-//! C has no lifetimes, so a handle borrows nothing: with its post it keeps the board's words, which go with the
-//! last post of the board, in whatever thread. Each call works in the box, in place. A call on a handle that keeps
-//! nothing, or something else than the call wants, is answered [`Refusal::Misuse`], and nothing has changed.
+//! C has no lifetimes, so a handle borrows nothing. With its post it keeps the board's words, which are freed with the
+//! last post of the board, in any thread. Each call works in place, in the box. If a handle keeps nothing, or not what
+//! a call wants, the call is refused with [`Refusal::Misuse`], and nothing has changed.
 //!
-//! `specs/Seats.antt` says what a contract sees of a post in a handle; `Sending` and its neighbours say what each
-//! call answers: what the call of `board` below it does, restated over the handle. `Refusals` has the number of
-//! each refusal.
+//! `specs/PostStates.antt` defines what a contract sees of a post in a handle. `Sending` and its neighbours define what
+//! each call answers: the answer of the call of `board` below it, restated for the handle. `Refusals` defines the
+//! number of each refusal.
 //!
 //! [`boards`] copies out what a gathered board has.
 #![tactic(auto)]

@@ -10,11 +10,11 @@ use crate::refusal::Refusal;
 use crate::taking::{put_posts, take_posts};
 use std::alloc::Global;
 
-/// All posts of a board meet: they have then all seen one history. They may come in any order, and the handles keep
-/// them.
+/// Lets all posts of a board meet: afterwards they have all seen one history. They may come in any order, and the
+/// handles keep them.
 ///
-/// A handle that keeps no post is a misuse, and so are posts of two boards as far as that can be told. F15: posts lack.
-/// F6: there is no memory for the lists. After a refusal all is as it was.
+/// A handle that keeps no post is a misuse. Posts of two boards are refused as far as this can be detected. F15: posts
+/// are missing. F6: there is no memory for the lists. After a refusal everything is as it was.
 pub fn meet(alloc: Global, handles: &mut [Handle]) -> Result<(), Refusal>
     requires { KeepOneBoard (kept_by handles.old) }
     ensures { Meets (kept_by handles.old) result (kept_by handles.new) }

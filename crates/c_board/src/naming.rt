@@ -1,11 +1,11 @@
-//! The name that a post sent last.
+//! The name given to a post's last send.
 ghost use Rattle.std.specs.Prelude.{◌≡◌, Err, IfErr, OnOk};
 ghost use Rattle.chart.specs.Names.{IsName, name_of};
 
 use chart::{MAX_NAME, Name, NameError};
 use std::marker::Model;
 
-/// Some name, for a post that has sent none.
+/// Any name, for a post that has sent none.
 fn any_name() -> Name {
     match Name::new(b"a") {
         Ok(name) => name,
@@ -13,12 +13,12 @@ fn any_name() -> Name {
     }
 }
 
-/// A name whose bytes lie at hand. A contract sees the name.
+/// A name with a copy of its bytes. A contract sees the name.
 #[derive(Drop)]
 pub(crate) struct Known {
     pub(crate) name: Name,
     length: usize,
-    /// The bytes of the name, and behind them any.
+    /// The bytes of the name, followed by any bytes.
     text: [u8; MAX_NAME],
 }
 
@@ -48,15 +48,15 @@ impl Known {
         }
     }
 
-    /// Some name, for a post that has sent none.
+    /// Any name, for a post that has sent none.
     pub(crate) fn any() -> Known {
         Known::of(any_name())
     }
 
-    /// Makes the name of these bytes the known one. The first of F1 to F4 refuses it.
+    /// Makes the name with these bytes the known one. The first of F1 to F4 that applies refuses it.
     ///
-    /// Most posts send messages of few names. So the bytes are compared with the known name first, and looked at one
-    /// by one only where they aren't those.
+    /// Most posts send messages with few names. So the bytes are first compared with the known name. They are checked
+    /// one by one only if they differ from it.
     #[inline(always)]
     pub(crate) fn know(&mut self, bytes: &[u8]) -> Result<(), NameError>
         ensures ok { OnOk result ((self.new ≡ bytes.now) × IsName bytes.now) }
@@ -68,7 +68,8 @@ impl Known {
         self.learn(bytes)
     }
 
-    /// Makes the name of these bytes the known one, which it isn't. The first of F1 to F4 refuses it.
+    /// Makes the name with these bytes, which isn't the known one, the known one. The first of F1 to F4 that applies
+    /// refuses it.
     #[inline(never)]
     fn learn(&mut self, bytes: &[u8]) -> Result<(), NameError>
         ensures ok { OnOk result ((self.new ≡ bytes.now) × IsName bytes.now) }

@@ -91,9 +91,9 @@ fn new_posts(alloc: Global, instances: usize, capacity: usize) -> Result<Vec<Box
     }
 }
 
-/// Opens a board of as many instances as handles, whose lanes have so many slots. Each handle then keeps a post, in
-/// order of their instances. A handle that keeps something is a misuse. Then F8, F9 and F6 refuse it; then all of them
-/// still keep nothing.
+/// Opens a board with an instance for each handle, whose lanes have `capacity` slots. Then each handle keeps a post, in
+/// order of their instances. A handle that already keeps something is a misuse. Otherwise the first of F8, F9 and F6
+/// that applies refuses it. After a refusal the handles keep what they kept.
 pub fn open(alloc: Global, handles: &mut [Handle], capacity: u32) -> Result<(), Refusal>
     ensures { Opens capacity (kept_by handles.old) result (kept_by handles.new) }
 {

@@ -6,8 +6,8 @@ use chart::InstanceNo;
 use std::marker::Model;
 use std::sync::Arc;
 
-/// A post that keeps its board's words, whom it got a message from last, the messages of the last call that got some,
-/// and the name that it sent last, or any.
+/// A post with its board's words. It also keeps the instance from which it received last, and the messages of the last
+/// call that received some. `known` is the name given to its last send, or any name.
 #[derive(Drop)]
 pub struct PostState {
     pub(crate) table: Arc<BoardTable>,

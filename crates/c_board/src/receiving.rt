@@ -14,7 +14,7 @@ use board::{Arrival, Parked, Peek, Taken};
 use chart::{InstanceNo, Message};
 use std::alloc::Global;
 
-/// What is told of a message.
+/// The description of a message.
 #[inline(always)]
 pub(crate) fn arrived_of(arrival: &Arrival) -> Arrived
     ensures { result ≡ arrived_of arrival.now }
@@ -28,9 +28,10 @@ pub(crate) fn arrived_of(arrival: &Arrival) -> Arrived
     }
 }
 
-/// The message, with the name that the event of its receive has, which is the last of the line.
+/// The message, with the name that the event of its receive has. This is the last event of the line.
 ///
-/// Both are the same name. Where that of the message isn't read, what moves it through the calls below is left out.
+/// Both names are equal. Because the message's own name isn't read, the compiler drops the code that moves it through
+/// the calls below.
 #[inline(always)]
 fn as_recorded(post: &Parked, message: Message) -> Message
     requires { IsLastNamed post.now message.name }
@@ -46,7 +47,7 @@ fn as_recorded(post: &Parked, message: Message) -> Message
 }
 
 impl PostState {
-    /// Receives the first message that waits on the lane from an instance, and tells of it.
+    /// Receives the first message that waits on the lane from an instance, and describes it in `output`.
     #[inline(always)]
     fn receive(&mut self, from: u32, output: &mut Arrived) -> Result<Peek, Refusal>
         ensures answer { SeatTakes self.old from (found_with result output.new) self.new }
@@ -78,8 +79,8 @@ impl PostState {
         }
     }
 
-    /// Receives the first message that waits on the lanes from the others, in cyclic order after the instance that it
-    /// got a message from last.
+    /// Receives the first message that it finds on the lanes from the other instances. It looks at them in cyclic
+    /// order, after the instance from which it received last.
     fn any(&mut self) -> Result<Found, Refusal>
         ensures { SeatTakesAny self.old result self.new }
     {
@@ -103,7 +104,7 @@ impl PostState {
 }
 
 impl Kept {
-    /// Receives over the post that it is.
+    /// Receives from an instance, if a post is kept.
     #[inline(always)]
     fn receive(&mut self, from: u32, output: &mut Arrived) -> Result<Peek, Refusal>
         ensures answer { KeptTakes self.old from (found_with result output.new) self.new }
@@ -115,7 +116,7 @@ impl Kept {
         }
     }
 
-    /// Receives from any instance over the post that it is.
+    /// Receives from any instance, if a post is kept.
     fn any(&mut self) -> Result<Found, Refusal>
         ensures { KeptTakesAny self.old result self.new }
     {
@@ -127,10 +128,10 @@ impl Kept {
 }
 
 impl Handle {
-    /// Receives the first message that waits on the lane from an instance, and tells of it. It stays in the handle
-    /// until the next one comes, and nothing but a number that no instance has refuses it before the post does.
+    /// Receives the first message that waits on the lane from an instance, and describes it in `output`. It stays in
+    /// the handle until the next one comes. F14, for a number that no instance has, refuses it before the post does.
     ///
-    /// What is told is written where the caller reads it: what goes through an answer goes through memory twice.
+    /// The description is written to where the caller reads it: a returned value would go through memory twice.
     pub fn receive(
         &mut self,
         alloc: Global,
@@ -148,8 +149,8 @@ impl Handle {
         result
     }
 
-    /// Receives the first message that it finds on the lanes from the other instances, which it looks at in cyclic
-    /// order, beginning after the instance that it got a message from last. The message stays in the handle.
+    /// Receives the first message that it finds on the lanes from the other instances. It looks at them in cyclic
+    /// order, beginning after the instance from which it received last. The message stays in the handle.
     pub fn any(&mut self, alloc: Global) -> Result<Found, Refusal>
         ensures { HandleTakesAny self.old.slot.value result self.new.slot.value }
     {

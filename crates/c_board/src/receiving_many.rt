@@ -15,7 +15,7 @@ use board::{Arrival, TakenMany};
 use chart::InstanceNo;
 use std::alloc::Global;
 
-/// Tells of these messages, one by one, as many as find room.
+/// Describes these messages one by one, as many as there is room for.
 fn copy_each(arrivals: &[Arrival], output: &mut [Arrived])
     ensures { output.new ≡ put_over (map arrived_of arrivals.now) output.old }
 {
@@ -26,7 +26,7 @@ fn copy_each(arrivals: &[Arrival], output: &mut [Arrived])
 }
 
 impl PostState {
-    /// Receives the first messages that wait on the lane from an instance, at most as many as there is room to tell of.
+    /// Receives the first messages that wait on the lane from an instance, at most as many as `output` has places.
     fn receive_up_to(&mut self, from: u32, output: &mut [Arrived]) -> Result<FoundMany, Refusal>
         ensures { SeatTakesMany self.old from output.old result self.new output.new }
     {
@@ -53,7 +53,7 @@ impl PostState {
 }
 
 impl Kept {
-    /// Receives several messages over the post that it is.
+    /// Receives several messages, if a post is kept.
     fn receive_up_to(&mut self, from: u32, output: &mut [Arrived]) -> Result<FoundMany, Refusal>
         ensures { KeptTakesMany self.old from output.old result self.new output.new }
     {
@@ -65,12 +65,12 @@ impl Kept {
 }
 
 impl Handle {
-    /// Receives the first messages that wait on the lane from an instance, at most as many as there is room to tell of,
-    /// and tells of each. They stay in the handle until the next ones come.
+    /// Receives the first messages that wait on the lane from an instance, at most as many as `output` has places, and
+    /// describes each there. They stay in the handle until the next ones come.
     ///
-    /// A number that no instance has, and no room at all, which is a misuse, refuse it before the post does. What stops
-    /// it behind the first message is told with those that came: the message that was refused is still the first of its
-    /// lane.
+    /// F14 for a number that no instance has, and a misuse if `output` is empty, refuse it before the post does. If
+    /// something stops it after the first message, the answer has the messages that came, and the reason. The message
+    /// that was refused is still the first of its lane.
     pub fn receive_up_to(
         &mut self,
         alloc: Global,

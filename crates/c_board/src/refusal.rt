@@ -8,7 +8,7 @@ use chart::NameError;
 /// Why a call is refused.
 #[derive(Clone, Copy)]
 pub enum Refusal {
-    /// The handle keeps nothing, or something else than the call wants.
+    /// The handle keeps nothing, or not what the call wants.
     Misuse,
     /// F1 to F4: the bytes are no name.
     Naming(NameError),
@@ -20,11 +20,12 @@ pub enum Refusal {
     NoInstance,
     /// F31: the line has no event of this number.
     NoEvent,
-    /// F15: the posts are none, or not all of their board.
+    /// F15: there are no posts, or not all of their board.
     NotAllPosts,
-    /// The posts are of two boards, as far as the counts of their tables' owners tell. No contract sees these.
+    /// The posts are of two boards, as far as the owner counts of their tables show this. No contract sees these
+    /// counts.
     OtherBoard,
-    /// F22: two instances are to have one name.
+    /// F22: two instances would have one name.
     NameTwice,
     /// F8, F9, F6: no board is made.
     Opening(BoardError),
@@ -117,7 +118,7 @@ fn region_number(error: RegionError) -> u32
 }
 
 impl Refusal {
-    /// Its number, as in `docs/FORMATS.md`; 100 for a misuse and for posts of two boards.
+    /// The refusal's number, as in `docs/reference/refusals.md`; 100 for a misuse and for posts of two boards.
     #[inline(always)]
     pub fn number(self) -> u32
         ensures value { result ≡ number_of self }

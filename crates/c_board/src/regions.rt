@@ -49,7 +49,8 @@ impl Kept {
 }
 
 impl Handle {
-    /// Opens a coregion, which the post's receives are in from now on: their order isn't claimed. F28: one is open.
+    /// Opens a coregion, to which the post's receives belong from now on: their order isn't claimed. F28: a coregion is
+    /// open already.
     pub fn open_coregion(&mut self, alloc: Global) -> Result<(), Refusal>
         ensures { HandleOpens self.old.slot.value result self.new.slot.value }
     {
@@ -61,7 +62,7 @@ impl Handle {
         result
     }
 
-    /// Closes the coregion that is open. F29: none is.
+    /// Closes the open coregion. F29: no coregion is open.
     pub fn close_coregion(&mut self, alloc: Global) -> Result<(), Refusal>
         ensures { HandleShuts self.old.slot.value result self.new.slot.value }
     {

@@ -1,4 +1,4 @@
-//! Room for a post's events, over a handle.
+//! Room for the events of a post in a handle.
 ghost use Rattle.std.specs.Prelude.{◌≡◌};
 ghost use Rattle.c_board.specs.Reserving.{SeatReserves, KeptReserves, HandleReserves};
 
@@ -33,9 +33,9 @@ impl Kept {
 }
 
 impl Handle {
-    /// Makes room on the post's line for so many events, at most [`MAX_EVENTS`], since no line has more. While there is
-    /// room, on boards of up to [`clock::INLINE_ENTRIES`] instances, a send needs no memory but for the body. F6: then
-    /// nothing has changed.
+    /// Makes room on the post's line for at least `events` further events, but for at most [`MAX_EVENTS`], since no
+    /// line has more. While there is room, a send on a board of up to [`clock::INLINE_ENTRIES`] instances needs memory
+    /// only for the body. F6: there is no memory, and then nothing has changed.
     pub fn reserve(&mut self, alloc: Global, events: u32) -> Result<(), Refusal>
         ensures { HandleReserves self.old.slot.value events result self.new.slot.value }
     {

@@ -22,7 +22,7 @@ fn copied(alloc: Global, bytes: &[u8]) -> Result<Vec<u8>, AllocError>
     Ok(copy)
 }
 
-/// The message of these bytes. The first of F1 to F6 refuses it.
+/// The message with these bytes. The first of F1 to F6 that applies refuses it.
 pub(crate) fn message_of(alloc: Global, name: &[u8], body: &[u8]) -> Result<Message, Refusal>
     ensures { MakesMessage name.now body.now result }
 {
@@ -43,7 +43,7 @@ pub(crate) fn message_of(alloc: Global, name: &[u8], body: &[u8]) -> Result<Mess
 }
 
 impl PostState {
-    /// Sends a message of this name and body.
+    /// Sends a message with this name and body.
     #[inline(always)]
     pub(crate) fn send(
         &mut self,
@@ -78,7 +78,7 @@ impl PostState {
 }
 
 impl Kept {
-    /// Sends a message over the post that it is.
+    /// Sends a message from the post, if a post is kept.
     #[inline(always)]
     fn send(&mut self, alloc: Global, to: u32, name: &[u8], body: &[u8]) -> Result<EventNo, Refusal>
         ensures { KeptSends self.old to name.now body.now result self.new }
@@ -91,8 +91,8 @@ impl Kept {
 }
 
 impl Handle {
-    /// Sends a message of this name and body over the post, and tells its event. A number that no instance has, F1 to
-    /// F5 and F6 refuse it before the post does; then nothing has changed.
+    /// Sends a message with this name and body from the post, and returns its event. F14 for a number that no instance
+    /// has, F1 to F5, and F6 refuse it before the post does. Then nothing has changed.
     pub fn send(
         &mut self,
         alloc: Global,

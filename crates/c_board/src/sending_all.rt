@@ -14,8 +14,8 @@ use board::Sent;
 use chart::{InstanceNo, Message};
 use std::alloc::Global;
 
-/// The messages whose names and bodies lie one after another in these bytes, of these lengths. The first of F1 to F6
-/// that a message meets refuses them.
+/// The messages whose names and bodies are one after another in these bytes, with these lengths. The first of F1 to F6
+/// that applies to a message refuses them.
 fn messages_in(
     alloc: Global,
     bytes: &[u8],
@@ -37,7 +37,7 @@ fn messages_in(
     Ok(messages)
 }
 
-/// The number of the first of these sends, or 0 where there is none.
+/// The number of the first of these sends, or 0 if there is none.
 fn first_event(sents: &[Sent]) -> u32
     ensures { result ≡ first_event sents.now }
 {
@@ -87,9 +87,9 @@ impl Kept {
 }
 
 impl Handle {
-    /// Sends all of the messages whose names and bodies lie one after another in `bytes`, of these lengths, one
-    /// directly after another, or none of them. It tells the number of the first send, 0 where there is no message. A
-    /// number that no instance has, and F1 to F6 of the messages refuse it before the post does.
+    /// Sends all messages whose names and bodies are one after another in `bytes`, with these lengths, or none of them.
+    /// The messages are sent one directly after another. It returns the number of the first send, or 0 if there is no
+    /// message. F14 for a number that no instance has, and F1 to F6 of the messages refuse it before the post does.
     pub fn send_all(
         &mut self,
         alloc: Global,

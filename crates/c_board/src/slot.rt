@@ -11,7 +11,7 @@ use std::alloc::Global;
 use std::marker::Model;
 use std::ptr::null_mut;
 
-/// A pointer that owns the box behind it, where there is one.
+/// A pointer that owns its box, if there is one.
 #[repr(C)]
 #[derive(Drop)]
 pub struct Slot {
@@ -32,7 +32,7 @@ impl Slot {
         Slot { at: null_mut() }
     }
 
-    /// This box.
+    /// A pointer to this box.
     #[inline(always)]
     pub(crate) fn full(loose: Loose<Kept, Global>) -> Slot
         ensures { result.value ≡ Some loose.value }
@@ -41,7 +41,7 @@ impl Slot {
         Slot { at: at as *mut u8 }
     }
 
-    /// The box that there is.
+    /// The box, which exists.
     #[inline(always)]
     pub(crate) fn into_loose(self, alloc: Global) -> Loose<Kept, Global>
         requires { self.value ≡ None → ⊥ }
@@ -55,5 +55,5 @@ impl Slot {
     }
 }
 
-// What is in the box may go to another thread, and nobody else has the pointer.
+// The content of the box may move to another thread, and nobody else has the pointer.
 unsafe impl Send for Slot {}

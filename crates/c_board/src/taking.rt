@@ -53,8 +53,8 @@ fn have_posts(alloc: Global, handles: &mut [Handle]) -> bool
     true
 }
 
-/// Whether two tables are one, as far as it can be told: their owners are counted together, so one owner more of the
-/// first is one more of the second. No contract sees the count.
+/// Whether two tables are one, as far as this can be detected. The owners of one table are counted together, so one
+/// more owner of the first is also one more owner of the second. No contract sees the count.
 fn is_one_table(one: &Arc<BoardTable>, other: &Arc<BoardTable>) -> bool {
     let before = Arc::strong_count(other);
     match Arc::try_clone(one) {
@@ -63,7 +63,7 @@ fn is_one_table(one: &Arc<BoardTable>, other: &Arc<BoardTable>) -> bool {
     }
 }
 
-/// Whether these seats are at one table, as far as it can be told.
+/// Whether these seats are at one table, as far as this can be detected.
 fn are_at_one_table(chairs: &[Chair]) -> bool {
     for chair in chairs {
         if !is_one_table(&chairs[0].table, &chair.table) {
@@ -95,7 +95,7 @@ fn take_each(
     }
 }
 
-/// Puts posts into their seats, and these into handles, in their order.
+/// Puts the posts into their seats, and the seats into the handles, in order.
 pub(crate) fn put_posts(handles: &mut [Handle], chairs: Vec<Chair>, posts: Vec<Parked>)
     requires empty { AreEmpty (kept_by handles.old) }
     requires fit { AreFit chairs.items posts.items }
@@ -109,7 +109,7 @@ pub(crate) fn put_posts(handles: &mut [Handle], chairs: Vec<Chair>, posts: Vec<P
     }
 }
 
-/// Lists for so many posts and their seats.
+/// Lists for `many` posts and their seats.
 fn make_lists(alloc: Global, many: usize) -> Result<Taken, AllocError>
     ensures none { IfOk result (λ made. (made.chairs.items ≡ []) × (made.posts.items ≡ [])) }
     ensures room { IfOk result (λ made. (many ≤ vec_capacity made.chairs) × (many ≤ vec_capacity made.posts)) }
@@ -120,9 +120,9 @@ fn make_lists(alloc: Global, many: usize) -> Result<Taken, AllocError>
     })
 }
 
-/// Takes the posts out of these handles, which then keep nothing. A handle that keeps no post is a misuse; then no
-/// handle at all is F15. Posts of two boards are refused too, as far as that can be told, and F6 for want of memory for
-/// the lists. After a refusal all is as it was.
+/// Takes the posts out of these handles, which then keep nothing. F15: there are no handles. Then a handle that keeps
+/// no post is a misuse, and F6 means that there is no memory for the lists. Posts of two boards are refused too, as far
+/// as this can be detected. After a refusal everything is as it was.
 pub(crate) fn take_posts(alloc: Global, handles: &mut [Handle]) -> Result<Taken, Refusal>
     ensures { TakesPosts (kept_by handles.old) result (kept_by handles.new) }
 {

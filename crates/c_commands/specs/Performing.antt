@@ -1,5 +1,5 @@
--- What the program does with the bytes of a file, where its texts go into a caller's buffers (this project's profile):
--- as much of each as there is room for.
+-- What the program does with the bytes of a file, if its texts go into a caller's buffers (this project's profile): as
+-- much of each as there is room for.
 use Rattle.std.specs.Prelude.{◌≡◌, ℕ, ◌==◌, List, [], length, Option, None, Some, Result, Ok, Err, if◌then◌else◌}
 use Rattle.cmd_base.specs.Answers.{Answers}
 use Rattle.c_board.specs.Copying.{put_over}
@@ -11,21 +11,21 @@ use Rattle.cmd_run.specs.declared.task.Task.{Task}
 use Rattle.cmd_run.specs.declared.task.Task.TheVariants.{Replay, Random, Check}
 use Rattle.c_commands.specs.declared.performing.Performed.{Performed}
 
--- the task of a number
+-- the task with a number
 abbrev pub task_in : ℕ → ℕ → Option Task
 task_in number seed =
     if number == 0 then Some Replay
     else (if number == 1 then Some (Random seed) else (if number == 2 then Some Check else None))
 
--- what is known of a text in memory
+-- a text in memory as a sink
 abbrev pub in_memory : Stored → Sink
 in_memory s = record { contents = Some s.bytes; failures = s.failures }
 
 abbrev pub nothing : Stored
 nothing = record { bytes = []; failures = 0 }
 
--- the program writes these texts, beginning with none, and exits with the status; the buffers have of them what there
--- is room for, and the lengths are told
+-- the program writes these texts from an empty start, and exits with the status. The buffers have as much of them as
+-- there is room for, and the result has their whole lengths
 pub record IsDone (task : Task) (bytes room_out room_err : List ℕ) (performed : Performed)
     (out err : List ℕ) : Type 0 where
   pub written : Stored
@@ -36,7 +36,7 @@ pub record IsDone (task : Task) (bytes room_out room_err : List ℕ) (performed 
   pub out_length : performed.out ≡ length written.bytes
   pub err_length : performed.err ≡ length diagnostics.bytes
 
--- the task is done, or there is none and the buffers stay
+-- the task is done, or there is none and the buffers stay as they were
 abbrev pub Performs : Option Task → List ℕ → List ℕ → List ℕ → Result Performed Refusal → List ℕ → List ℕ → Type 0
 Performs None bytes room_out room_err result out err = (result ≡ Err why.Misuse) × (out ≡ room_out) × (err ≡ room_err)
 Performs (Some task) bytes room_out room_err (Ok performed) out err =

@@ -4,7 +4,7 @@ use Rattle.cmd_base.specs.declared.error.ProgramError.{ProgramError}
 use Rattle.cmd_base.specs.declared.error.ProgramError.TheVariants as errors
 use Rattle.c_commands.specs.declared.given.Bytes.{Bytes}
 
--- what is given where a text stands, or none: then the file can't be read
+-- the content for a file with a text, or without one: then the file can't be read
 abbrev pub given_at : Option Bytes → Result (List ℕ) ProgramError
 given_at None = Err errors.File
 given_at (Some text) = Ok text.bytes.now

@@ -1,4 +1,4 @@
-//! Tasks whose texts are put into buffers.
+//! Tasks whose texts are written into buffers.
 ghost use Rattle.std.specs.Prelude.{◌≡◌};
 ghost use Rattle.c_commands.specs.Performing.{task_in, IsDone, Performs};
 
@@ -7,16 +7,16 @@ use cmd_run::{Task, perform};
 use std::alloc::Global;
 use texts::MemoryOut;
 
-/// What a task came to: the exit status, and how many bytes are written to standard output and to standard error.
+/// The result of a task: the exit status, and how many bytes were written to standard output and to standard error.
 #[derive(Clone, Copy)]
 pub struct Performed {
-    /// 0, 1 where there are races, or 2 after a refusal.
+    /// 0, 1 if there are races, or 2 after a refusal.
     pub status: u8,
     pub out: usize,
     pub err: usize,
 }
 
-/// The task of this number: 0 replays a schedule, 1 replays it in the order that the seed draws, 2 checks a chart.
+/// The task with this number: 0 replays a schedule, 1 replays it in the order that the seed draws, 2 checks a chart.
 fn task_in(number: u32, seed: u64) -> Option<Task>
     ensures { result ≡ task_in number seed }
 {
@@ -28,7 +28,7 @@ fn task_in(number: u32, seed: u64) -> Option<Task>
     }
 }
 
-/// Does the task with the bytes of a file, and puts what is written into the buffers.
+/// Does the task with the bytes of a file, and writes its texts into the buffers.
 fn perform_task(
     alloc: Global,
     task: &Task,
@@ -48,15 +48,14 @@ fn perform_task(
     }
 }
 
-/// Does the task of this number with the bytes of a file, as `mscrun` does: 0 replays the schedule that they are, 1
-/// replays it in the order that the seed draws, 2 checks the chart that they are. What the program writes to standard
-/// output is put into `out`, and what it writes to standard error into `err`: as much as there is room for. Their whole
-/// lengths are told.
+/// Does the task with this number on the bytes of a file, as `mscrun` does. Task 0 replays the schedule in these bytes,
+/// and task 1 replays it in the order that the seed draws. Task 2 checks the chart in these bytes. Standard output goes
+/// into `out`, and standard error into `err`, as much as there is room for. The result has their whole lengths.
 ///
-/// It takes memory for both texts while it works. Where there is none for them the status is 2, and `err` has the line
-/// of F24 or a part of it.
+/// It takes memory for both texts while it works. If there is none for them, the status is 2, and `err` has the line of
+/// F24 or a part of it.
 ///
-/// [`Refusal::Misuse`] where no task has the number: then nothing is done, and the buffers stay.
+/// [`Refusal::Misuse`]: no task has this number. Then nothing is done, and the buffers stay as they were.
 pub fn perform_into(
     alloc: Global,
     task: u32,

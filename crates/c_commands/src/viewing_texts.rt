@@ -1,4 +1,4 @@
-//! Command lines whose files are texts in memory, and whose texts are put into buffers.
+//! Command lines whose files are texts in memory, and whose output is written into buffers.
 ghost use Rattle.std.specs.Prelude.{◌≡◌, ◌∷◌, length, map, codes, IfOk, IfErr};
 ghost use Rattle.mscview_requests.specs.Lines.{RefusesWords};
 ghost use Rattle.c_commands.specs.Viewing.{IsViewed, IsRefused, Views, ViewsSome};
@@ -13,7 +13,7 @@ use std::alloc::Global;
 use std::str::from_utf8;
 use texts::MemoryOut;
 
-/// The words of a command line, of which the first is the program's name. G1: a word isn't text.
+/// The words of a command line, with the program's name first. G1: a word isn't text. F6: a growth was refused.
 fn words_in<'a>(alloc: Global, words: &[Bytes<'a>]) -> Result<Vec<&'a str>, ProgramError>
     ensures words { IfOk result (λ all. map (λ w. w.now) all.items ≡ codes "mscview" ∷ map (λ w. w.bytes.now) words.now) }
     ensures refused { IfErr result RefusesWords }
@@ -33,7 +33,7 @@ fn words_in<'a>(alloc: Global, words: &[Bytes<'a>]) -> Result<Vec<&'a str>, Prog
     Ok(all)
 }
 
-/// Does what is asked for with the texts, and puts what is written into the buffers.
+/// Does the request with the texts, and writes its output into the buffers.
 fn view_texts(
     alloc: Global,
     request: &Request<'_>,
@@ -54,7 +54,7 @@ fn view_texts(
     }
 }
 
-/// Tells why the words ask for nothing.
+/// Writes why the words are no request.
 fn refuse(alloc: Global, error: ProgramError, out: &mut [u8], err: &mut [u8]) -> Performed
     ensures { IsRefused error out.old err.old result out.new err.new }
 {
@@ -67,12 +67,12 @@ fn refuse(alloc: Global, error: ProgramError, out: &mut [u8], err: &mut [u8]) ->
     }
 }
 
-/// Does what a command line asks for, as `mscview` does it, whose files are these texts: the first file that it reads
-/// is the first text, and so on, and standard input is one of them. What the program writes to standard output is put
-/// into `out`, and what it writes to standard error into `err`: as much as there is room for. Their whole lengths are
-/// told.
+/// Does the request of a command line, as `mscview` does it, with these texts as its files. The first file that it
+/// reads is the first text, and so on, and standard input is one of them. Standard output goes into `out`, and standard
+/// error into `err`, as much as there is room for. The result has their whole lengths.
 ///
-/// [`Refusal::Misuse`] where the request reads another number of files: then nothing is done, and the buffers stay.
+/// [`Refusal::Misuse`]: the request doesn't read as many files as there are texts. Then nothing is done, and the
+/// buffers stay as they were.
 pub fn view_request_into(
     alloc: Global,
     request: &Request<'_>,
@@ -88,7 +88,7 @@ pub fn view_request_into(
     Ok(view_texts(alloc, request, texts, out, err))
 }
 
-/// The same of the words of a command line, of which the first is the program's name.
+/// The same for the words of a command line, with the program's name first.
 fn view_words(
     alloc: Global,
     words: &[&str],
@@ -104,9 +104,8 @@ fn view_words(
     }
 }
 
-/// Does what the words of a command line ask for, without the program's name, as [`view_request_into`] does it. What
-/// `mscview` refuses of words (G1, F6) is refused likewise, with status 2 and the refusal's line in `err`, or a part of
-/// it.
+/// Does the request of the words of a command line, without the program's name, as [`view_request_into`] does it. It
+/// refuses the words that `mscview` refuses (G1, F6), with status 2 and the refusal's line in `err`, or a part of it.
 pub fn view_into(
     alloc: Global,
     words: &[Bytes<'_>],

@@ -1,4 +1,4 @@
--- Histories between which nobody, or one instance alone, has gone on.
+-- A history and its beginning, if no instance, or only one, did anything in between.
 use Rattle.std.proofs.Common.{◌≡◌, ◌≢◌, ℕ, ◌≤◌, cond, List, [], ◌∷◌, ◌++◌, length, refl, sym, ap, ◌∙◌, subst, arith, ⊎_elim, length-append}
 use Rattle.std.proofs.lemmas.Bool.{eq-eqb, ne_eqb, cases_eq}
 use Rattle.chart.specs.declared.history.Occurrence.{Occurrence}
@@ -7,7 +7,7 @@ use Rattle.chart.specs.Histories.{by, own, MayFollow, IsLegal, Begins}
 use Rattle.chart.proofs.Histories.{begins_onward, own_begins}
 use Rattle.chart.proofs.Begun.{legal_begun}
 
--- a history that is no longer than its beginning is this
+-- a history that is no longer than its beginning is the same as this
 pub no_longer : (h g : List Occurrence) → Begins h g → length g ≤ length h → g ≡ h
 no_longer h g ([], same) le = same
 no_longer h g (e ∷ more, same) le = absurd (omega (arith, ap length same, length-append more h))
@@ -15,13 +15,13 @@ no_longer h g (e ∷ more, same) le = absurd (omega (arith, ap length same, leng
 pub begins_longer : (h g : List Occurrence) → Begins h g → length h ≤ length g
 begins_longer h g (more, same) = omega (arith, ap length same, length-append more h)
 
--- who did it is one of the instances
+-- the instance that did it is one of the n instances
 by_one : (n k : ℕ) (h : List Occurrence) (e : Occurrence) → MayFollow n k h e → (1 ≤ by e) × (by e ≤ n)
 by_one n k h (Send p q m) may = (may.0.0, may.0.1)
 by_one n k h (Receive p q c) may = (may.0.0, may.0.1)
 by_one n k h (Close p q) may = (may.0.0, may.0.1)
 
--- where each instance did the same in a history as in its beginning, it is this
+-- if each instance did the same in a history as in its beginning, the two are the same
 pub nothing_more : (n k : ℕ) (h g : List Occurrence) → IsLegal n k g → Begins h g → ((q : ℕ) → 1 ≤ q → q ≤ n → own g q ≡ own h q) → g ≡ h
 nothing_more n k h g legal ([], same) each = same
 nothing_more n k h g legal (e ∷ more, same) each =
@@ -31,12 +31,12 @@ nothing_more n k h g legal (e ∷ more, same) each =
     let long = begins_longer (own h (by e)) (own (more ++ h) (by e)) (own_begins h (more ++ h) (more, refl) (by e)) in
     absurd (omega (arith, ap length grown, ap length (each (by e) one.0 one.1), long))
 
--- what stands between two histories in which it did the same has the same of its
+-- if an instance did the same in two histories, it did the same in a history between them
 pub between : (h f g : List Occurrence) (q : ℕ) → Begins h f → Begins f g → own g q ≡ own h q → own f q ≡ own h q
 between h f g q one two same =
     no_longer (own h q) (own f q) (own_begins h f one q) (omega (arith, ap length same, begins_longer (own f q) (own g q) (own_begins f g two q)))
 
--- The one event e is all that was done since h, and by p: it came directly after h.
+-- Suppose that e, which p did, is all that was done since h. Then it came directly after h.
 module _ (n k : ℕ) (h before g : List Occurrence) (e : Occurrence) (p : ℕ) (its : by e ≡ p) (legal : IsLegal n k g)
     (first : Begins h before) (then : Begins (e ∷ before) g) (mine : own g p ≡ e ∷ own h p)
     (others : (q : ℕ) → 1 ≤ q → q ≤ n → q ≢ p → own g q ≡ own h q) where

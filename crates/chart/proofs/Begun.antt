@@ -1,4 +1,4 @@
--- What stays as it is from a legal history to one that begins with it.
+-- What stays the same from a legal history to one that begins with it.
 use Rattle.std.proofs.Common.{◌≡◌, ℕ, ◌≤◌, ◌↔◌, List, [], ◌∷◌, ◌++◌, length, ap, ◌∙◌, subst}
 use Rattle.chart.specs.declared.history.Occurrence.{Occurrence}
 use Rattle.chart.specs.Events.{is_send_to}
@@ -11,7 +11,7 @@ use Rattle.chart.proofs.Belongs.{IsEvent-from_passes}
 use Rattle.chart.proofs.Growing.{GrowsTo, chart_event_grown, tally_grown, passes_grown, belongs_grown, belongs_shrunk, before_grown, before_shrunk, known_grown, report_grown, heard_grown}
 use Rattle.chart.proofs.Sends.{grows_by_events, sends_of}
 
--- what a legal history begins with is legal
+-- a beginning of a legal history is legal
 pub legal_begun : (n k : ℕ) (h g : List Occurrence) → Begins h g → IsLegal n k g → IsLegal n k h
 legal_begun n k h g (more, e) legal = go more (subst (λ x. IsLegal n k x) e legal)
   where
@@ -53,6 +53,6 @@ known_begun n k h g legal begins = known_grown (chart_of h) (chart_of g) (grows_
 pub report_begun : (n k : ℕ) (h g : List Occurrence) → IsLegal n k h → Begins h g → (r : Place) (report : List ℕ) → IsEvent (chart_of h) r → IsReport (chart_of h) r report → IsReport (chart_of g) r report
 report_begun n k h g legal begins = report_grown (chart_of h) (chart_of g) (grows_from_begun h g begins) (sends_of n k h legal)
 
--- what is most heard up to an event
+-- the greatest heard of the first events of a line
 pub heard_begun : (n k : ℕ) (h g : List Occurrence) → IsLegal n k h → Begins h g → (p i q m : ℕ) → i ≤ length (chart_of h p) → IsGreatestHeard (chart_of h) p i q m → IsGreatestHeard (chart_of g) p i q m
 heard_begun n k h g legal begins = heard_grown (chart_of h) (chart_of g) (grows_from_begun h g begins) (sends_of n k h legal)

@@ -1,4 +1,4 @@
--- Which send a receive belongs to: one only, and an earlier receive from the same sender belongs to an earlier send.
+-- Which send a receive belongs to: only one, and an earlier receive from the same sender belongs to an earlier send.
 use Rattle.std.proofs.Common.{◌≡◌, ℕ, Bool, true, Some, refl, sym, ap, ◌∙◌, subst, arith, eqb-true}
 use Rattle.std.proofs.lemmas.Option.{same_Some}
 use Rattle.std.proofs.lemmas.Bool.{false≢true}
@@ -18,7 +18,7 @@ same_place e f p q = ap (λ x. at x e.index) p ∙ ap (λ x. at f.instance x) q
 pub IsEvent-from_event : (c : Chart) (e : Place) (m : Event) → chart_event c e ≡ Some m → IsEvent c e
 IsEvent-from_event c e m h = ith_within (c e.instance) e.index m h
 
--- where an event passes a test there is an event
+-- a place whose event passes a test has an event
 pub IsEvent-from_passes : (c : Chart) (test : Event → Bool) (e : Place) → Passes test (c e.instance) e.index → IsEvent c e
 IsEvent-from_passes c test e (m, h, t) = ith_within (c e.instance) e.index m h
 
@@ -82,6 +82,6 @@ earlier_send c s r d b l from =
       },
     )
 
--- of three events of a line
+-- an event that is earlier than an earlier one is earlier
 pub IsEarlier-trans : (d e f : Place) → IsEarlier d e → IsEarlier e f → IsEarlier d f
 IsEarlier-trans d e f l m = record { line = l.line ∙ m.line; begun = l.begun; less = omega arith }

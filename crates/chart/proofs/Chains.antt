@@ -19,12 +19,12 @@ joined : {c : Chart} {e d f : Place} → Chain c e d → Chain c d f → Chain c
 joined x (only s) = then x s
 joined x (then y s) = then (joined x y) s
 
--- what is before ends in a direct step
+-- each ordered pair has a chain, which ends in a direct step
 pub chain_of : {c : Chart} {e f : Place} → Before c e f → Chain c e f
 chain_of (direct s) = only s
 chain_of (through x y) = joined (chain_of x) (chain_of y)
 
--- a chain is an order
+-- the ends of a chain are in order
 pub before_of : {c : Chart} {e f : Place} → Chain c e f → Before c e f
 before_of (only s) = direct s
 before_of (then x s) = through (before_of x) (direct s)
@@ -35,12 +35,12 @@ direct_events c e f (message b) = (IsEvent-from_passes c (is_send_to f.instance)
 direct_events c e f (to_send q l s) = let w = IsEvent-from_passes c (is_send_to q) f s in ((l.begun, rw l.line (let m = l.less in omega arith)), w)
 direct_events c e f (same_sender q l r s) = (IsEvent-from_passes c (is_receive_from q) e r, IsEvent-from_passes c (is_receive_from q) f s)
 
--- what is before and what is after are events
+-- both places of an ordered pair have events
 pub before_events : {c : Chart} {e f : Place} → Before c e f → IsEvent c e × IsEvent c f
 before_events {c = c} {e = e} {f = f} (direct s) = direct_events c e f s
 before_events (through x y) = ((before_events x).0, (before_events y).1)
 
--- a send, or what is before one, is before a later send of that one's line
+-- an event that is t or before it is before a later send of t's line
 pub before_later_send : (c : Chart) (q : ℕ) (e t s : Place) → IsUpTo c t e → IsEarlier t s → IsSendTo c q s → Before c e s
 before_later_send c q e t s (inl same) l sends = subst (λ x. Before c x s) (sym same) (direct (to_send q l sends))
 before_later_send c q e t s (inr before) l sends = through before (direct (to_send q l sends))
@@ -56,7 +56,7 @@ last_step c d r s (message x) b = inl (same_send c d s r x b)
 last_step c d r s (to_send q l x) b = absurd (not_both c q s.instance r x b.received)
 last_step c d r s (same_sender q l x y) b = inr (l, subst (λ a. IsReceiveFrom c a d) (one_sender c q s.instance r y b.received) x)
 
--- what is before a receive is an earlier receive from its sender, or is its send or before it
+-- an event before a receive is an earlier receive from its sender, or its send, or an event before this send
 pub before_receive : {c : Chart} {e r : Place} → Chain c e r → (s : Place) → BelongsTo c s r → (IsEarlier e r × IsReceiveFrom c s.instance e) ⊎ IsUpTo c s e
 before_receive {c = c} {e = e} {r = r} (only x) s b =
     elim (last_step c e r s x b) [ inl same ↦ inr (inl same) | inr w ↦ inl w ]
@@ -71,14 +71,14 @@ before_receive {c = c} {e = e} {r = r} (then {d = d} x y) s b =
           ]
     ]
 
--- of an event of a line and a later one, what the later is directly before: the earlier is before it too, or it is a later
+-- let an event of a line be directly before f. An earlier event of the line is then before f too, or f is a later
 -- receive of the line
 step_from_later : (c : Chart) (d e f : Place) → IsEarlier d e → Direct c e f → Before c d f ⊎ (IsEarlier e f × ((q : ℕ) × IsReceiveFrom c q f))
 step_from_later c d e f l (message b) = inl (through (direct (to_send f.instance l b.sent)) (direct (message b)))
 step_from_later c d e f l (to_send q m s) = inl (direct (to_send q (IsEarlier-trans d e f l m) s))
 step_from_later c d e f l (same_sender q m x y) = inr (m, (q, y))
 
--- the same of all that the later is before
+-- the same if the event is before f in several steps
 from_later : {c : Chart} {e f : Place} → Chain c e f → (d : Place) → IsEarlier d e → Before c d f ⊎ (IsEarlier e f × ((q : ℕ) × IsReceiveFrom c q f))
 from_later {c = c} {e = e} {f = f} (only x) d l = step_from_later c d e f l x
 from_later {c = c} {e = e} {f = f} (then {d = m} x y) d l =
@@ -91,7 +91,7 @@ from_later {c = c} {e = e} {f = f} (then {d = m} x y) d l =
           ]
     ]
 
--- what is earlier than the events up to a send is before it
+-- let e be a send or before it: then an earlier event of e's line is before this send
 pub before_from_above : (c : Chart) (q : ℕ) (s d e : Place) → IsSendTo c q s → IsEarlier d e → IsUpTo c s e → Before c d s
 before_from_above c q s d e sends l (inl same) = direct (to_send q (subst (λ x. IsEarlier d x) same l) sends)
 before_from_above c q s d e sends l (inr before) =
@@ -104,11 +104,11 @@ before_from_above c q s d e sends l (inr before) =
 abbrev pub IsHeardBy : (c : Chart) (f e : Place) → Type 0
 IsHeardBy c f e = (l : ℕ) × (t : Place) × (l ≤ f.index) × BelongsTo c t (at f.instance l) × IsUpTo c t e
 
--- what was heard earlier was heard
+-- an event that is heard of earlier on a line is heard of later too
 heard_below : (c : Chart) (d f e : Place) → IsEarlier d f → IsHeardBy c d e → IsHeardBy c f e
 heard_below c d f e l (i, t, le, b, up) = (i, t, omega (arith, l.less), subst (λ a. BelongsTo c t (at a i)) l.line b, up)
 
--- what is before an event of another line was heard of there
+-- an event of another line that is before an event was heard of there
 pub heard_from : {c : Chart} {e f : Place} → Chain c e f → (e.instance ≡ f.instance → ⊥) → IsHeardBy c f e
 heard_from {e = e} {f = f} (only (message b)) differs = (f.index, e, omega arith, b, inl refl)
 heard_from (only (to_send q l s)) differs = absurd (differs l.line)

@@ -4,17 +4,17 @@ use Rattle.std.proofs.lemmas.Bool.{cases_lt, cases_eq}
 use Rattle.chart.specs.Knowing.{IsCount}
 use Rattle.chart.specs.Knowing.IsCount.{none, counted, passed}
 
--- of the numbers from 1 to n the fact holds of those up to k
+-- among the numbers from 1 to n the fact holds exactly of those up to k
 abbrev pub IsFront : (ℕ → Type 0) → ℕ → ℕ → Type 0
 IsFront P n k = (j : ℕ) → 1 ≤ j → j ≤ n → P j ↔ (j ≤ k)
 
--- no more are counted than there are
+-- the count is at most n
 pub count-le : {P : ℕ → Type 0} {n k : ℕ} → IsCount P n k → k ≤ n
 count-le none = omega arith
 count-le (counted h p) = let w = count-le p in omega arith
 count-le (passed h p) = let w = count-le p in omega arith
 
--- there is one count
+-- there is only one count
 pub same_count : {P : ℕ → Type 0} {n k l : ℕ} → IsCount P n k → IsCount P n l → k ≡ l
 same_count none none = refl
 same_count (counted h p) (counted g q) = ap suc (same_count p q)
@@ -22,7 +22,7 @@ same_count (counted h p) (passed g q) = absurd (g h)
 same_count (passed h p) (counted g q) = absurd (h g)
 same_count (passed h p) (passed g q) = same_count p q
 
--- where a fact holds of each number below one of which it holds, the count is where it ends
+-- if a fact holds of each number below one of which it holds, it holds exactly of the numbers up to the count
 pub front_from_count : {P : ℕ → Type 0} {n k : ℕ} → ((i j : ℕ) → 1 ≤ i → i < j → P j → P i) → IsCount P n k → IsFront P n k
 front_from_count down none j low high = absurd (omega arith)
 front_from_count {P = P} down (counted {n = n} {k = k} h p) j low high =
@@ -35,7 +35,7 @@ front_from_count {P = P} down (passed {n = n} {k = k} h p) j low high =
     let bound = count-le p in
     (λ here. elim (cases_eq j (suc n)) [ inl e ↦ absurd (h (subst P e here)) | inr differs ↦ (before j low (omega arith)).0 here ], λ le. (before j low (omega arith)).1 le)
 
--- where a fact holds of the numbers up to k, these are counted
+-- if a fact holds exactly of the numbers up to k, the count is k
 pub count_from_front : (P : ℕ → Type 0) (n k : ℕ) → k ≤ n → IsFront P n k → IsCount P n k
 count_from_front P zero k le front = let e : 0 ≡ k = omega arith in subst (λ x. IsCount P 0 x) e none
 count_from_front P (suc n) k le front =
@@ -52,13 +52,13 @@ count_from_front P (suc n) k le front =
     upto_itself : (n : ℕ) → ((j : ℕ) → 1 ≤ j → j ≤ n → P j) → IsFront P n n
     upto_itself n all j low high = (λ here. high, λ same. all j low high)
 
--- a fact that agrees has the same count
+-- two facts that agree have the same count
 pub count_agrees : {P : ℕ → Type 0} {n k : ℕ} → (Q : ℕ → Type 0) → IsCount P n k → ((j : ℕ) → 1 ≤ j → j ≤ n → P j ↔ Q j) → IsCount Q n k
 count_agrees Q none agree = none
 count_agrees Q (counted {n = n} h p) agree = counted ((agree (suc n) (omega arith) (omega arith)).0 h) (count_agrees Q p (λ j low high. agree j low (omega arith)))
 count_agrees Q (passed {n = n} h p) agree = passed (λ here. h ((agree (suc n) (omega arith) (omega arith)).1 here)) (count_agrees Q p (λ j low high. agree j low (omega arith)))
 
--- where the fact holds of no number past n, the count goes on
+-- if the fact holds of no number above n, the count up to a greater number is the same
 pub count_further : (P : ℕ → Type 0) (n k m : ℕ) → n ≤ m → IsCount P n k → ((j : ℕ) → n < j → P j → ⊥) → IsCount P m k
 count_further P n k zero le count none_past = let e : n ≡ 0 = omega arith in subst (λ x. IsCount P x k) e count
 count_further P n k (suc m) le count none_past =

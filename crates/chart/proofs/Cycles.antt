@@ -17,7 +17,7 @@ use Rattle.chart.proofs.Chains.Chain.{only, then}
 use Rattle.chart.proofs.Growing.{before_shrunk}
 use Rattle.chart.proofs.Sends.{grows_by_event, sends_of}
 
--- an event puts one event on one line
+-- an occurrence adds at most one event, to the line of its instance
 one_event : (h : List Occurrence) (p : ℕ) (e : Occurrence) (j : ℕ) (m : Event) → ith (line_gets h p e) j ≡ Some m → (by e ≡ p) × (j ≡ 1)
 one_event h p (Send a b x) j m at_j = go (a == p) refl at_j
   where
@@ -41,11 +41,11 @@ event_cases h e x here =
       | inr new ↦ let w = one_event h x.instance e new.0 m.0 new.2 in inr (w.0, omega (arith, new.1, w.1))
     ]
 
--- what is earlier than the newest event is an old one
+-- an event earlier than the newest one is an old one
 above_newest : (h : List Occurrence) (d x : Place) → x.index ≡ length (chart_of h x.instance) + 1 → IsEarlier d x → IsEvent (chart_of h) d
 above_newest h d x last l = (l.begun, subst (λ p. d.index ≤ length (chart_of h p)) (sym l.line) (omega (arith, l.less)))
 
--- what is directly before the newest event is an old one
+-- an event directly before the newest one is an old one
 from_old : (h : List Occurrence) (e : Occurrence) (d x : Place) → (by e ≡ x.instance) × (x.index ≡ length (chart_of h x.instance) + 1) → Direct (chart_of (e ∷ h)) d x → IsEvent (chart_of h) d
 from_old h e d x newest (to_send q l s) = above_newest h d x newest.1 l
 from_old h e d x newest (same_sender q l y z) = above_newest h d x newest.1 l
@@ -58,7 +58,7 @@ from_old h e d x newest (message b) =
           absurd (not_both (chart_of (e ∷ h)) x.instance d.instance x (subst (λ z. IsSendTo (chart_of (e ∷ h)) x.instance z) same b.sent) b.received)
     ]
 
--- nothing is before itself
+-- no event is before itself
 pub acyclic : (n k : ℕ) (h : List Occurrence) → IsLegal n k h → IsCyclic (chart_of h) → ⊥
 acyclic n k [] legal (x, before) = let w = (before_events before).0 in omega arith
 acyclic n k (e ∷ h) legal (x, before) =

@@ -1,4 +1,4 @@
--- Entries of a line that grows, and the events that they stand for.
+-- Entries of a growing line, and their events.
 use Rattle.std.proofs.Common.{◌≡◌, ◌≢◌, ℕ, suc, ◌+◌, ◌-◌, ◌<◌, ◌≤◌, max, cond, true, false, List, [], ◌∷◌, ◌++◌, length, get_or, map, All, Some, refl, sym, ap, ◌∙◌, subst, arith}
 use Rattle.std.specs.Prelude.{slice_get}
 use Rattle.std.proofs.lemmas.Option.{slice_get_read}
@@ -19,7 +19,7 @@ event_receives names e h = ap (λ b. cond b (receive_event e.partner (get_or nam
 pub event_sends : (names : List (List ℕ)) (e : Entry) → e.receives ≡ false → event_of names e ≡ send_event e.partner (get_or names e.name [])
 event_sends names e h = ap (λ b. cond b (receive_event e.partner (get_or names e.name []) e.region) (send_event e.partner (get_or names e.name []))) h
 
--- an entry that has all that an event has stands for it
+-- an entry with the parts of an event has this event
 pub event_kept : (names : List (List ℕ)) (e : Entry) (m : Event) → e.partner ≡ partner_of m → e.receives ≡ is_receive m → get_or names e.name [] ≡ name_of m → e.region ≡ region_of m → event_of names e ≡ m
 event_kept names e (Send to name) p r n g = event_sends names e r ∙ ap (λ q. send_event q (get_or names e.name [])) p ∙ ap (λ w. send_event to w) n
 event_kept names e (Receive from name region) p r n g = event_receives names e r ∙ ap (λ q. receive_event q (get_or names e.name []) e.region) p ∙ ap (λ w. receive_event from w e.region) n ∙ ap (λ k. receive_event from name k) g
@@ -31,7 +31,7 @@ event_there names entries i e m within read there = there ∙ get_or-map (event_
 pub event_read : (names : List (List ℕ)) (entries : List Entry) (i : ℕ) (e : Entry) (m : Event) → i < length entries → e ≡ get_or entries i e → m ≡ event_of names e → m ≡ get_or (events_of names entries) i m
 event_read names entries i e m within read is = is ∙ sym (get_or-map (event_of names) entries i e m within ∙ ap (event_of names) (sym read))
 
--- what an entry says of its runs is right
+-- the starts of runs in an entry are right
 pub starts_read : (p : ℕ) (names : List (List ℕ)) (entries : List Entry) (greatest index : ℕ) (e : Entry) → AreEntries p names entries greatest → 1 ≤ index → index ≤ length entries → e ≡ get_or entries (index - 1) e
     → AreStartsAt (events_of names entries) index e.starts
 starts_read p names entries greatest index e are begun within read =
@@ -41,7 +41,7 @@ starts_read p names entries greatest index e are begun within read =
     let place : suc (index - 1) ≡ index = omega (arith, begun) in
     subst (λ i. AreStartsAt (events_of names entries) i e.starts) place (are.laid_out.right (index - 1) e.starts (slice_get_read (starts_of entries) (length entries) (index - 1) e.starts (sym long) inside there))
 
--- events stay what they are where names stay at their places
+-- events stay the same if names stay at their places
 pub same_events : (names more : List (List ℕ)) (entries : List Entry) → All (λ e. e.name < length names) entries → ((k : ℕ) → k < length names → get_or more k [] ≡ get_or names k []) → events_of more entries ≡ events_of names entries
 same_events names more [] named kept = refl
 same_events names more (e ∷ entries) named kept =
@@ -50,7 +50,7 @@ same_events names more (e ∷ entries) named kept =
     let rest : events_of more entries ≡ events_of names entries = same_events names more entries (All-tail (λ (x : Entry). x.name < length names) e entries named) kept in
     ap (λ (m : Event). m ∷ events_of more entries) one ∙ ap (λ (ms : List Event). event_of names e ∷ ms) rest
 
--- an entry more, whose name was found or added
+-- one more entry, whose name was found or added
 pub events_of-push : (p : ℕ) (names more : List (List ℕ)) (entries : List Entry) (greatest : ℕ) (m : Event) (e : Entry) → AreEntries p names entries greatest → ((k : ℕ) → k < length names → get_or more k [] ≡ get_or names k [])
     → event_of more e ≡ m → events_of more (entries ++ e ∷ []) ≡ events_of names entries ++ m ∷ []
 events_of-push p names more entries greatest m e old kept is =

@@ -32,7 +32,7 @@ send_or_receive c e here = let w = ith_at (c e.instance) e.index here.0 here.1 i
     go (Send to name) at_e = inl (to, (Send to name, at_e, eq-eqb to to refl))
     go (Receive from name region) at_e = inr (from, (Receive from name region, at_e, eq-eqb from from refl))
 
--- where each receive has a send that knows a number there is a greatest heard of each front of a line
+-- if each receive has a send that knows a number of each line, each front of a line has a greatest heard
 pub heard_exists : (c : Chart) → HasSends c → SendsKnow c → (p q n : ℕ) → n ≤ length (c p) → (k : ℕ) × IsGreatestHeard c p n q k
 heard_exists c sends know p q zero within = (0, heard_at_first c p q)
 heard_exists c sends know p q (suc n) within =
@@ -46,7 +46,7 @@ heard_exists c sends know p q (suc n) within =
           (max w.0 m.0, subst (λ x. IsGreatestHeard c p x q (max w.0 m.0)) (add-one n) (heard_from_send c s.0 p n q w.0 m.0 w.1 s.1 m.1))
     ]
 
--- there is one greatest heard
+-- there is only one greatest heard
 pub same_heard : (c : Chart) (p n q k l : ℕ) → IsGreatestHeard c p n q k → IsGreatestHeard c p n q l → k ≡ l
 same_heard c p n q k l a b = let u = no_less k l a b in let v = no_less l k b a in omega arith
   where
@@ -114,11 +114,11 @@ races_exist line entry q region =
         let within = ith_within line j m at_j in
         (within.0, within.1, and_from (nat_lt entry j) (races (ith line j)) (lt-ltb entry j above) (subst (λ o. races o ≡ true) (sym at_j) (and_from (not (is_receive_from q m)) (not (is_in region m)) (not_from_false (is_receive_from q m) other) (not_from_false (is_in region m) outside))))
 
--- a line has its races once
+-- a line has only one list of races later than an entry
 pub same_races : (line : List Event) (entry q region : ℕ) (xs ys : List ℕ) → AreLineRaces line entry q region xs → AreLineRaces line entry q region ys → xs ≡ ys
 same_races line entry q region xs ys a b = same_rising xs ys a.rising b.rising (λ j. (λ here. (b.exact j).1 ((a.exact j).0 here), λ there. (a.exact j).1 ((b.exact j).0 there)))
 
--- a receive has one report
+-- a receive has only one report
 pub same_report : (c : Chart) (r : Place) (xs ys : List ℕ) → IsReport c r xs → IsReport c r ys → xs ≡ ys
 same_report c r xs ys a b = same_rising xs ys a.rising b.rising (λ j. (λ here. (b.exact j).1 ((a.exact j).0 here), λ there. (a.exact j).1 ((b.exact j).0 there)))
 

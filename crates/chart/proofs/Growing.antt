@@ -16,7 +16,7 @@ use Rattle.chart.proofs.Counts.{count_agrees, count_further}
 use Rattle.chart.proofs.Knowledge.{up_to_event}
 use Rattle.chart.proofs.Reports.{IsReported}
 
--- each line of d is that of c, and what came after
+-- each line of d is that of c, and further events
 abbrev pub GrowsTo : Chart → Chart → Type 0
 GrowsTo c d = (p : ℕ) → (more : List Event) × (d p ≡ c p ++ more)
 
@@ -37,11 +37,11 @@ module _ (c d : Chart) (grows : GrowsTo c d) where
   pub tally_grown : (test : Event → Bool) (e : Place) → IsEvent c e → tally test (d e.instance) e.index ≡ tally test (c e.instance) e.index
   tally_grown test e here = let w = grows e.instance in ap (λ l. tally test l e.index) w.1 ∙ tally-append test (c e.instance) w.0 e.index here.1
 
-  -- an event that passes a test is one that did
+  -- an event that passed a test passes it
   pub passes_grown : (test : Event → Bool) (e : Place) → Passes test (c e.instance) e.index → Passes test (d e.instance) e.index
   passes_grown test e p = (p.0, chart_event_grown e (IsEvent-from_passes c test e p) ∙ p.1, p.2)
 
-  -- and the other way round
+  -- an event of c that passes a test passed it before
   pub passes_shrunk : (test : Event → Bool) (e : Place) → IsEvent c e → Passes test (d e.instance) e.index → Passes test (c e.instance) e.index
   passes_shrunk test e here p = (p.0, sym (chart_event_grown e here) ∙ p.1, p.2)
 
@@ -68,7 +68,7 @@ module _ (c d : Chart) (grows : GrowsTo c d) where
   before_grown (through x y) = through (before_grown x) (before_grown y)
 
   module _ (sends : HasSends c) where
-    -- no other send comes up for a receive
+    -- a receive gets no other send
     pub belongs_shrunk : (s r : Place) → IsEvent c r → BelongsTo d s r → BelongsTo c s r
     belongs_shrunk s r here b =
         let w = sends s.instance r (passes_shrunk (is_receive_from s.instance) r here b.received) in
@@ -90,16 +90,16 @@ module _ (c d : Chart) (grows : GrowsTo c d) where
         let step = direct_shrunk g f here y in
         through (chain_shrunk x (direct_events c g f step).0) (direct step)
 
-    -- what is before an event was before it
+    -- an event that is before another one of c was before it
     pub before_shrunk : (e f : Place) → IsEvent c f → Before d e f → Before c e f
     before_shrunk e f here before = chain_shrunk (chain_of before) here
 
-    -- what is up to an event was
+    -- an event that is s or before it was so
     up_to_shrunk : (s e : Place) → IsEvent c s → IsUpTo d s e → IsUpTo c s e
     up_to_shrunk s e here (inl same) = inl same
     up_to_shrunk s e here (inr before) = inr (before_shrunk e s here before)
 
-    -- what is up to an event stays so
+    -- an event that is s or before it stays so
     up_to_grown : (s e : Place) → IsUpTo c s e → IsUpTo d s e
     up_to_grown s e (inl same) = inl same
     up_to_grown s e (inr before) = inr (before_grown before)
@@ -128,7 +128,7 @@ module _ (c d : Chart) (grows : GrowsTo c d) where
             let within : IsEvent c (at r.instance j) = ((IsEvent-from_event d (at r.instance j) m at_j).0, omega (arith, here.1)) in
             (less, (m, sym (chart_event_grown (at r.instance j) within) ∙ at_j, subst (λ x. is_in (region_of_event x) m ≡ false) (chart_event_grown r here) outside), λ before. apart (before_grown before))
 
-    -- what is heard up to an event stays what is heard
+    -- the greatest heard up to an event stays the greatest
     pub heard_grown : (p n q k : ℕ) → n ≤ length (c p) → IsGreatestHeard c p n q k → IsGreatestHeard d p n q k
     heard_grown p n q k within heard = record {
       each = λ l s le b.

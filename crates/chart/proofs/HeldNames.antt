@@ -10,23 +10,23 @@ use Rattle.chart.specs.Padding.{padded, held_len, unpadded}
 use Rattle.chart.specs.declared.name.TheConstants.{MAX_NAME}
 use Rattle.chart.proofs.NameBytes.{name_bytes, byte_at}
 
--- where the last byte is one of the name's, all of them are
+-- if the last byte is the name's, all bytes are
 full_len : (held : List ℕ) (b : Bool) → nat_le MAX_NAME (slice_index held 31) ≡ b → MAX_NAME ≤ slice_index held 31 → held_len held ≡ MAX_NAME
 full_len held true e great = rw e refl
 full_len held false e great = absurd (grind (arith, nat_tests, e, great))
 
--- else it tells how many there are
+-- otherwise the last byte gives their number
 short_len : (held : List ℕ) (k : ℕ) (b : Bool) → nat_le MAX_NAME (slice_index held 31) ≡ b → slice_index held 31 ≡ k → k < MAX_NAME → held_len held ≡ MAX_NAME - k
 short_len held k true e is less = absurd (grind (arith, nat_tests, e, is, less))
 short_len held k false e is less = rw (e, is) refl
 
--- a name of the most bytes is held as it is
+-- a name of the greatest length is held unchanged
 full : (w : List ℕ) → IsName w → length w ≡ MAX_NAME → unpadded w ≡ w
 full w name most =
     let great = byte_at w 31 (name_bytes w name).1 (omega (arith, most)) in
     ap (λ n. take n w) (full_len w (nat_le MAX_NAME (slice_index w 31)) refl great) ∙ take_all MAX_NAME w (omega (arith, most))
 
--- a shorter one with zeros behind it, and the number of those in the last place
+-- a shorter name is followed by zeros, and the last byte is the number of missing bytes
 short : (w : List ℕ) → IsName w → length w < MAX_NAME → unpadded (slice_set (w ++ replicate (MAX_NAME - length w) 0) 31 (MAX_NAME - length w)) ≡ w
 short w name less =
     let zeros : List ℕ = replicate (MAX_NAME - length w) 0 in
@@ -44,7 +44,7 @@ padded_full w most = ap (λ n. cond (n == MAX_NAME) w (slice_set (w ++ replicate
 pub padded_short : (w : List ℕ) → length w < MAX_NAME → padded w ≡ slice_set (w ++ replicate (MAX_NAME - length w) 0) 31 (MAX_NAME - length w)
 padded_short w less = rw (ne_eqb (length w) MAX_NAME (λ e. omega (arith, less, e))) refl
 
--- a name is held so that its bytes come back
+-- the bytes of a held name come back
 pub name_held : (w held : List ℕ) → IsName w → held ≡ padded w → length w ≤ MAX_NAME → unpadded held ≡ w
 name_held w held name is within = by (length w == MAX_NAME) refl
   where

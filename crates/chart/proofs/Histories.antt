@@ -1,4 +1,4 @@
--- The lanes of histories that grow by an event.
+-- The lanes of histories that grow by an occurrence.
 use Rattle.std.proofs.Common.{◌≡◌, ◌≢◌, ℕ, ◌+◌, ◌<◌, ◌≤◌, ◌==◌, ◌&&◌, ◌||◌, Bool, true, false, cond, List, [], ◌∷◌, ◌++◌, length, drop, refl, sym, ap, ◌∙◌, subst, arith, append-nil, append_assoc, length-append, length-drop}
 use Rattle.std.specs.Prelude.{All}
 use Rattle.std.proofs.lemmas.Bool.{false≢true, eqb-true, eq-eqb, ne_eqb, and_parts, and_from, and_left, and_right}
@@ -18,7 +18,7 @@ is_lane-same a b = and_from (a == a) (b == b) (eq-eqb a a refl) (eq-eqb b b refl
 pub is_lane-from : (a b q p : ℕ) → q ≢ a → is_lane a b q p ≡ false
 is_lane-from a b q p ne = and_left (a == q) (b == p) (ne_eqb a q (λ e. ne (sym e)))
 
--- and so is one to another
+-- a lane to another instance is another
 pub is_lane-to : (a b q p : ℕ) → p ≢ b → is_lane a b q p ≡ false
 is_lane-to a b q p ne = and_right (a == q) (b == p) (ne_eqb b p (λ e. ne (sym e)))
 
@@ -41,7 +41,7 @@ received-le n k (Receive a b c ∷ h) legal q p = go (is_lane b a q p) refl (rec
     go false e before = before
 received-le n k (Close a b ∷ h) legal q p = received-le n k h legal.1 q p
 
--- a message that is sent waits behind the others
+-- a message that is sent waits after the others
 pub waiting-send : (h : List Occurrence) (p q : ℕ) (m : Content) → received h p q ≤ length (sent h p q) → waiting (Send p q m ∷ h) p q ≡ waiting h p q ++ m ∷ []
 waiting-send h p q m le = rw (is_lane-same p q) (drop-append-le (received h p q) (sent h p q) (m ∷ []) le)
 
@@ -57,7 +57,7 @@ waiting-receive h p q c m ms first = rw (is_lane-same q p) (sym (drop-drop 1 (re
 pub waiting-receive_other : (h : List Occurrence) (p q c a b : ℕ) → is_lane q p a b ≡ false → waiting (Receive p q c ∷ h) a b ≡ waiting h a b
 waiting-receive_other h p q c a b e = rw e
 
--- the lane that is closed is closed
+-- the lane of a close is closed
 pub is_closed-close : (h : List Occurrence) (p q : ℕ) → is_closed (Close p q ∷ h) p q ≡ true
 is_closed-close h p q = rw (is_lane-same p q)
 
@@ -81,7 +81,7 @@ partners-known n k (Receive a b c ∷ h) legal p = All-append (λ x. partner_of 
     go false ms = All-nil (λ x. partner_of x ≤ n)
 partners-known n k (Close a b ∷ h) legal p = All-append (λ x. partner_of x ≤ n) (chart_of h p) [] (partners-known n k h legal.1 p) (All-nil (λ x. partner_of x ≤ n))
 
--- What an instance sent, received and closed is a matter of its own occurrences alone.
+-- What an instance sent, received and closed depends only on its own occurrences.
 
 pub sent_own : (h : List Occurrence) (q p : ℕ) → sent (own h q) q p ≡ sent h q p
 sent_own [] q p = refl
@@ -137,7 +137,7 @@ closed_own (Close a b ∷ h) q p = go (a == q) refl (closed_own h q p)
     go true e before = rw e (ap (λ (closed : Bool). (b == p) || closed) before)
     go false e before = before
 
--- the same occurrences of its own: it sent, received and closed the same
+-- an instance with the same occurrences sent, received and closed the same
 pub same_sent : (h g : List Occurrence) (q p : ℕ) → own g q ≡ own h q → sent g q p ≡ sent h q p
 same_sent h g q p same = sym (sent_own g q p) ∙ ap (λ x. sent x q p) same ∙ sent_own h q p
 
@@ -227,12 +227,12 @@ sent_closed n k h g (more, e) legal q p closed = ap (λ x. sent x q p) e ∙ sev
     several (Receive a b c ∷ more) legal = several more legal.1
     several (Close a b ∷ more) legal = several more legal.1
 
--- so where none waits on a closed lane, none will
+-- so if no message waits on a closed lane, none will
 pub drained_begins : (n k : ℕ) (h g : List Occurrence) → Begins h g → IsLegal n k g → (q p : ℕ) → is_closed h q p ≡ true → waiting h q p ≡ [] → waiting g q p ≡ []
 drained_begins n k h g begins legal q p closed none =
     drop_all (received g q p) (sent g q p) (omega (arith, ap length none, length-drop (received h q p) (sent h q p), ap length (sent_closed n k h g begins legal q p closed), received_begins h g begins q p))
 
--- where none waits and none was received in between, none waited
+-- if no message waits, and none was received in between, none waited
 pub none_begins : (h g : List Occurrence) → Begins h g → (q p : ℕ) → own g p ≡ own h p → waiting g q p ≡ [] → waiting h q p ≡ []
 none_begins h g begins q p same none =
     drop_all (received h q p) (sent h q p) (omega (arith, ap length none, length-drop (received g q p) (sent g q p), sent_begins-le h g begins q p, same_received h g q p same))

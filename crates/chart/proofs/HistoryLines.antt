@@ -17,7 +17,7 @@ use Rattle.chart.specs.Charts.{LineView, IsNumbered, HasPartners, chart_lines}
 use Rattle.chart.proofs.Steps.{line_of_other}
 use Rattle.chart.proofs.Histories.{partners-known}
 
--- an instance that isn't there has no line
+-- a number that is no instance's has an empty line
 no-line : (n k : ℕ) (h : List Occurrence) → IsLegal n k h → (p : ℕ) → (p ≡ 0) ⊎ (n < p) → chart_of h p ≡ []
 no-line n k [] legal p none = refl
 no-line n k (e ∷ h) legal p none = line_of_other h e p (λ same. absurd (out (by-within e legal.0) same none)) ∙ no-line n k h legal.1 p none

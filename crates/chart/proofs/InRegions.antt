@@ -5,11 +5,11 @@ use Rattle.std.proofs.lemmas.Bool.{eqb-true, eq-eqb, false≢true}
 use Rattle.chart.specs.declared.event.Event.{Event}
 use Rattle.chart.specs.Events.{region_of, is_in}
 
--- what is in c has this region
+-- an event in c has this coregion
 pub region_of-in : (c : ℕ) (m : Event) → is_in c m ≡ true → region_of m ≡ c
 region_of-in c m h = eqb-true (region_of m) c (first_so (region_of m == c) (not (c == 0)) h)
 
--- what is outside is in none
+-- an event outside of coregions is in none
 pub none_in : (c : ℕ) (m : Event) → region_of m ≡ 0 → is_in c m ≡ true → ⊥
 none_in c m outside h =
     let zero_c : c ≡ 0 = sym (region_of-in c m h) ∙ outside in

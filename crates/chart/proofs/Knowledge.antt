@@ -1,4 +1,4 @@
--- What a send knows of a line are the first events of it.
+-- The events of a line that a send knows are the first ones of this line.
 use Rattle.std.proofs.Common.{◌≡◌, ℕ, ◌+◌, ◌≤◌, ◌↔◌, ◌⊎◌, inl, inr, max, length, refl, sym, ap, subst, arith}
 use Rattle.std.proofs.lemmas.Bool.{cases_lt, cases_eq}
 use Rattle.chart.specs.Events.{is_send_to, is_receive_from}
@@ -12,19 +12,19 @@ use Rattle.chart.proofs.Belongs.{IsEvent-from_passes, not_both, same_send}
 use Rattle.chart.proofs.Chains.{chain_of, before_events, before_from_above, before_its_receive, heard_from}
 use Rattle.chart.proofs.Counts.{IsFront, count-le, front_from_count, count_from_front}
 
--- what is up to an event are events
+-- a place that is s or before it has an event
 pub up_to_event : (c : Chart) (s e : Place) → IsEvent c s → IsUpTo c s e → IsEvent c e
 up_to_event c s e is_event (inl same) = subst (λ x. IsEvent c x) (sym same) is_event
 up_to_event c s e is_event (inr before) = (before_events before).0
 
--- a send knows of an event of a line just where the event's number is at most the known number
+-- a send knows an event of a line exactly if the event's number is at most the known number
 pub known_front : (c : Chart) (q : ℕ) (s : Place) (p k : ℕ) → IsSendTo c q s → IsKnown c s p k → (j : ℕ) → 1 ≤ j → IsUpTo c s (at p j) ↔ (j ≤ k)
 known_front c q s p k sends known j low =
     let front : IsFront (λ i. IsUpTo c s (at p i)) (length (c p)) k = front_from_count (λ h i first less here. inr (before_from_above c q s (at p h) (at p i) sends (record { line = refl; begun = first; less = less }) here)) known in
     let bound = count-le known in
     (λ here. (front j low (up_to_event c s (at p j) (IsEvent-from_passes c (is_send_to q) s sends) here).1).0 here, λ le. (front j low (omega arith)).1 le)
 
--- a send knows of the events of its line up to itself
+-- a send knows the events of its line up to itself
 up_to_itself : (c : Chart) (a p i j : ℕ) → IsSendTo c a (at p i) → 1 ≤ j → j ≤ i → IsUpTo c (at p i) (at p j)
 up_to_itself c a p i j sends low high =
     elim (cases_eq j i) [
@@ -32,7 +32,7 @@ up_to_itself c a p i j sends low high =
       | inr differs ↦ inr (direct (to_send a (record { line = refl; begun = low; less = omega arith }) sends))
     ]
 
--- a send that is the last of its line, or stands in a chart with no cycle, knows of its line just the events up to itself
+-- a send that is the last of its line, or in a chart without cycles, knows of its line exactly the events up to itself
 pub known_own : (c : Chart) (a p i : ℕ) → IsSendTo c a (at p i) → (length (c p) ≡ i) ⊎ (IsCyclic c → ⊥) → IsKnown c (at p i) p i
 known_own c a p i sends h =
     let within : IsEvent c (at p i) = IsEvent-from_passes c (is_send_to a) (at p i) sends in
@@ -49,7 +49,7 @@ known_own c a p i sends h =
       λ le. up_to_itself c a p i j sends low le,
     ))
 
--- of another line a send knows what was most heard of it
+-- of another line a send knows the greatest heard
 pub known_other : (c : Chart) (a p i q k : ℕ) → IsSendTo c a (at p (i + 1)) → (q ≡ p → ⊥) → IsGreatestHeard c p i q k → IsKnown c (at p (i + 1)) q k
 known_other c a p i q k sends other heard =
     count_from_front (λ j. IsUpTo c (at p (i + 1)) (at q j)) (length (c q)) k

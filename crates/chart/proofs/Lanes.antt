@@ -1,4 +1,4 @@
--- The events on the lines of a history's chart, against the messages of its lanes.
+-- The events on the lines of a history's chart, compared with the messages of its lanes.
 use Rattle.std.proofs.Common.{slice_get, ◌≡◌, ℕ, suc, ◌+◌, ◌<◌, ◌==◌, ◌&&◌, inl, inr, Bool, true, false, cond, List, [], ◌∷◌, ◌++◌, length, Some, count_by, refl, sym, ap, ap₂, ◌∙◌, arith, append-nil, eqb-true, eq-eqb}
 use Rattle.std.proofs.lemmas.Bool.{false≢true}
 use Rattle.std.proofs.lemmas.Option.{none-some}
@@ -18,7 +18,7 @@ use Rattle.chart.proofs.Tally.{same_from_tally, ith_within, ith-append, ith_push
 pub count_push : (test : Event → Bool) (line : List Event) (m : Event) → count_by test (line ++ m ∷ []) ≡ count_by test line + cond {A = ℕ} (test m) 1 0
 count_push test line m = sum_by_push (λ x. cond (test x) 1 0) line m
 
--- as many sends stand on a line as messages were sent on the lane
+-- a line has as many sends to an instance as messages were sent on the lane
 pub sent_count : (h : List Occurrence) (q p : ℕ) → count_by (is_send_to p) (chart_of h q) ≡ length (sent h q p)
 sent_count [] q p = refl
 sent_count (Send a b m ∷ h) q p = go (a == q) (b == p) refl (sent_count h q p)
@@ -35,7 +35,7 @@ sent_count (Receive a b c ∷ h) q p = go (a == q) (waiting h b a) (sent_count h
     go false ms before = ap (count_by (is_send_to p)) (append-nil (chart_of h q)) ∙ before
 sent_count (Close a b ∷ h) q p = ap (count_by (is_send_to p)) (append-nil (chart_of h q)) ∙ sent_count h q p
 
--- a new send has as many earlier ones as messages were sent
+-- the number of earlier sends of a new send's lane is that of the sent messages
 pub newest_is_send : (h : List Occurrence) (p q : ℕ) (x : Content) → IsSendAfter (chart_of (Send p q x ∷ h) p) q (length (sent h p q)) (length (chart_of h p) + 1)
 newest_is_send h p q x = go (p == p) (eq-eqb p p refl)
   where
@@ -46,7 +46,7 @@ newest_is_send h p q x = go (p == p) (eq-eqb p p refl)
     go false e = absurd (false≢true e)
     go true e = ((send_event q x.name, ith_push line (send_event q x.name), eq-eqb q q refl), omega (arith, tally_all (is_send_to q) (line ++ send_event q x.name ∷ []) (length line + 1) (omega (arith, length_push line (send_event q x.name))), rw (eq-eqb q q refl) at (count_push (is_send_to q) line (send_event q x.name)), sent_count h p q))
 
--- in a legal history as many receives stand on a line as messages were received
+-- in a legal history a line has as many receives as messages were received
 pub received_count : (n k : ℕ) (h : List Occurrence) → IsLegal n k h → (q p : ℕ) → count_by (is_receive_from q) (chart_of h p) ≡ received h q p
 received_count n k [] legal q p = refl
 received_count n k (Send a b m ∷ h) legal q p = go (a == p) (received_count n k h legal.1 q p)
@@ -64,7 +64,7 @@ received_count n k (Receive a b c ∷ h) legal q p = go (waiting h b a) legal.0.
     go (m ∷ ms) some false false e before = ap (count_by (is_receive_from q)) (append-nil (chart_of h p)) ∙ before
 received_count n k (Close a b ∷ h) legal q p = ap (count_by (is_receive_from q)) (append-nil (chart_of h p)) ∙ received_count n k h legal.1 q p
 
--- on the line stands a send of the message to p, with i earlier sends to p
+-- the line has a send of the message to p, with i earlier sends to p
 abbrev pub SentAt : List Event → ℕ → Content → ℕ → Type 0
 SentAt line p x i = (y : ℕ) × (ith line y ≡ Some (send_event p x.name)) × (tally (is_send_to p) line y ≡ i + 1)
 
@@ -103,10 +103,10 @@ IsSendAfter-from_sent_at line p x i (j, at_j, turn) = ((send_event p x.name, at_
 pub send_of_message : (h : List Occurrence) (q p i : ℕ) (x : Content) → slice_get (sent h q p) i ≡ Some x → (j : ℕ) × IsSendAfter (chart_of h q) p i j × (chart_event (chart_of h) (at q j) ≡ Some (send_event p x.name))
 send_of_message h q p i x found = let w = sent_at h q p i x found in (w.0, IsSendAfter-from_sent_at (chart_of h q) p x i w, w.1)
 
--- and so has the first that waits
+-- and so has the first message that waits
 pub send_of_first : (h : List Occurrence) (q p : ℕ) (x : Content) (rest : List Content) → waiting h q p ≡ x ∷ rest → (j : ℕ) × IsSendAfter (chart_of h q) p (received h q p) j × (chart_event (chart_of h) (at q j) ≡ Some (send_event p x.name))
 send_of_first h q p x rest e = send_of_message h q p (received h q p) x (ith_at_drop (received h q p) (sent h q p) x rest e)
 
--- one send of a lane has i earlier ones
+-- only one send of a lane has i earlier ones
 pub same_place_on_lane : (line : List Event) (q i j l : ℕ) → IsSendAfter line q i j → IsSendAfter line q i l → j ≡ l
 same_place_on_lane line q i j l a b = same_from_tally (is_send_to q) line j l a.0 b.0 (a.1 ∙ sym b.1)

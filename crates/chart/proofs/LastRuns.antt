@@ -12,7 +12,7 @@ last_read line m begun read =
     let place : suc (length line - 1) ≡ length line = omega (arith, begun) in
     subst (λ i. ith line i ≡ Some m) place (slice_get_read line (length line) (length line - 1) m refl (omega (arith, begun)) read)
 
--- the last event passes: the run is its own
+-- if the last event passes, the run at the end is that of this event
 pub ends_with_it : (test : ℕ → Event → Bool) (x : ℕ) (line : List Event) (start : ℕ) (m : Event) → 1 ≤ length line → m ≡ get_or line (length line - 1) m → test x m ≡ true → IsStartOfRun test line (length line) start → EndsWithRun (test x) line start
 ends_with_it test x line start m begun read pass starts =
     let run = starts.run x m (last_read line m begun read) pass in
@@ -22,7 +22,7 @@ ends_with_it test x line start m begun read pass starts =
       whole = run.whole;
     }
 
--- it doesn't: there is no run
+-- if it doesn't pass, there is no run at the end
 pub ends_without : (test : Event → Bool) (line : List Event) (m : Event) → 1 ≤ length line → m ≡ get_or line (length line - 1) m → test m ≡ false → EndsWithRun test line (length line)
 ends_without test line m begun read fails = record {
   within = omega arith;
@@ -30,7 +30,7 @@ ends_without test line m begun read fails = record {
   whole = λ n e. let same : m ≡ n = same_Some m n (sym (last_read line m begun read) ∙ e) in subst (λ y. test y ≡ false) same fails;
 }
 
--- the same, where the last event was asked whether it passes
+-- the same, from the answer whether the last event passes
 pub ends_asked : (test : ℕ → Event → Bool) (x : ℕ) (line : List Event) (n start : ℕ) (b : Bool) → n ≡ length line → 1 ≤ n → ((m : Event) → m ≡ get_or line (n - 1) m → b ≡ test x m) → b ≡ true → IsStartOfRun test line n start → EndsWithRun (test x) line start
 ends_asked test x line n start b long begun asked passing starts =
     let m : Event = get_or line (n - 1) (send_event 0 []) in
@@ -45,7 +45,7 @@ ends_asked_not test x line n b long begun asked failing =
     let there : m ≡ get_or line (length line - 1) m = read ∙ ap (λ k. get_or line (k - 1) m) long in
     subst (λ k. EndsWithRun (test x) line k) (sym long) (ends_without (test x) line m (omega (arith, long, begun)) there (sym (asked m read) ∙ failing))
 
--- there is no event
+-- without events there is no run
 pub ends_empty : (test : Event → Bool) (line : List Event) → length line ≡ 0 → EndsWithRun test line (length line)
 ends_empty test line none = record {
   within = omega arith;

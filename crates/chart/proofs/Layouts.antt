@@ -14,7 +14,7 @@ use Rattle.chart.proofs.Places.{each-push}
 use Rattle.chart.proofs.Regions.{greatest_region-push, may_be-small}
 use Rattle.chart.proofs.Runs.{AreStarts-push}
 
--- regions stay in order where the new event may have its region
+-- coregions stay in order if the new event may have its coregion
 pub HasRegionsInOrder-push : (line : List Event) (m : Event) → HasRegionsInOrder line → MayHaveRegion line (region_of m) → HasRegionsInOrder (line ++ m ∷ [])
 HasRegionsInOrder-push line m old may = each-push (λ i n. MayHaveRegion (take i (line ++ m ∷ [])) (region_of n)) line m earlier newest
   where
@@ -27,7 +27,7 @@ HasRegionsInOrder-push line m old may = each-push (λ i n. MayHaveRegion (take i
     newest : MayHaveRegion (take (length line) (line ++ m ∷ [])) (region_of m)
     newest = subst (λ xs. MayHaveRegion xs (region_of m)) (sym (take-append_seam line (m ∷ []))) may
 
--- a line stays one
+-- a line with a new event is a line
 pub IsLine-push : (p : ℕ) (line : List Event) (m : Event) → IsLine (record { instance = p; events = line }) → partner_of m ≢ p → length line < MAX_EVENTS → MayHaveRegion line (region_of m)
     → IsLine (record { instance = p; events = line ++ m ∷ [] })
 IsLine-push p line m old other short may = record {
@@ -36,7 +36,7 @@ IsLine-push p line m old other short may = record {
   regions = HasRegionsInOrder-push line m old.regions may;
 }
 
--- and so does what it keeps
+-- what it keeps stays right
 pub IsLaidOut-push : (p : ℕ) (line : List Event) (kept : List Starts) (greatest : ℕ) (m : Event) (b : Starts) → IsLaidOut p line kept greatest → partner_of m ≢ p → length line < MAX_EVENTS → MayHaveRegion line (region_of m)
     → AreStartsAt (line ++ m ∷ []) (length line + 1) b → IsLaidOut p (line ++ m ∷ []) (kept ++ b ∷ []) (max greatest (region_of m))
 IsLaidOut-push p line kept greatest m b old other short may next = record {

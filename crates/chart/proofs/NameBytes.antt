@@ -72,16 +72,16 @@ first b bytes true e h =
     (e, rw (letter_is_name b e, some_other bytes (nat_lt (prefix_len (λ x. not (not (is_name_byte x))) bytes) (length bytes)) refl rest) refl)
 first b bytes false e h = absurd (grind (arith, rw e at h))
 
--- of bytes without a fault the first one is a letter, and each may stand in a name
+-- if bytes have no fault, the first one is a letter, and each may be in a name
 pub sound_bytes : (b : ℕ) (bytes : List ℕ) → bad_place (b ∷ bytes) ≡ None → (is_letter b ≡ true) × (list_all is_name_byte (b ∷ bytes) ≡ true)
 sound_bytes b bytes h = first b bytes (is_letter b) refl h
 
--- a name has some bytes, and each of them may stand in a name
+-- a name has some bytes, and each of them may be in a name
 pub name_bytes : (bytes : List ℕ) → IsName bytes → (1 ≤ length bytes) × (list_all is_name_byte bytes ≡ true)
 name_bytes [] h = refused [] Empty (empty_error [] refl) h
 name_bytes (b ∷ bytes) h = (omega arith, (sound_bytes b bytes (name_is_sound (b ∷ bytes) h).1).1)
 
--- a byte that may stand in a name is greater than the number of bytes that a name may have
+-- a byte that may be in a name is at least the number of bytes that a name may have
 great : (b : ℕ) (t : Bool) → nat_le MAX_NAME b ≡ t → is_name_byte b ≡ true → MAX_NAME ≤ b
 great b true e h = grind (arith, nat_tests, e)
 great b false e h = absurd (grind (arith, nat_tests, e, h))

@@ -16,7 +16,7 @@ use Rattle.chart.proofs.Places.{each-push}
 pub Contains-found : (names : List (List ℕ)) (w : List ℕ) → list_any (bytes_eq w) names ≡ true → Contains names w
 Contains-found names w found = Contains-from_any (λ x y. (bytes_decides x y).0) w names found
 
--- one that doesn't shows that it isn't
+-- a look-up that doesn't find the name shows that it isn't there
 pub not_there : (names : List (List ℕ)) (w : List ℕ) → list_any (bytes_eq w) names ≡ false → Contains names w → ⊥
 not_there names w absent there = false≢true (sym absent ∙ list_any-from_Contains nat_list_eq_equiv w names there)
 
@@ -40,7 +40,7 @@ insert_key-new names w absent = by (list_any (bytes_eq w) names) refl
     by true e = absurd (absent (Contains-found names w e))
     by false e = ap (λ b. if b then names else names ++ w ∷ []) e
 
--- what is at a place is there
+-- a name at a place is in the list
 pub Contains-at : (names : List (List ℕ)) (i : ℕ) (w : List ℕ) → slice_get names i ≡ Some w → Contains names w
 Contains-at names i w e = (i, slice_get_within names i w e, get_or_from_slice_get names i w w e)
 

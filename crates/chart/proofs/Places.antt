@@ -1,4 +1,4 @@
--- The elements of a list, by their places, when it grows at its end, and where one is replaced.
+-- The elements of a list by their places, when the list grows at its end, or when one element is replaced.
 use Rattle.std.proofs.Common.{◌≡◌, ◌≢◌, ℕ, zero, suc, ◌<◌, ◌≤◌, List, [], ◌∷◌, ◌++◌, length, set, Some, sym, refl, ap, ◌∙◌, subst, arith, inl, inr}
 use Rattle.std.specs.Prelude.{slice_get}
 use Rattle.std.proofs.lemmas.Option.{slice_get_within}
@@ -6,7 +6,7 @@ use Rattle.std.proofs.lemmas.List.{length-append}
 use Rattle.std.proofs.lemmas.Bool.{cases_lt}
 use Rattle.chart.specs.Events.{ith}
 
--- what stands before the end stays where it is
+-- the elements before the end stay at their places
 pub slice_get-append : {X : Type 0} → (xs ys : List X) (i : ℕ) → i < length xs → slice_get (xs ++ ys) i ≡ slice_get xs i
 slice_get-append [] ys i h = absurd (omega (arith, h))
 slice_get-append (x ∷ xs) ys zero h = refl
@@ -23,7 +23,7 @@ ith-append xs ys (suc i) h = slice_get-append xs ys i h
 pub ith-append_last : {X : Type 0} → (xs : List X) (x : X) → ith (xs ++ x ∷ []) (suc (length xs)) ≡ Some x
 ith-append_last xs x = slice_get-append_last xs x
 
--- what holds of each element and of one more holds of each of the longer list
+-- a fact that holds of each element and of one more holds of each element of the longer list
 pub each-push : {X : Type 0} → (P : ℕ → X → Type 0) (xs : List X) (x : X) → ((i : ℕ) (y : X) → slice_get xs i ≡ Some y → P i y) → P (length xs) x
     → (i : ℕ) (y : X) → slice_get (xs ++ x ∷ []) i ≡ Some y → P i y
 each-push {X} P xs x old newest i y e = elim (cases_lt i (length xs)) [

@@ -8,7 +8,7 @@ use Rattle.chart.specs.declared.instance.EventNo.{EventNo}
 use Rattle.chart.specs.declared.ranges.EventRange.{EventRange}
 use Rattle.chart.specs.Ranges.{events_from, events_of, events_in, IsRange, IsWithinFirst, is_followed_by, both_before, range_before, ranges_of, AreRanges}
 
--- n events and m behind them
+-- n events, and m after them
 pub events_from-more : (p i n m : ℕ) → events_from p i (n + m) ≡ events_from p i n ++ events_from p (i + n) m
 events_from-more p i zero m =
     let none : zero + m ≡ m = omega arith in
@@ -19,7 +19,7 @@ events_from-more p i (suc n) m =
     let next : i + 1 + n ≡ i + suc n = omega arith in
     ap (events_from p i) one ∙ ap (λ es. record { instance = p; index = i } ∷ es) (events_from-more p (i + 1) n m ∙ ap (λ k. events_from p (i + 1) n ++ events_from p k m) next)
 
--- what it is for one range to go on where another one ends
+-- what it means that one range begins where another one ends
 pub followed-is : (r s : EventRange) → is_followed_by r s ≡ true → (r.first.instance ≡ s.first.instance) × (r.first.index + r.count ≡ s.first.index)
 followed-is r s e =
     let a = r.first.instance == s.first.instance in
@@ -75,7 +75,7 @@ ranges_of-range : (p i n : ℕ) (events : List EventNo) → 0 < n → ranges_of 
 ranges_of-range p i zero events some = absurd (omega (arith, some))
 ranges_of-range p i (suc n) events some = ranges_of-more p i n events
 
--- each of the ranges is one, where one comes before others
+-- each element stays a range if one is put before others
 IsRange-before : (r : EventRange) (ranges : List EventRange) → IsRange r → All IsRange ranges → All IsRange (range_before r ranges)
 IsRange-before r [] is each = All-cons IsRange r [] is each
 IsRange-before r (s ∷ ranges) is each = by (is_followed_by r s) refl
@@ -98,11 +98,11 @@ AreRanges-before r ranges is are = record {
 pub AreRanges-none : AreRanges []
 AreRanges-none = record { each = All-nil IsRange; fewest = refl }
 
--- there is one list of ranges of these events
+-- only one list of ranges has these events
 pub one_list : (ranges others : List EventRange) → AreRanges ranges → AreRanges others → events_in ranges ≡ events_in others → ranges ≡ others
 one_list ranges others are also same = sym are.fewest ∙ ap ranges_of same ∙ also.fewest
 
--- where there is a range there is an event
+-- ranges have an event
 pub some_event : (r : EventRange) (ranges : List EventRange) → All IsRange (r ∷ ranges) → 0 < length (events_in (r ∷ ranges))
 some_event r ranges each = by r.first.instance r.first.index r.count (All-head IsRange r ranges each).some
   where
@@ -113,7 +113,7 @@ some_event r ranges each = by r.first.instance r.first.index r.count (All-head I
 no_zero : (n : ℕ) → (suc n == 0) ≡ false
 no_zero n = false_from_ne_true (suc n == 0) (λ zero_n. let same : suc n ≡ 0 = eqb-true (suc n) 0 zero_n in absurd (omega arith))
 
--- there is an event just where there is a range
+-- there are events exactly if there are ranges
 pub none_of : (ranges : List EventRange) → All IsRange ranges → (length ranges == 0) ≡ (length (events_in ranges) == 0)
 none_of [] each = refl
 none_of (r ∷ ranges) each = by (length ranges) (length (events_in (r ∷ ranges))) (some_event r ranges each)
@@ -122,16 +122,16 @@ none_of (r ∷ ranges) each = by (length ranges) (length (events_in (r ∷ range
     by m zero some = absurd (omega (arith, some))
     by m (suc n) some = no_zero m ∙ sym (no_zero n)
 
--- where there is no event there is no range
+-- without events there are no ranges
 pub no_range : (ranges : List EventRange) (i : ℕ) → All IsRange ranges → events_in ranges ≡ [] → i < length ranges → ⊥
 no_range [] i each none within = omega (arith, within)
 no_range (r ∷ ranges) i each none within = omega (arith, some_event r ranges each, ap length none)
 
--- one event more of a range
+-- one more event of a range
 pub events_from-next : (p i n : ℕ) (before : List EventNo) → (before ++ events_from p i n) ++ record { instance = p; index = i + n } ∷ [] ≡ before ++ events_from p i (n + 1)
 events_from-next p i n before = append_assoc before (events_from p i n) (record { instance = p; index = i + n } ∷ []) ∙ ap (λ es. before ++ es) (sym (events_from-more p i n 1))
 
--- What stands the other way round, the last range first: a range is put before the others at its end.
+-- Ranges in the opposite order, the last one first: a range that is put before the others is added at the end.
 
 before_last : (x : EventRange) (front : List EventRange) → reverse (front ++ x ∷ []) ≡ x ∷ reverse front
 before_last x front = reverse-append front (x ∷ [])
@@ -169,14 +169,14 @@ event_read r k e within is = is ∙ sym (by r.first.instance r.first.index r.cou
     by p i (suc n) zero within = let here : i ≡ i + zero = omega arith in ap (λ j. record { instance = p; index = j }) here
     by p i (suc n) (suc k) within = let next : i + 1 + k ≡ i + suc k = omega arith in by p (i + 1) n k (omega (arith, within)) ∙ ap (λ j. record { instance = p; index = j }) next
 
--- a range more
+-- one more range
 pub events_in-more : (ranges : List EventRange) (k : ℕ) (d : EventRange) → k < length ranges → length (events_in (take (k + 1) ranges)) ≡ length (events_in (take k ranges)) + (get_or ranges k d).count
 events_in-more ranges k d within =
     let r = get_or ranges k d in
     ap length (ap events_in (take_more ranges k d within) ∙ sym (flat_map_more events_of [] (take k ranges) r)) ∙ length-append (events_in (take k ranges)) (events_of r)
     ∙ ap (λ n. length (events_in (take k ranges)) + n) (events_from-length r.first.instance r.first.index r.count)
 
--- What is left of ranges whose events come one by one.
+-- The rest of ranges whose events come one by one.
 
 -- a range that has begun has one more event
 pub next_event : (r : EventRange) (ranges : List EventRange) (passed : ℕ) → passed < r.count
@@ -192,7 +192,7 @@ next_event r ranges passed within = by r.first.instance r.first.index r.count pa
         by p (i + 1) n k (omega (arith, within)) ∙ ap (λ j. record { instance = p; index = j } ∷ drop (k + 1) (events_from p (i + 1) n ++ events_in ranges)) next
         ∙ ap (λ m. record { instance = p; index = i + suc k } ∷ drop m (record { instance = p; index = i } ∷ (events_from p (i + 1) n ++ events_in ranges))) one
 
--- with its last one the next range begins
+-- after its last event the next range begins
 pub last_event : (r : EventRange) (ranges : List EventRange) (passed : ℕ) → passed + 1 ≡ r.count
     → drop passed (events_in (r ∷ ranges)) ≡ record { instance = r.first.instance; index = r.first.index + passed } ∷ events_in ranges
 last_event r ranges passed last =

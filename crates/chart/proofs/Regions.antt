@@ -20,7 +20,7 @@ may_be-small line c (inl none) = omega arith
 may_be-small line c (inr (inl next)) = omega arith
 may_be-small line c (inr (inr same)) = omega (arith, same.1)
 
--- a coregion that an event may have, the next one may have too
+-- the coregion of an event is one that the next event may have too
 pub may-again : (line : List Event) (m : Event) → MayHaveRegion line (region_of m) → MayHaveRegion (line ++ m ∷ []) (region_of m)
 may-again line m may = by may (greatest_region-push line m) (last_region-push line m)
   where

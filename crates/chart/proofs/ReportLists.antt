@@ -28,7 +28,7 @@ receives-within p i (line_events.Receive from name region ∷ line) =
     (All-weaker (λ (e : EventNo). (e.instance ≡ p) × (i + 1 ≤ e.index) × (e.index < i + 1 + length line)) (λ (e : EventNo). (e.instance ≡ p) × (i ≤ e.index) × (e.index < i + suc (length line)))
     (λ e w. (w.0, omega (arith, w.1), omega (arith, w.2))) (receives_from p (i + 1) line) (receives-within p (i + 1) line))
 
--- a send is no receive
+-- a send at the end adds no receive
 pub receives-send : (p i : ℕ) (line : List Event) (to : ℕ) (name : List ℕ) → receives_from p i (line ++ send_event to name ∷ []) ≡ receives_from p i line
 receives-send p i [] to name = refl
 receives-send p i (line_events.Send a b ∷ line) to name = receives-send p (i + 1) line to name
@@ -44,7 +44,7 @@ receives-receive p i (line_events.Receive a b c ∷ line) from name region =
     let place : length line + (i + 1) ≡ suc (length line) + i = omega arith in
     ap (λ es. record { instance = p; index = i } ∷ es) (receives-receive p (i + 1) line from name region ∙ ap (λ x. receives_from p (i + 1) line ++ record { instance = p; index = x } ∷ []) place)
 
--- reports of events stay the chart's
+-- the reports of a line stay those of the chart
 pub reports_begun : (n k : ℕ) (h g : List Occurrence) → IsLegal n k h → Begins h g → (p : ℕ) (reports : List ReportView) → map (λ (report : ReportView). report.receive) reports ≡ receives_from p 1 (chart_of h p) → All (IsReportIn (chart_of h)) reports → All (IsReportIn (chart_of g)) reports
 reports_begun n k h g legal begins p reports receives old i d inside =
     let report = get_or reports i d in
@@ -57,7 +57,7 @@ reports_begun n k h g legal begins p reports receives old i d inside =
     let here : IsEvent (chart_of h) (at report.receive.instance report.receive.index) = subst (λ x. IsEvent (chart_of h) (at x report.receive.index)) (sym w.0) (w.1, omega (arith, w.2)) in
     record { exact = report_begun n k h g legal begins (at report.receive.instance report.receive.index) (map (λ race. race.index) report.earlier) here its.exact; line = its.line }
 
--- the reports of a line and those of the lines behind it
+-- the reports of a line, and those of the lines after it
 pub AreReportsOf-cons : (c : Chart) (l : LineView) (lines : List LineView) (own more : List ReportView) → map (λ (r : ReportView). r.receive) own ≡ receives_of l → All (IsReportIn c) own → AreReportsOf c lines more → AreReportsOf c (l ∷ lines) (own ++ more)
 AreReportsOf-cons c l lines own more receives each rest = record {
   receives = map-append (λ (r : ReportView). r.receive) own more ∙ ap₂ (λ xs ys. xs ++ ys) receives rest.receives ∙ sym (flat_map-cons receives_of l lines);
@@ -74,7 +74,7 @@ event p i = record { instance = p; index = i }
 abbrev report : EventNo → List EventNo → ReportView
 report e es = record { receive = e; earlier = es }
 
--- events of one instance are known by their numbers
+-- events of one instance are the same if their numbers are
 same_events : (p : ℕ) (xs ys : List EventNo) → map (λ (e : EventNo). e.index) xs ≡ map (λ (e : EventNo). e.index) ys → All (λ (e : EventNo). e.instance ≡ p) xs → All (λ (e : EventNo). e.instance ≡ p) ys → xs ≡ ys
 same_events p [] [] same a b = refl
 same_events p [] (y ∷ ys) same a b = cc
@@ -94,7 +94,7 @@ same_report_of c x y same a b =
     let indices = same_report c (at x.receive.instance x.receive.index) (map (λ race. race.index) x.earlier) (map (λ race. race.index) y.earlier) a.exact exact in
     ap₂ (λ (e : EventNo) (es : List EventNo). report e es) same (same_events x.receive.instance x.earlier y.earlier indices a.line line)
 
--- and several have their reports
+-- several receives have only one list of reports
 pub same_reports : (c : Chart) (xs ys : List ReportView) → map (λ (r : ReportView). r.receive) xs ≡ map (λ (r : ReportView). r.receive) ys → All (IsReportIn c) xs → All (IsReportIn c) ys → xs ≡ ys
 same_reports c [] [] same a b = refl
 same_reports c [] (y ∷ ys) same a b = cc

@@ -13,7 +13,8 @@ use Rattle.chart.proofs.Tally.{ith_within, ith-take, ith_from_take}
 use Rattle.chart.proofs.Chains.{chain_of, before_receive, before_its_receive}
 use Rattle.chart.proofs.Knowledge.{known_front}
 
--- an earlier event of a receive's line is before it just where it is a receive from the same sender or is known to the send
+-- an earlier event of a receive's line is before it exactly if it is a receive from the same sender or the send knows
+-- it
 pub before_in_line : (c : Chart) (s : Place) (p i j k : ℕ) → BelongsTo c s (at p i) → IsKnown c s p k → 1 ≤ j → j < i → Before c (at p j) (at p i) ↔ (IsReceiveFrom c s.instance (at p j) ⊎ (j ≤ k))
 before_in_line c s p i j k b known low less =
     let front = known_front c p s p k b.sent known j low in (
@@ -27,11 +28,11 @@ before_in_line c s p i j k b known low less =
       ],
     )
 
--- what the report of a receive has
+-- which events are in the report of a receive
 abbrev pub IsReported : Chart → Place → ℕ → Type 0
 IsReported c r j = (j < r.index) × ((m : Event) × (chart_event c (at r.instance j) ≡ Some m) × (is_in (region_of_event (chart_event c r)) m ≡ false)) × (Before c (at r.instance j) r → ⊥)
 
--- what the races of a line have
+-- which events are races of a line
 abbrev pub IsLineRace : List Event → ℕ → ℕ → ℕ → ℕ → Type 0
 IsLineRace line entry q region j = (entry < j) × ((m : Event) × (ith line j ≡ Some m) × (is_receive_from q m ≡ false) × (is_in region m ≡ false))
 

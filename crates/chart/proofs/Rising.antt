@@ -1,4 +1,4 @@
--- Rising lists of numbers: what is in one fixes it, and there is one of the numbers that pass a test.
+-- Rising lists of numbers: the elements determine the list, and the numbers that pass a test have such a list.
 use Rattle.std.proofs.Common.{◌≡◌, ℕ, zero, suc, ◌<◌, ◌≤◌, ◌↔◌, ◌⊎◌, inl, inr, Bool, true, List, [], ◌∷◌, ◌++◌, get_or, AllPairs, Contains, refl, sym, ap₂, ◌∙◌, subst, arith}
 use Rattle.std.proofs.lemmas.Bool.{cases_eq, cases_Bool, false≢true}
 use Rattle.std.proofs.lemmas.List.Elements.{Contains-append_left, Contains-push, Contains-push_cases, Contains-get_or}
@@ -13,7 +13,7 @@ Contains-cons_cases : (x : ℕ) (xs : List ℕ) (j : ℕ) → Contains (x ∷ xs
 Contains-cons_cases x xs j (zero, within, same) = inl same
 Contains-cons_cases x xs j (suc k, within, same) = inr (k, omega arith, same)
 
--- one of the rest is one of the whole
+-- an element of the rest is one of the whole list
 Contains-cons : (x : ℕ) (xs : List ℕ) (j : ℕ) → Contains xs j → Contains (x ∷ xs) j
 Contains-cons x xs j (k, within, same) = (suc k, omega arith, same)
 
@@ -25,7 +25,7 @@ head_below x xs j rising (k, within, same) = subst (λ y. x < y) same (rising 0 
 IsRising-tail : (x : ℕ) (xs : List ℕ) → IsRising (x ∷ xs) → IsRising xs
 IsRising-tail x xs rising = λ i j d less within. rising (suc i) (suc j) d (omega arith) (omega arith)
 
--- two rising lists with the same elements are one
+-- two rising lists with the same elements are equal
 pub same_rising : (xs ys : List ℕ) → IsRising xs → IsRising ys → ((j : ℕ) → Contains xs j ↔ Contains ys j) → xs ≡ ys
 same_rising [] [] a b same = refl
 same_rising [] (y ∷ ys) a b same = let w = (same y).1 (0, omega arith, refl) in absurd (omega (arith, w.1))

@@ -18,7 +18,7 @@ IsRun-append {test} {line} {start} {last} m run within = record {
   whole = λ n e. run.whole n (sym (ith-append line (m ∷ []) start (omega (arith, run.begun, within))) ∙ e);
 }
 
--- a run at the end goes on by an event that passes
+-- a run at the end is continued by an event that passes
 pub IsRun-ended : {test : Event → Bool} {line : List Event} {start : ℕ} → (m : Event) → EndsWithRun test line start → test m ≡ true → IsRun test (line ++ m ∷ []) start (length line + 1)
 IsRun-ended {test} {line} {start} m run pass = record {
   begun = omega (arith, run.within);
@@ -43,7 +43,7 @@ last_is line m n e =
     let there : Some m ≡ Some n = sym (ith-append_last line m) ∙ ap (ith (line ++ m ∷ [])) (sym at_end) ∙ e in
     cc
 
--- the start of the run of an event that is added: that of the run at the end, where it goes on
+-- the start of an added event's run, if the event continues the run at the end: the start of this run
 pub IsStartOfRun-push : (test : ℕ → Event → Bool) (line : List Event) (m : Event) (start : ℕ) → start ≤ length line → ((x : ℕ) → test x m ≡ true → EndsWithRun (test x) line start)
     → IsStartOfRun test (line ++ m ∷ []) (length line + 1) start
 IsStartOfRun-push test line m start within ends = record {

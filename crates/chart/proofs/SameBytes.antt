@@ -9,7 +9,7 @@ use mir.Syntax.{w8}
 abbrev differs : ℕ → ℕ → Bool
 differs a b = not (nat_eq a b)
 
--- twice a number is 0 where it is
+-- twice a number is 0 exactly if the number is
 double : (m : ℕ) (b : Bool) → nat_eq m 0 ≡ b → nat_eq (0 + 2 * m) 0 ≡ b
 double m true e = let z = eqb-true m 0 e in eq-eqb (0 + 2 * m) 0 (omega (arith, z))
 double m false e = false_from_ne_true (nat_eq (0 + 2 * m) 0) (λ h. let z = eqb-true (0 + 2 * m) 0 h in false≢true (sym e ∙ eq-eqb m 0 (omega (arith, z))))
@@ -21,7 +21,7 @@ at_first : (m : ℕ) (rest b : Bool) → nat_eq m 0 ≡ rest → nat_eq (cond (n
 at_first m rest true e = double m rest e
 at_first m rest false e = odd m
 
--- no bit is set where no bytes differ
+-- no bit is set exactly if no bytes differ
 none_set : (xs ys : List ℕ) → length xs ≡ length ys → nat_eq (mask_l (zip2 differs xs ys)) 0 ≡ pointwise nat_eq xs ys
 none_set [] [] l = refl
 none_set [] (y ∷ ys) l = absurd (omega (arith, l))

@@ -23,7 +23,7 @@ range-within s l k d h =
     let short : k < l = omega (arith, length-range_with_len s l) in
     rw (get_or-range_with_len s l k d short) (omega arith, omega arith)
 
--- the scan has other instances alone
+-- the scan has only other instances
 pub scan-others : (n p l : ℕ) → l ≤ n → All (IsOther n p) (scan n p l)
 scan-others n p l le k d h =
     let bounds = inside k d h in
@@ -36,7 +36,7 @@ scan-others n p l le k d h =
         (All-weaker (λ q. (l + 1 ≤ q) × (q < l + 1 + (n - l))) (λ q. (1 ≤ q) × (q ≤ n)) (λ q b. (omega (arith, b.0), omega (arith, b.1))) (range_with_len (l + 1) (n - l)) (range-within (l + 1) (n - l)))
         (All-weaker (λ q. (1 ≤ q) × (q < 1 + l)) (λ q. (1 ≤ q) × (q ≤ n)) (λ q b. (b.0, omega (arith, b.1))) (range_with_len 1 l) (range-within 1 l)))
 
--- a range without p has all its numbers, where p isn't among them
+-- a range without p has all its numbers, if p isn't among them
 others-all : (p s l : ℕ) → (p < s) ⊎ (s + l ≤ p) → length (filter (λ q. not (q == p)) (range_with_len s l)) ≡ l
 others-all p s zero out = refl
 others-all p s (suc l) out =
@@ -44,7 +44,7 @@ others-all p s (suc l) out =
     let rest : (p < s + 1) ⊎ (s + 1 + l ≤ p) = elim out [ inl below ↦ inl (omega arith) | inr past ↦ inr (omega arith) ] in
     rw other (ap suc (others-all p (s + 1) l rest))
 
--- and else all but one
+-- otherwise it has all but one
 others-but-one : (p s l : ℕ) → s ≤ p → p < s + l → length (filter (λ q. not (q == p)) (range_with_len s l)) + 1 ≡ l
 others-but-one p s zero low high = absurd (omega arith)
 others-but-one p s (suc l) low high = go (s == p) refl (λ less top. others-but-one p (s + 1) l less top)
@@ -78,7 +78,7 @@ others-have p s (suc l) q low high other = go (s == p) refl (λ less. others-hav
       | inr past ↦ (0, omega arith, omega arith)
     ]
 
--- and the scan each other instance
+-- the scan has each other instance
 pub scan-has : (n p l q : ℕ) → IsOther n p q → Contains (scan n p l) q
 scan-has n p l q other =
     subst (λ xs. Contains xs q) (sym (filter-append (λ x. not (x == p)) (range_with_len (l + 1) (n - l)) (range_with_len 1 l))) (elim (cases_lt l q) [

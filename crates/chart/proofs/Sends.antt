@@ -20,7 +20,7 @@ use Rattle.chart.proofs.Lanes.{count_push, received_count, send_of_first}
 pub grows_by_event : (h : List Occurrence) (e : Occurrence) → GrowsTo (chart_of h) (chart_of (e ∷ h))
 grows_by_event h e p = (line_gets h p e, refl)
 
--- and with several
+-- it grows with several events
 pub grows_by_events : (more h : List Occurrence) → GrowsTo (chart_of h) (chart_of (more ++ h))
 grows_by_events [] h p = ([], sym (append-nil (chart_of h p)))
 grows_by_events (e ∷ more) h p =
@@ -53,7 +53,7 @@ newest_belongs n k h legal p q c x rest e j (passes, turn) =
       turn = tally_grown (chart_of h) new grows (is_send_to p) (at q j) here ∙ turn ∙ sym (ap (λ l. tally (is_receive_from q) l last) line ∙ turns);
     }
 
--- a receive from q on a line is what a receive event put there, of the first message that waited
+-- a receive from q that an occurrence adds to a line is the receive of the first message that waited
 pub received_with : (h : List Occurrence) (p q : ℕ) (e : Occurrence) (j : ℕ) (m : Event) → ith (line_gets h p e) j ≡ Some m → is_receive_from q m ≡ true → (c : ℕ) × (x : Content) × (rest : List Content) × (e ≡ Receive p q c) × (waiting h q p ≡ x ∷ rest) × (j ≡ 1)
 received_with h p q (Send a b x) j m at_j from = go (a == p) at_j
   where
@@ -76,7 +76,7 @@ received_with h p q (Close a b) j m at_j from = absurd (ith_nil j m at_j)
 abbrev pub HasItsSend : Chart → ℕ → Place → Type 0
 HasItsSend c q r = (y : ℕ) × (a : Event) × (b : Event) × BelongsTo c (at q y) r × (chart_event c (at q y) ≡ Some a) × (chart_event c r ≡ Some b) × (name_of a ≡ name_of b)
 
--- it keeps it
+-- the receive keeps its send
 HasItsSend-grown : (c d : Chart) → GrowsTo c d → (q : ℕ) (r : Place) → HasItsSend c q r → HasItsSend d q r
 HasItsSend-grown c d grows q r (y, a, b, belongs, at_y, at_r, same) =
     (y, a, b, belongs_grown c d grows (at q y) r belongs, chart_event_grown c d grows (at q y) (IsEvent-from_event c (at q y) a at_y) ∙ at_y, chart_event_grown c d grows r (IsEvent-from_event c r b at_r) ∙ at_r, same)

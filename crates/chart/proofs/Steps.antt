@@ -1,4 +1,5 @@
--- What one more event adds to a legal history's chart: what a new send knows, what a new receive hears and reports.
+-- What one more occurrence adds to a legal history's chart: what a new send knows, what a new receive hears and
+-- reports.
 use Rattle.std.proofs.Common.{◌≡◌, ℕ, ◌+◌, inl, cond, max, List, [], ◌∷◌, ◌++◌, take, length, refl, sym, ap, ◌∙◌, subst, arith, append-nil, ne_eqb}
 use Rattle.std.proofs.lemmas.List.{length_push, take_at}
 use Rattle.chart.specs.declared.history.Occurrence.{Occurrence}
@@ -18,7 +19,7 @@ use Rattle.chart.proofs.Growing.{known_grown, heard_grown}
 use Rattle.chart.proofs.Lanes.{newest_is_send}
 use Rattle.chart.proofs.Sends.{grows_by_event, line_after_send, line_after_receive, newest_belongs, sends_of}
 
--- an event of another instance leaves a line as it is
+-- an occurrence of another instance leaves a line as it is
 pub line_of_other : (h : List Occurrence) (e : Occurrence) (p : ℕ) → (by e ≡ p → ⊥) → chart_of (e ∷ h) p ≡ chart_of h p
 line_of_other h (Send a b x) p differs = ap (λ mine. chart_of h p ++ cond mine (send_event b x.name ∷ []) []) (ne_eqb a p differs) ∙ append-nil (chart_of h p)
 line_of_other h (Receive a b c) p differs = ap (λ mine. chart_of h p ++ cond mine (receive_of (waiting h b a) b c) []) (ne_eqb a p differs) ∙ append-nil (chart_of h p)
@@ -28,16 +29,16 @@ line_of_other h (Close a b) p differs = append-nil (chart_of h p)
 pub line_after_close : (h : List Occurrence) (p q r : ℕ) → chart_of (Close p q ∷ h) r ≡ chart_of h r
 line_after_close h p q r = append-nil (chart_of h r)
 
--- a new send knows of its own line all events, with itself
+-- a new send knows all events of its own line, including itself
 pub new_send_knows_own : (h : List Occurrence) (p q : ℕ) (x : Content) → IsKnown (chart_of (Send p q x ∷ h)) (at p (length (chart_of h p) + 1)) p (length (chart_of h p) + 1)
 new_send_knows_own h p q x = known_own (chart_of (Send p q x ∷ h)) q p (length (chart_of h p) + 1) (newest_is_send h p q x).0 (inl (ap length (line_after_send h p q x) ∙ length_push (chart_of h p) (send_event q x.name)))
 
 module _ (n k : ℕ) (h : List Occurrence) (legal : IsLegal n k h) where
-  -- what its line has heard of a line stays so with a new event
+  -- the greatest heard of the earlier events of a line stays the same with a new event
   still_heard : (e : Occurrence) (p r m : ℕ) → IsGreatestHeard (chart_of h) p (length (chart_of h p)) r m → IsGreatestHeard (chart_of (e ∷ h)) p (length (chart_of h p)) r m
   still_heard e p r m heard = heard_grown (chart_of h) (chart_of (e ∷ h)) (grows_by_event h e) (sends_of n k h legal) p (length (chart_of h p)) r m (omega arith) heard
 
-  -- a new send knows of another line what its own has heard of it
+  -- a new send knows of another line the greatest heard of it
   pub new_send_knows_other : (p q : ℕ) (x : Content) (r m : ℕ) → (r ≡ p → ⊥) → IsGreatestHeard (chart_of h) p (length (chart_of h p)) r m → IsKnown (chart_of (Send p q x ∷ h)) (at p (length (chart_of h p) + 1)) r m
   new_send_knows_other p q x r m other heard = known_other (chart_of (Send p q x ∷ h)) q p (length (chart_of h p)) r m (newest_is_send h p q x).0 other (still_heard (Send p q x) p r m heard)
 

@@ -30,7 +30,7 @@ ith-append [] ys (suc i) h = absurd (omega arith)
 ith-append (x ∷ xs) ys (suc zero) h = refl
 ith-append (x ∷ xs) ys (suc (suc i)) h = ith-append xs ys (suc i) (omega arith)
 
--- the first of what was appended
+-- the first appended element
 pub ith-append_next : {X : Type 0} (xs ys : List X) (y : X) → ith (xs ++ y ∷ ys) (suc (length xs)) ≡ Some y
 ith-append_next [] ys y = refl
 ith-append_next (x ∷ xs) ys y = ith-append_next xs ys y
@@ -57,7 +57,7 @@ ith_single y zero x h = absurd (none-some x h)
 ith_single y (suc zero) x h = (omega arith, same_Some y x h)
 ith_single y (suc (suc i)) x h = absurd (none-some x h)
 
--- the first element of what is left of a list
+-- the first element of the rest of a list
 pub ith_at_drop : {X : Type 0} (n : ℕ) (xs : List X) (x : X) (rest : List X) → drop n xs ≡ x ∷ rest → ith xs (suc n) ≡ Some x
 ith_at_drop zero [] x rest h = absurd (cc)
 ith_at_drop zero (y ∷ xs) x rest h = let e : y ≡ x = cc in ap (λ z. Some z) e
@@ -88,7 +88,7 @@ tally_next test xs i m h =
     let e = sum_by_more (λ x. cond (test x) 1 0) xs i m (slice_get_within xs i m h) in
     rw (get_or_from_slice_get xs i m m h) at (rw add-one at e)
 
--- one place further the count is as before, or there is an event that passes, and it is one more
+-- one place further the count is the same, or there is an event that passes, and the count is one more
 pub tally_cases : (test : Event → Bool) (xs : List Event) (i : ℕ) → (tally test xs (suc i) ≡ tally test xs i) ⊎ (Passes test xs (suc i) × (tally test xs (suc i) ≡ tally test xs i + 1))
 tally_cases test xs i =
     elim (slice_get_cases xs i).1 [
@@ -144,7 +144,7 @@ tally_reached test xs n (suc i) low high =
 pub tally-append : (test : Event → Bool) (xs ys : List Event) (i : ℕ) → i ≤ length xs → tally test (xs ++ ys) i ≡ tally test xs i
 tally-append test xs ys i h = ap (count_by test) (take-append-le i xs ys h)
 
--- up to the end of a list there are all
+-- up to the end of a list all are counted
 pub tally_all : (test : Event → Bool) (xs : List Event) (i : ℕ) → length xs ≤ i → tally test xs i ≡ count_by test xs
 tally_all test xs i h = ap (count_by test) (take_all i xs h)
 

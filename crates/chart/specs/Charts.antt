@@ -25,22 +25,22 @@ at p i = record { instance = p; index = i }
 abbrev pub chart_event : Chart → Place → Option Event
 chart_event c e = ith (c e.instance) e.index
 
--- at e is a send to q
+-- the event at e is a send to q
 abbrev pub IsSendTo : Chart → Instance → Place → Type 0
 IsSendTo c q e = (m : Event) × (chart_event c e ≡ Some m) × (is_send_to q m ≡ true)
 
--- at e is a receive from q
+-- the event at e is a receive from q
 abbrev pub IsReceiveFrom : Chart → Instance → Place → Type 0
 IsReceiveFrom c q e = (m : Event) × (chart_event c e ≡ Some m) × (is_receive_from q m ≡ true)
 
--- the receive r is of the send s: the n-th receive on a lane is of the n-th send
+-- the receive r belongs to the send s: the n-th receive on a lane belongs to the n-th send
 pub record BelongsTo (c : Chart) (s r : Place) : Type 0 where
   pub sent : IsSendTo c r.instance s
   pub received : IsReceiveFrom c s.instance r
   pub turn : tally (is_send_to r.instance) (c s.instance) s.index
       ≡ tally (is_receive_from s.instance) (c r.instance) r.index
 
--- r is a receive, and fewer messages were sent on its lane than were received up to it
+-- r is a receive, and its lane has fewer sends than receives up to r
 abbrev pub HasNoSend : Chart → Place → Type 0
 HasNoSend c r = (q : ℕ) × IsReceiveFrom c q r
     × (count_by (is_send_to r.instance) (c q) < tally (is_receive_from q) (c r.instance) r.index)
@@ -50,7 +50,7 @@ abbrev pub HasOtherName : Chart → Place → Type 0
 HasOtherName c r = (s : Place) × (m : Event) × (n : Event) × BelongsTo c s r × (chart_event c s ≡ Some m)
     × (chart_event c r ≡ Some n) × (name_of m ≢ name_of n)
 
--- the chart of a history that is legal with no bound on waiting messages
+-- the chart of a history that is legal for some number of slots
 abbrev pub IsPossible : ℕ → Chart → Type 0
 IsPossible n c = (h : List Occurrence) × (k : ℕ) × IsLegal n k h × ((p : ℕ) → chart_of h p ≡ c p)
 
@@ -61,18 +61,18 @@ pub record LineView : Type 0 where
   pub instance : ℕ
   pub events : List Event
 
--- a line that grows, and how many events it has room for without memory
+-- a growing line, and the number of events for which it has room without memory
 pub record GrowingView : Type 0 where
   pub line : LineView
   pub room : ℕ
 
--- what each line keeps: the limit, that no event names its own instance, and the rule of coregions
+-- what holds of each line: the limit, the rule of coregions, and that no event names the line's own instance
 pub record IsLine (l : LineView) : Type 0 where
   pub short : length l.events ≤ MAX_EVENTS
   pub partners : (i : ℕ) (m : Event) → slice_get l.events i ≡ Some m → partner_of m ≢ l.instance
   pub regions : HasRegionsInOrder l.events
 
--- each line is the next instance's
+-- the lines are those of instance 1, instance 2, and so on
 abbrev pub IsNumbered : List LineView → Type 0
 IsNumbered lines = (i : ℕ) (l : LineView) → slice_get lines i ≡ Some l → l.instance ≡ suc i
 
@@ -80,7 +80,7 @@ IsNumbered lines = (i : ℕ) (l : LineView) → slice_get lines i ≡ Some l →
 abbrev pub HasPartners : ℕ → List LineView → Type 0
 HasPartners n lines = All (λ l. All (λ m. partner_of m ≤ n) l.events) lines
 
--- what each chart keeps
+-- what holds of each chart
 pub record IsChart (lines : List LineView) : Type 0 where
   pub several : 2 ≤ length lines
   pub limit : length lines ≤ MAX_INSTANCES
@@ -88,7 +88,7 @@ pub record IsChart (lines : List LineView) : Type 0 where
   pub partners : HasPartners (length lines) lines
   pub each : All IsLine lines
 
--- the lines by instance; a number that is no instance's has an empty line
+-- the line of each instance; any other number has an empty line
 abbrev pub chart_lines : List LineView → Chart
 chart_lines lines zero = []
 chart_lines lines (suc p) = (slice_index_or lines p (record { instance = suc p; events = [] })).events

@@ -1,8 +1,8 @@
--- Histories of the events of all instances (ITU-T Z.120: a chart's events in some order that it allows, over lanes that
--- are queues, as Alur, Holzmann and Peled 1996 have them; a close is this project's profile).
+-- Histories of the occurrences of all instances (ITU-T Z.120: a chart's events in some order that it allows, over lanes
+-- that are queues, as Alur, Holzmann and Peled 1996 have them; a close is this project's profile).
 --
--- A history is the list of its events, the newest first. Messages of a lane and events of a line are lists with the
--- oldest first.
+-- A history is the list of its occurrences, the newest first. The messages of a lane and the events of a line are lists
+-- with the oldest first.
 use Rattle.std.specs.Prelude.{◌≡◌, ◌≢◌, ℕ, ◌+◌, ◌<◌, ◌≤◌, Bool, false, ◌&&◌, ◌||◌, ◌==◌, List, [], ◌∷◌, ◌++◌, length, drop, if◌then◌else◌}
 use Rattle.chart.specs.Words.{Instance}
 use Rattle.chart.specs.declared.history.Occurrence.{Occurrence}
@@ -12,7 +12,7 @@ use Rattle.chart.specs.declared.line.TheConstants.{MAX_EVENTS}
 use Rattle.chart.specs.Messages.{Content}
 use Rattle.chart.specs.Events.{send_event, receive_event, MayHaveRegion}
 
--- who did it
+-- the instance that did it
 abbrev pub by : Occurrence → Instance
 by (Send p q m) = p
 by (Receive p q c) = p
@@ -41,7 +41,7 @@ received (Send a b m ∷ h) q p = received h q p
 received (Receive a b c ∷ h) q p = if is_lane b a q p then received h q p + 1 else received h q p
 received (Close a b ∷ h) q p = received h q p
 
--- the messages from q to p that wait: those that were sent without as many first ones as were received
+-- the messages from q to p that wait: the sent ones without the first ones, as many as were received
 abbrev pub waiting : List Occurrence → Instance → Instance → List Content
 waiting h q p = drop (received h q p) (sent h q p)
 
@@ -52,12 +52,12 @@ is_closed (Send a b m ∷ h) q p = is_closed h q p
 is_closed (Receive a b c ∷ h) q p = is_closed h q p
 is_closed (Close a b ∷ h) q p = is_lane a b q p || is_closed h q p
 
--- what the receive of the first of these messages is on a line: it has this message's name
+-- the event that a receive of the first of these messages adds to a line: it has this message's name
 abbrev pub receive_of : List Content → Instance → ℕ → List Event
 receive_of [] q c = []
 receive_of (m ∷ ms) q c = receive_event q m.name c ∷ []
 
--- what p's line gets by the event: a close is on no line
+-- what the occurrence adds to p's line: a close is on no line
 abbrev pub line_gets : List Occurrence → Instance → Occurrence → List Event
 line_gets h p (Send a b m) = if a == p then send_event b m.name ∷ [] else []
 line_gets h p (Receive a b c) = if a == p then receive_of (waiting h b a) b c else []
@@ -68,11 +68,11 @@ abbrev pub chart_of : List Occurrence → Instance → List Event
 chart_of [] p = []
 chart_of (e ∷ h) p = chart_of h p ++ line_gets h p e
 
--- two of n instances
+-- p and q are two of n instances
 abbrev pub AreTwo : ℕ → Instance → Instance → Type 0
 AreTwo n p q = (1 ≤ p) × (p ≤ n) × (1 ≤ q) × (q ≤ n) × (p ≢ q)
 
--- the event is allowed after the history, among n instances whose lanes have k slots each
+-- the occurrence is allowed after the history, among n instances whose lanes have k slots each
 abbrev pub MayFollow : ℕ → ℕ → List Occurrence → Occurrence → Type 0
 MayFollow n k h (Send p q m) = AreTwo n p q × (is_closed h p q ≡ false) × (length (waiting h p q) < k)
     × (length (chart_of h p) < MAX_EVENTS)
@@ -80,7 +80,7 @@ MayFollow n k h (Receive p q c) = AreTwo n p q × (0 < length (waiting h q p)) �
     × MayHaveRegion (chart_of h p) c
 MayFollow n k h (Close p q) = AreTwo n p q × (is_closed h p q ≡ false)
 
--- each event was allowed when it came
+-- each occurrence was allowed when it came
 abbrev pub IsLegal : ℕ → ℕ → List Occurrence → Type 0
 IsLegal n k [] = Unit {0}
 IsLegal n k (e ∷ h) = MayFollow n k h e × IsLegal n k h

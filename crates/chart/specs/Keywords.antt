@@ -1,5 +1,5 @@
--- The words that a chart's text keeps for itself (this project's profile of the words of ITU-T Z.120), each spelled
--- here and nowhere else.
+-- The reserved words of a chart's text (this project's profile of the words of ITU-T Z.120). Each is spelled here and
+-- nowhere else.
 use Rattle.std.specs.Prelude.{Bool, List, [], ◌∷◌, codes, bytes_eq}
 use Rattle.std.specs.List.{list_any}
 use Rattle.chart.specs.Words.{Text}
@@ -23,10 +23,10 @@ spelled EndConcurrent = codes "endconcurrent"
 unfoldable pub is_keyword : Keyword → Text → Bool
 is_keyword keyword word = bytes_eq word (spelled keyword)
 
--- each of them
+-- each reserved word
 abbrev pub keywords : List Keyword
 keywords = Msc ∷ EndMsc ∷ Instance ∷ EndInstance ∷ Out ∷ To ∷ In ∷ From ∷ Concurrent ∷ EndConcurrent ∷ []
 
--- the bytes are one of them
+-- the bytes are a reserved word
 unfoldable pub is_reserved : Text → Bool
 is_reserved word = list_any (λ keyword. is_keyword keyword word) keywords

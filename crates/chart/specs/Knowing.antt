@@ -17,8 +17,8 @@ pub data IsCount (P : ℕ → Type 0) : ℕ → ℕ → Type 0 where
 abbrev pub IsKnown : Chart → Place → ℕ → ℕ → Type 0
 IsKnown c s p k = IsCount (λ j. IsUpTo c s (at p j)) (length (c p)) k
 
--- of the receives among the first n events of p's line, k is the most that a send of theirs knows of q's line, 0 where
--- there are none
+-- k is the greatest number of events of q's line that a send knows whose receive is among the first n events of p's
+-- line; it is 0 if there are no such receives
 pub record IsGreatestHeard (c : Chart) (p n q k : ℕ) : Type 0 where
   pub each : (l : ℕ) (s : Place) → l ≤ n → BelongsTo c s (at p l) → (m : ℕ) × IsKnown c s q m × (m ≤ k)
   pub attained : (k ≡ 0) ⊎ ((l : ℕ) × (s : Place) × (l ≤ n) × BelongsTo c s (at p l) × IsKnown c s q k)

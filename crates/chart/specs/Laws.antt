@@ -1,5 +1,5 @@
--- The laws of charts: statements that the functions of `laws` prove. Those of knowledge and of what is heard are vector
--- time's (Fidge 1988, Mattern 1989); the others are this project's profile, over the definitions that they cite.
+-- The laws of charts: statements that the functions of `laws` prove. The laws of knowledge and of hearing are those of
+-- vector time (Fidge 1988, Mattern 1989). The others are this project's profile, over the definitions that they cite.
 use Rattle.std.specs.Prelude.{◌≡◌, ℕ, ◌+◌, ◌<◌, ◌≤◌, ◌↔◌, ◌⊎◌, max, List, [], ◌∷◌, ◌++◌, take, length, slice_get, Some, Err}
 use Rattle.chart.specs.Words.{Indices}
 use Rattle.chart.specs.declared.history.Occurrence.{Occurrence}
@@ -17,21 +17,21 @@ use Rattle.chart.specs.Names.{name_of}
 use Rattle.chart.specs.declared.keyword.Keyword.{Keyword}
 use Rattle.chart.specs.declared.name.NameError.TheVariants.{Reserved}
 
--- Of names.
+-- Names.
 
--- no word that the chart text keeps for itself is a name
+-- each reserved word of the chart text is refused as a name, since it is reserved
 abbrev pub KeywordLaw : Type 0
 KeywordLaw = (keyword : Keyword) → name_of (spelled keyword) ≡ Err Reserved
 
--- Of any chart.
+-- Any chart.
 
--- where the receive at i of p's line belongs to s, and s knows k of this line, an earlier event of the line is before
--- the receive just where it is a receive from the same sender or among the first k
+-- suppose that the receive at i of p's line belongs to s, and s knows k of this line: an earlier event at j is before
+-- the receive exactly if it is a receive from the same sender, or j is at most k
 abbrev pub ReportLaw : Type 0
 ReportLaw = (c : Chart) (s : Place) (p i j k : ℕ) → BelongsTo c s (at p i) → IsKnown c s p k → 1 ≤ j → j < i
     → Before c (at p j) (at p i) ↔ (IsReceiveFrom c s.instance (at p j) ⊎ (j ≤ k))
 
--- the races of the line as it was before the receive, later than what the send knows, are the receive's report
+-- take the line as it was before the receive: its races later than what the send knows are the receive's report
 abbrev pub RacesLaw : Type 0
 RacesLaw = (c : Chart) (s : Place) (p i k region : ℕ) (races : Indices) → BelongsTo c s (at p (i + 1))
     → region_of_event (chart_event c (at p (i + 1))) ≡ region → IsKnown c s p k
@@ -42,7 +42,7 @@ abbrev pub OwnKnowledgeLaw : Type 0
 OwnKnowledgeLaw = (c : Chart) (to p i : ℕ) → IsSendTo c to (at p i) → (length (c p) ≡ i) ⊎ (IsCyclic c → ⊥)
     → IsKnown c (at p i) p i
 
--- a send knows of another line the greatest heard of the events earlier on its own
+-- a send knows of another line the greatest heard by the earlier events of its own line
 abbrev pub KnowledgeLaw : Type 0
 KnowledgeLaw = (c : Chart) (to p i q k : ℕ) → IsSendTo c to (at p (i + 1)) → (q ≡ p → ⊥) → IsGreatestHeard c p i q k
     → IsKnown c (at p (i + 1)) q k
@@ -61,7 +61,7 @@ abbrev pub SendHearingLaw : Type 0
 SendHearingLaw = (c : Chart) (to p n q k : ℕ) → IsGreatestHeard c p n q k → IsSendTo c to (at p (n + 1))
     → IsGreatestHeard c p (n + 1) q k
 
--- Of legal histories.
+-- Legal histories.
 
 -- no receive lacks a send
 abbrev pub NoSendLaw : Type 0
@@ -80,9 +80,9 @@ SendLaw = (n k : ℕ) (h : List Occurrence) → IsLegal n k h → (from : ℕ) (
 abbrev pub NoCycleLaw : Type 0
 NoCycleLaw = (n k : ℕ) (h : List Occurrence) → IsLegal n k h → IsCyclic (chart_of h) → ⊥
 
--- What one more event adds.
+-- What one more occurrence adds.
 
--- an event of another instance leaves a line as it is
+-- an occurrence of another instance leaves a line as it is
 abbrev pub OtherLineLaw : Type 0
 OtherLineLaw = (h : List Occurrence) (e : Occurrence) (p : ℕ) → (by e ≡ p → ⊥) → chart_of (e ∷ h) p ≡ chart_of h p
 
@@ -100,17 +100,17 @@ abbrev pub ReceiveLineLaw : Type 0
 ReceiveLineLaw = (h : List Occurrence) (p q c : ℕ) (m : Content) (rest : List Content) → waiting h q p ≡ m ∷ rest
     → chart_of (Receive p q c ∷ h) p ≡ chart_of h p ++ receive_event q m.name c ∷ []
 
--- a new send has as many earlier sends of its lane as messages were sent
+-- the number of earlier sends of a new send's lane is that of the messages that were sent
 abbrev pub NewSendLaw : Type 0
 NewSendLaw = (h : List Occurrence) (p q : ℕ) (m : Content)
     → IsSendAfter (chart_of (Send p q m ∷ h) p) q (length (sent h p q)) (length (chart_of h p) + 1)
 
--- it knows of its own line all events, with itself
+-- it knows all events of its own line, including itself
 abbrev pub NewSendOwnLaw : Type 0
 NewSendOwnLaw = (h : List Occurrence) (p q : ℕ) (m : Content)
     → IsKnown (chart_of (Send p q m ∷ h)) (at p (length (chart_of h p) + 1)) p (length (chart_of h p) + 1)
 
--- it knows of another line what was most heard of it
+-- it knows of another line the greatest heard of it
 abbrev pub NewSendKnowledgeLaw : Type 0
 NewSendKnowledgeLaw = (n k : ℕ) (h : List Occurrence) → IsLegal n k h → (p q : ℕ) (m : Content) (r l : ℕ) → (r ≡ p → ⊥)
     → IsGreatestHeard (chart_of h) p (length (chart_of h p)) r l
@@ -127,7 +127,7 @@ abbrev pub MessageSendLaw : Type 0
 MessageSendLaw = (h : List Occurrence) (q p i : ℕ) (m : Content) → slice_get (sent h q p) i ≡ Some m
     → (j : ℕ) × IsSendAfter (chart_of h q) p i j × (chart_event (chart_of h) (at q j) ≡ Some (send_event p m.name))
 
--- and one only
+-- and only one send
 abbrev pub OneSendLaw : Type 0
 OneSendLaw = (line : List Event) (p i j l : ℕ) → IsSendAfter line p i j → IsSendAfter line p i l → j ≡ l
 
@@ -151,9 +151,9 @@ NewReportLaw = (n k : ℕ) (h : List Occurrence) → IsLegal n k h → (p q c : 
     → (known : ℕ) (races : Indices) → IsKnown (chart_of h) (at q j) p known → AreLineRaces (chart_of h p) known q c races
     → IsReport (chart_of (Receive p q c ∷ h)) (at p (length (chart_of h p) + 1)) races
 
--- What stays as it is in each history that begins with another, for the most part a legal one.
+-- What stays the same in each history that begins with another one, which is legal in most of these laws.
 
--- what a legal history begins with is legal
+-- a beginning of a legal history is legal
 abbrev pub LegalGrowthLaw : Type 0
 LegalGrowthLaw = (n k : ℕ) (h g : List Occurrence) → Begins h g → IsLegal n k g → IsLegal n k h
 
@@ -192,7 +192,7 @@ abbrev pub HearingGrowthLaw : Type 0
 HearingGrowthLaw = (n k : ℕ) (h g : List Occurrence) → IsLegal n k h → Begins h g → (p i q m : ℕ)
     → i ≤ length (chart_of h p) → IsGreatestHeard (chart_of h) p i q m → IsGreatestHeard (chart_of g) p i q m
 
--- What is there once in a legal history's chart.
+-- What exists exactly once in a legal history's chart.
 
 -- what a send knows of a line
 abbrev pub OneKnowledgeLaw : Type 0

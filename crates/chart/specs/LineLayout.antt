@@ -1,4 +1,4 @@
--- What a line that grows keeps: for each event an entry, which says where its runs start too (this project's profile).
+-- What a growing line keeps: for each event an entry, which also has the starts of its runs (this project's profile).
 use Rattle.std.specs.Prelude.{◌≡◌, ℕ, suc, ◌+◌, ◌<◌, ◌≤◌, List, [], ◌∷◌, ◌++◌, length, map, slice_get, slice_index_or, Some, All, if◌then◌else◌}
 use Rattle.chart.specs.Words.{Instance, Name}
 use Rattle.chart.specs.declared.event.Event.{Event}
@@ -8,7 +8,7 @@ use Rattle.chart.specs.Events.{send_event, receive_event, is_receive_from, is_in
 use Rattle.chart.specs.Charts.{IsLine}
 use Rattle.chart.specs.Runs.{IsStartOfRun}
 
--- what is kept for the event of this index is right
+-- what is kept for the event of this index, from 1, is right
 pub record AreStartsAt (line : List Event) (index : ℕ) (s : Starts) : Type 0 where
   pub run : IsStartOfRun is_receive_from line index s.run
   pub region : IsStartOfRun is_in line index s.region
@@ -17,11 +17,11 @@ pub record AreStartsAt (line : List Event) (index : ℕ) (s : Starts) : Type 0 w
 abbrev pub AreStarts : List Event → List Starts → Type 0
 AreStarts line kept = (i : ℕ) (s : Starts) → slice_get kept i ≡ Some s → AreStartsAt line (suc i) s
 
--- it is right for an event that is added to the line
+-- what is kept is right for an event that is added to the line
 abbrev pub IsNext : List Event → Event → Starts → Type 0
 IsNext line m s = AreStartsAt (line ++ m ∷ []) (length line + 1) s
 
--- what a line's fields keep
+-- what holds of a line's fields
 pub record IsLaidOut (p : Instance) (events : List Event) (kept : List Starts) (greatest : ℕ) : Type 0 where
   pub line : IsLine (record { instance = p; events = events })
   pub same : length kept ≡ length events
@@ -29,7 +29,7 @@ pub record IsLaidOut (p : Instance) (events : List Event) (kept : List Starts) (
   pub greatest_is : greatest ≡ greatest_region events
   pub few_regions : greatest ≤ length events
 
--- the event that an entry stands for, where its line's messages have these names
+-- the event of an entry, if these are the names of its line's messages
 abbrev pub event_of : List Name → Entry → Event
 event_of names e =
     if e.receives
@@ -42,7 +42,7 @@ events_of names entries = map (event_of names) entries
 abbrev pub starts_of : List Entry → List Starts
 starts_of entries = map (λ e. e.starts) entries
 
--- each entry has one of these names, and they stand for the events of a line
+-- each entry has one of these names, and the entries' events are those of a line
 pub record AreEntries (p : Instance) (names : List Name) (entries : List Entry) (greatest : ℕ) : Type 0 where
   pub named : All (λ e. e.name < length names) entries
   pub few : length names ≤ length entries

@@ -1,5 +1,5 @@
--- What a list of the instances' names keeps: no name is given twice (ITU-T Z.120), and there are at most as many as
--- this project's profile has.
+-- What holds of a list of the instances' names: no name occurs twice (ITU-T Z.120), and their number is within the
+-- limit of this project's profile.
 use Rattle.std.specs.Prelude.{◌≡◌, ℕ, ◌≤◌, List, length, slice_get, Some}
 use Rattle.chart.specs.Words.{Name}
 use Rattle.chart.specs.declared.instance.TheConstants.{MAX_INSTANCES}

@@ -1,5 +1,5 @@
--- What a name is, and the first fault of bytes that are none: this project's profile of the names of ITU-T Z.120, whose
--- words are reserved.
+-- What a name is, and the first fault of other bytes (this project's profile of the names of ITU-T Z.120, whose words
+-- are reserved).
 use Rattle.std.specs.Prelude.{◌≡◌, ℕ, suc, ◌+◌, Bool, not, ◌||◌, ◌&&◌, List, [], ◌∷◌, length, Option, None, Some, Result, Ok, Err, position, option_map, bytes_eq, nat_lt, nat_le, ◌==◌, if◌then◌else◌}
 use Rattle.chart.specs.Words.{Instance, Name, Text}
 use Rattle.chart.specs.Keywords.{is_reserved}

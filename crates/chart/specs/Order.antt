@@ -19,8 +19,8 @@ pub data Direct (c : Chart) (e f : Place) : Type 0 where
   to_send : (q : ℕ) → IsEarlier e f → IsSendTo c q f → Direct c e f
   same_sender : (q : ℕ) → IsEarlier e f → IsReceiveFrom c q e → IsReceiveFrom c q f → Direct c e f
 
--- enforced before: the least transitive relation that has all that is direct (what others call happens-before, here of
--- the events of all runs and not of one)
+-- enforced before: the least transitive relation that has all direct steps (elsewhere called happens-before; here it
+-- holds in all runs of these events, not only in one)
 pub data Before (c : Chart) : Place → Place → Type 0 where
   direct : {e f : Place} → Direct c e f → Before c e f
   through : {e d f : Place} → Before c e d → Before c d f → Before c e f
@@ -29,12 +29,13 @@ pub data Before (c : Chart) : Place → Place → Type 0 where
 abbrev pub IsCyclic : Chart → Type 0
 IsCyclic c = (e : Place) × Before c e e
 
--- the region of an event, 0 where there is none
+-- the coregion of an event, 0 if there is none
 abbrev pub region_of_event : Option Event → ℕ
 region_of_event None = 0
 region_of_event (Some m) = region_of m
 
--- the report of the receive r: the earlier events of its line, outside of its coregion, that aren't before it, rising
+-- the report of the receive r: the earlier events of its line, outside of its coregion, that aren't before it, in
+-- rising order
 pub record IsReport (c : Chart) (r : Place) (report : Indices) : Type 0 where
   pub rising : AllPairs (λ i j. i < j) report
   pub exact : (j : ℕ) → Contains report j
@@ -43,7 +44,7 @@ pub record IsReport (c : Chart) (r : Place) (report : Indices) : Type 0 where
       × (is_in (region_of_event (chart_event c r)) m ≡ false))
       × (Before c (at r.instance j) r → ⊥))
 
--- the events of a line later than an entry that are neither receives from q nor in the region, rising
+-- the events of a line later than an entry that are neither receives from q nor in the coregion, in rising order
 pub record AreLineRaces (line : List Event) (entry q region : ℕ) (races : Indices) : Type 0 where
   pub rising : AllPairs (λ i j. i < j) races
   pub exact : (j : ℕ) → Contains races j

@@ -13,7 +13,7 @@ events_from p i (suc n) = record { instance = p; index = i } ∷ events_from p (
 abbrev pub events_of : EventRange → List EventNo
 events_of r = events_from r.first.instance r.first.index r.count
 
--- the events of some ranges, one behind the other
+-- the events of some ranges, one range after another
 abbrev pub events_in : List EventRange → List EventNo
 events_in ranges = flat_map events_of ranges
 
@@ -22,21 +22,21 @@ pub record IsRange (r : EventRange) : Type 0 where
   pub some : 0 < r.count
   pub within : r.first.index + r.count ≤ 2 ^ 32
 
--- there are more events in the first range than this number, unless there is no range
+-- this number is less than that of the first range's events, or 0 if there is no range
 abbrev pub IsWithinFirst : ℕ → List EventRange → Type 0
 IsWithinFirst passed [] = passed ≡ 0
 IsWithinFirst passed (r ∷ ranges) = passed < r.count
 
--- s goes on where r ends
+-- s begins where r ends
 abbrev pub is_followed_by : EventRange → EventRange → Bool
 is_followed_by r s = (r.first.instance == s.first.instance) && (r.first.index + r.count == s.first.index)
 
--- two ranges before others: as one, or one behind the other
+-- two ranges before others: as one range, or one after the other
 abbrev pub both_before : Bool → EventRange → EventRange → List EventRange → List EventRange
 both_before true r s ranges = record { first = r.first; count = r.count + s.count } ∷ ranges
 both_before false r s ranges = r ∷ s ∷ ranges
 
--- a range before others, joined with the first of them where that goes on where it ends
+-- a range before others, joined with the first of them if that one begins where the range ends
 abbrev pub range_before : EventRange → List EventRange → List EventRange
 range_before r [] = r ∷ []
 range_before r (s ∷ ranges) = both_before (is_followed_by r s) r s ranges
@@ -46,7 +46,7 @@ abbrev pub ranges_of : List EventNo → List EventRange
 ranges_of [] = []
 ranges_of (e ∷ events) = range_before (record { first = e; count = 1 }) (ranges_of events)
 
--- what a list of ranges keeps: it is the fewest that have its events
+-- what holds of a list of ranges: they are the fewest that have their events
 pub record AreRanges (ranges : List EventRange) : Type 0 where
   pub each : All IsRange ranges
   pub fewest : ranges_of (events_in ranges) ≡ ranges

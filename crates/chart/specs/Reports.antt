@@ -1,5 +1,5 @@
--- What a report is to a contract, a receive with its races (after Alur, Holzmann and Peled 1996), and what the reports
--- of a chart are (reports one by one are this project's profile).
+-- Reports as contracts see them, a receive with its races (after Alur, Holzmann and Peled 1996), and the reports of a
+-- chart. Reports one by one are this project's profile.
 use Rattle.std.specs.Prelude.{◌≡◌, ℕ, ◌+◌, Bool, List, [], ◌∷◌, length, map, All, nat_lt}
 use Rattle.std.specs.List.{flat_map, list_any}
 use Rattle.chart.specs.declared.event.Event.{Event}
@@ -13,7 +13,7 @@ pub record ReportView : Type 0 where
   pub receive : EventNo
   pub earlier : List EventNo
 
--- some of these reports has a race
+-- one of these reports has a race
 abbrev pub has_races : List ReportView → Bool
 has_races reports = list_any (λ report. nat_lt 0 (length report.earlier)) reports
 
@@ -27,7 +27,7 @@ receives_from p i (Receive from name region ∷ line) = record { instance = p; i
 abbrev pub receives_of : LineView → List EventNo
 receives_of l = receives_from l.instance 1 l.events
 
--- the report has the chart's report of its receive, as events of the receive's line
+-- the report is the chart's report of its receive, as events of the receive's line
 pub record IsReportIn (c : Chart) (report : ReportView) : Type 0 where
   pub exact : IsReport c (at report.receive.instance report.receive.index) (map (λ race. race.index) report.earlier)
   pub line : All (λ race. race.instance ≡ report.receive.instance) report.earlier

@@ -1,4 +1,4 @@
--- What a number or a list of numbers is, where its type says no more. Each word unfolds to that type.
+-- Names for numbers and lists of numbers, by their meaning. Each name unfolds to the plain type.
 use Rattle.std.specs.Prelude.{ℕ, List}
 
 -- the number of an instance, from 1
@@ -25,6 +25,6 @@ Text = List ℕ
 abbrev pub Clock : Type 0
 Clock = List ℕ
 
--- a number for each line, the first instance's first
+-- a number for each line, by instance
 abbrev pub Counts : Type 0
 Counts = List ℕ

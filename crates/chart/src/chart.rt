@@ -1,4 +1,4 @@
-//! Charts: one line an instance.
+//! Charts: one line for each instance.
 ghost use Rattle.std.specs.Prelude.{◌≡◌, ◌≤◌, ◌<◌, ◌↔◌, ◌⊎◌, length, IsTrue, IsOk, IfOk, IfErr, All};
 ghost use Rattle.chart.specs.Events.{partner_of};
 ghost use Rattle.chart.specs.Charts.{IsNumbered, HasPartners, IsChart, IsLine};
@@ -28,7 +28,8 @@ pub struct Chart {
     lines: Vec<Line>,
 }
 
-// (by hand, so that who lets go of one calls this, and has no code and no proof of its own for what lies within)
+// Written by hand: code that drops a chart calls this function, and has no code and no proof of its own for the chart's
+// parts.
 impl Drop for Chart {
     #[inline(never)]
     fn drop(self) {
@@ -66,8 +67,8 @@ fn all_have_partners(lines: &[Line]) -> bool
 }
 
 impl Chart {
-    /// The chart of these lines, the first of which is instance 1's, the second instance 2's, and so on. Where they
-    /// are none, by F8 or F14, they come back.
+    /// The chart of these lines: the first is instance 1's, the second instance 2's, and so on. If F8 or F14 refuses
+    /// them, they come back.
     pub fn new(lines: Vec<Line>) -> Result<Chart, (Vec<Line>, LinesError)>
         requires { IsNumbered lines.items }
         ensures ok { IfOk result (λ c. c ≡ lines.items) }

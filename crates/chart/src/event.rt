@@ -2,7 +2,7 @@
 use crate::instance::InstanceNo;
 use crate::name::Name;
 
-/// An event of an instance's line: a message goes out, or a message comes in.
+/// An event of an instance's line: the instance sends a message, or receives one.
 #[derive(Clone, Copy, Debug, PartialEq, Eq)]
 pub enum Event {
     Send {
@@ -12,7 +12,7 @@ pub enum Event {
     Receive {
         from: InstanceNo,
         name: Name,
-        /// The coregion that the receive is in, counted along the line from 1, or 0 outside of one.
+        /// The coregion that the receive is in, numbered along the line from 1, or 0 outside of a coregion.
         region: u32,
     },
 }
@@ -43,7 +43,7 @@ impl Event {
         }
     }
 
-    /// The coregion that the event is in, from 1, or 0 outside of one. A send is in none.
+    /// The coregion that the event is in, from 1, or 0 outside of a coregion. A send is in none.
     #[inline(always)]
     pub fn region(&self) -> u32
         ensures { result ≡ region_of self.now }
@@ -54,7 +54,7 @@ impl Event {
         }
     }
 
-    /// Whether it is a receive.
+    /// Whether the event is a receive.
     #[inline(always)]
     pub fn is_receive(&self) -> bool
         ensures { result ≡ is_receive self.now }
@@ -65,7 +65,7 @@ impl Event {
         }
     }
 
-    /// Whether it is a receive from this instance.
+    /// Whether the event is a receive from this instance.
     #[inline(always)]
     pub fn is_receive_from(&self, sender: InstanceNo) -> bool
         ensures { result ≡ is_receive_from sender self.now }
@@ -76,7 +76,7 @@ impl Event {
         }
     }
 
-    /// Whether it is a receive of this coregion. Nothing is in 0.
+    /// Whether the event is a receive in this coregion. No event is in coregion 0.
     #[inline(always)]
     pub fn is_in(&self, region: u32) -> bool
         ensures { result ≡ is_in region self.now }

@@ -30,22 +30,22 @@ struct Entry {
     starts: Starts,
 }
 
-/// Where the runs start that an event is in: how many events the line has ahead of each.
+/// Where the runs of an event start: for each run, the number of events of the line before it.
 #[derive(Clone, Copy, Debug)]
 struct Starts {
-    /// Of the neighbouring receives from its sender.
+    /// The run of neighbouring receives from the event's sender.
     run: u16,
-    /// Of the receives of its coregion.
+    /// The run of receives in the event's coregion.
     region: u16,
 }
 
-/// The line of one instance while it grows: its events in their order, and room for more. A contract sees a record of
-/// the line and of the room.
+/// The line of one instance while it grows: its events in order, and room for more. A contract sees a record of the
+/// line and of the room.
 ///
-/// It has at most [`MAX_EVENTS`] events, none of them names the line's own instance, and their coregions are
-/// numbered along the line. An event takes ten bytes, and its message's name more only where it isn't found among the
-/// names of events before. For each event it also keeps where its run of receives from one sender and where
-/// its coregion began, so that who goes back along the line can pass such a run in one step.
+/// It has at most [`MAX_EVENTS`] events. None of them names the line's own instance, and their coregions are numbered
+/// along the line. An event takes ten bytes. The name of its message takes more only if it isn't found among the names
+/// of earlier events. For each event the line also keeps where its run of receives from one sender began, and where its
+/// coregion began. So a walk back along the line can pass such a run in one step.
 #[derive(Debug, Drop)]
 pub struct GrowingLine {
     instance: InstanceNo,
@@ -92,7 +92,7 @@ impl GrowingLine {
         self.instance
     }
 
-    /// What each line keeps.
+    /// What holds of each line.
     #[inline(always)]
     pub(crate) fn keeps(&self)
         ensures { IsLine self.now.line }
@@ -123,7 +123,7 @@ impl GrowingLine {
         }
     }
 
-    /// Whether the event of this index is a receive. Its name isn't read.
+    /// Whether the event of this index, from 0, is a receive. The event's name isn't read.
     #[inline(always)]
     pub fn is_receive(&self, index: usize) -> bool
         requires { index < length self.now.line.events }
@@ -132,7 +132,7 @@ impl GrowingLine {
         self.entries[index].receives
     }
 
-    /// Whether the event of this index is a receive from this instance. Its name isn't read.
+    /// Whether the event of this index, from 0, is a receive from this instance. The event's name isn't read.
     #[inline(always)]
     pub fn is_receive_from(&self, index: usize, sender: InstanceNo) -> bool
         requires { index < length self.now.line.events }
@@ -145,7 +145,7 @@ impl GrowingLine {
         entry.partner == sender
     }
 
-    /// Whether the event of this index is a receive of this coregion. Nothing is in 0.
+    /// Whether the event of this index, from 0, is a receive in this coregion. No event is in coregion 0.
     #[inline(always)]
     pub fn is_in(&self, index: usize, region: u32) -> bool
         requires { index < length self.now.line.events }
@@ -173,7 +173,7 @@ impl GrowingLine {
         self.entries.is_empty()
     }
 
-    /// The greatest coregion of the line, 0 where there is none: the next one's number is one above it.
+    /// The greatest coregion of the line, or 0 if there is none. The next coregion's number is one above it.
     #[inline(always)]
     pub fn greatest_region(&self) -> u32
         ensures value { result ≡ greatest_region self.now.line.events }
@@ -182,7 +182,7 @@ impl GrowingLine {
         self.greatest
     }
 
-    /// So many events can be added without memory.
+    /// The number of events that can be added without memory.
     #[inline(always)]
     pub fn room(&self) -> usize
         ensures { result ≡ self.now.room }
@@ -190,9 +190,9 @@ impl GrowingLine {
         (self.entries.capacity() - self.entries.len()).min(self.names.room())
     }
 
-    /// Makes room for so many events.
+    /// Makes room for this number of events.
     ///
-    /// F6: it fails only where there is no memory, and then nothing has changed.
+    /// F6: it fails only if there is no memory, and then nothing has changed.
     #[inline(always)]
     pub fn reserve(&mut self, events: usize) -> Result<(), AllocError>
         ensures line { self.new.line ≡ self.old.line }
@@ -207,9 +207,9 @@ impl GrowingLine {
         self.grow(events)
     }
 
-    /// Makes room for so many events, as [`GrowingLine::reserve`] does where there is too little.
+    /// Makes room for this number of events, as [`GrowingLine::reserve`] does if there is too little room.
     ///
-    /// What has more room grows first: where the other is refused then, the room is what it was.
+    /// The list with more room grows first. If the growth of the other is then refused, the room is what it was.
     #[cold]
     #[inline(never)]
     fn grow(&mut self, events: usize) -> Result<(), AllocError>
@@ -227,8 +227,8 @@ impl GrowingLine {
         }
     }
 
-    /// How many events the line has ahead of the run of neighbouring receives from one sender that ends with the event
-    /// of this index. For a send, which is in no such run, it is some number below the index.
+    /// The number of events before the run of neighbouring receives from one sender that ends with the event of this
+    /// index, from 1. A send is in no such run. For a send the result is some number below the index.
     #[inline(always)]
     pub fn run_start(&self, index: usize) -> usize
         requires begun { 1 ≤ index }
@@ -238,8 +238,8 @@ impl GrowingLine {
         self.entries[index - 1].starts.run as usize
     }
 
-    /// How many events the line has ahead of the part of its coregion that ends with the event of this index. Outside
-    /// of a coregion it is some number below the index.
+    /// The number of events before the part of its coregion that ends with the event of this index, from 1. Outside of
+    /// a coregion the result is some number below the index.
     #[inline(always)]
     pub fn region_start(&self, index: usize) -> usize
         requires begun { 1 ≤ index }
@@ -249,7 +249,7 @@ impl GrowingLine {
         self.entries[index - 1].starts.region as usize
     }
 
-    /// What is kept for a receive from this sender, in this coregion, that comes next.
+    /// What is kept for a receive from this sender in this coregion, if it comes next.
     #[inline(always)]
     fn receive_starts(&self, sender: InstanceNo, region: u32) -> Starts
         ensures run { EndsWithRun (is_receive_from sender) self.now.line.events result.run }
@@ -277,7 +277,7 @@ impl GrowingLine {
         }
     }
 
-    /// What is kept for an event that comes next.
+    /// What is kept for this event, if it comes next.
     #[inline(always)]
     fn next_starts(&self, event: &Event) -> Starts
         ensures { IsNext self.now.line.events event.now result }
@@ -294,11 +294,11 @@ impl GrowingLine {
         }
     }
 
-    /// Adds an event at the end. A refusal, the first of F13, F7 and F6 that applies, leaves the line as it was. With
-    /// room it takes no memory.
+    /// Adds an event at the end. A refusal, the first of F13, F7 and F6 that applies, leaves the line as it was. If
+    /// there is room, the call takes no memory.
     ///
-    /// The caller sees to it that the event's coregion may come next: 0, or one above the greatest so far, or
-    /// that greatest one where the last event is a receive of it.
+    /// The caller ensures that the event's coregion may come next. It is 0, or one above the greatest so far, or that
+    /// greatest one if the last event is a receive in it.
     #[inline(always)]
     pub fn push(&mut self, event: Event) -> Result<(), LineError>
         requires { MayHaveRegion self.old.line.events (region_of event) }
@@ -336,8 +336,8 @@ impl GrowingLine {
         Ok(())
     }
 
-    /// Adds a send to this instance for each name, in their order, or none of them: a refusal, the first of F13, F7
-    /// and F6 that applies, leaves the line as it was.
+    /// Adds a send to this instance for each name, in order, or none of them. A refusal, the first of F13, F7 and F6
+    /// that applies, leaves the line as it was.
     pub fn push_sends(&mut self, to: InstanceNo, names: &[Name]) -> Result<(), LineError>
         ensures ok { OnOk result
             (self.new.line ≡ record self.old.line { events = self.old.line.events ++ map (send_event to) names.now }) }

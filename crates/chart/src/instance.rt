@@ -10,7 +10,7 @@ pub const MAX_INSTANCES: usize = 32;
 
 const _: () = prove!(MAX_INSTANCES == 32);
 
-/// The number of an instance, from 1 to [`MAX_INSTANCES`]. An instance is what others call a process, an actor or a
+/// The number of an instance, from 1 to [`MAX_INSTANCES`]. Other libraries call an instance a process, an actor or a
 /// participant. A contract sees it as the number.
 #[derive(Clone, Copy, Debug, PartialEq, Eq, PartialOrd, Ord, Hash)]
 pub struct InstanceNo {
@@ -34,7 +34,7 @@ impl InstanceNo {
     /// The instance with number 1.
     pub const FIRST: InstanceNo = InstanceNo { number: 1 };
 
-    /// The instance of this number, which is from 1 to [`MAX_INSTANCES`].
+    /// The instance of this number, or nothing if the number isn't from 1 to [`MAX_INSTANCES`].
     pub fn new(number: usize) -> Option<InstanceNo>
         ensures { SomeIff result ((1 ≤ number) × (number ≤ MAX_INSTANCES)) number }
     {
@@ -46,7 +46,7 @@ impl InstanceNo {
         })
     }
 
-    /// The instance at a place of a list that begins at 0.
+    /// The instance at a place of a list whose places begin at 0.
     #[inline(always)]
     pub fn at_place(place: usize) -> InstanceNo
         requires { place < MAX_INSTANCES }
@@ -67,7 +67,7 @@ impl InstanceNo {
         usize::from(self.number)
     }
 
-    /// The place in a list that begins at 0.
+    /// The instance's place in a list whose places begin at 0.
     #[inline(always)]
     pub fn place(self) -> usize
         ensures value { self ≡ suc result }

@@ -1,8 +1,8 @@
-//! The words that a chart's text keeps for itself.
+//! The reserved words of a chart's text.
 ghost use Rattle.std.specs.Prelude.{◌≡◌, bytes_eq};
 ghost use Rattle.chart.specs.Keywords.{spelled, is_keyword, keywords, is_reserved};
 
-/// A word of the chart text's own, which is no name.
+/// A reserved word of the chart text, which is no name.
 #[derive(Clone, Copy, Debug, PartialEq, Eq)]
 pub enum Keyword {
     /// Begins the text.
@@ -15,11 +15,11 @@ pub enum Keyword {
     EndInstance,
     /// Begins a send.
     Out,
-    /// Stands before the instance to which a message goes.
+    /// Precedes the instance to which a message goes.
     To,
     /// Begins a receive.
     In,
-    /// Stands before the instance from which a message comes.
+    /// Precedes the instance from which a message comes.
     From,
     /// Begins a coregion.
     Concurrent,
@@ -27,7 +27,7 @@ pub enum Keyword {
     EndConcurrent,
 }
 
-/// Each of them.
+/// Each reserved word.
 const KEYWORDS: [Keyword; 10] = [
     Keyword::Msc,
     Keyword::EndMsc,
@@ -42,7 +42,7 @@ const KEYWORDS: [Keyword; 10] = [
 ];
 
 impl Keyword {
-    /// How it is spelled.
+    /// The spelling of the word.
     #[tactic(auto, unfolding(crate::specs::Keywords::spelled))]
     pub fn as_bytes(&self) -> &[u8]
         ensures { result.now ≡ spelled self.now }
@@ -61,7 +61,7 @@ impl Keyword {
         }
     }
 
-    /// Whether the word is this one.
+    /// Whether the bytes are this word.
     #[tactic(auto, unfolding(crate::specs::Keywords::is_keyword))]
     pub fn is(&self, word: &[u8]) -> bool
         ensures { result ≡ is_keyword self.now word.now }
@@ -70,7 +70,7 @@ impl Keyword {
     }
 }
 
-/// Whether the word is one of the chart text's own.
+/// Whether the bytes are a reserved word of the chart text.
 #[tactic(auto, unfolding(crate::specs::Keywords::is_reserved))]
 pub(crate) fn is_reserved(word: &[u8]) -> bool
     ensures { result ≡ is_reserved word.now }

@@ -1,7 +1,7 @@
-//! The laws of charts, each the contract of a function that does nothing. Of names: that no word of the chart
-//! text's own is one. Of any chart: what is before a receive on its own line, what a send knows of each line, and
-//! what a receive hears. Of the charts of legal histories: that each receive has its send and no event is before
-//! itself, what one more event adds, what later events leave as it is, and what is there once.
+//! The laws of charts. Each is the contract of a function that does nothing. For names: no reserved word of the chart
+//! text is one. For any chart: what is before a receive on its own line, what a send knows of each line, and what a
+//! receive hears. For the charts of legal histories: each receive has its send, and no event is before itself. Further,
+//! what one more event adds, what later events leave as it is, and what exists exactly once.
 ghost use Rattle.chart.specs.Laws.{KeywordLaw, ReportLaw, RacesLaw, OwnKnowledgeLaw, KnowledgeLaw, FirstHearingLaw};
 ghost use Rattle.chart.specs.Laws.{ReceiveHearingLaw, SendHearingLaw, NoSendLaw, OtherNameLaw, SendLaw, NoCycleLaw};
 ghost use Rattle.chart.specs.Laws.{OtherLineLaw, CloseLineLaw, SendLineLaw, ReceiveLineLaw, NewSendLaw, NewSendOwnLaw};
@@ -10,25 +10,25 @@ ghost use Rattle.chart.specs.Laws.{NewReceiveHearingLaw, NewReportLaw, LegalGrow
 ghost use Rattle.chart.specs.Laws.{BelongingGrowthLaw, OrderGrowthLaw, KnowledgeGrowthLaw, ReportGrowthLaw};
 ghost use Rattle.chart.specs.Laws.{HearingGrowthLaw, OneKnowledgeLaw, OneHearingLaw, OneReportLaw};
 
-/// A word that the chart text keeps for itself is refused as a name, by F4 and not by another fault.
+/// A reserved word of the chart text is refused as a name by F4, and not by another fault.
 pub fn keyword_law()
     ensures { KeywordLaw }
 {}
 
-/// What is enforced before a receive on its own line, by what its send knows, and so what its report is.
+/// What is enforced before a receive on its own line, given what its send knows; and therefore the receive's report.
 pub fn report_law()
     ensures before { ReportLaw }
     ensures races { RacesLaw }
 {}
 
-/// What a send knows: of its own line all up to itself, where it is the last of the line or nothing is cyclic, and of
-/// another line the most that was heard of it before.
+/// What a send knows. It knows all of its own line up to itself, if it is the last of the line or the chart has no
+/// cycle. Of another line it knows the greatest number of events that its own line heard of before it.
 pub fn knowledge_law()
     ensures own { OwnKnowledgeLaw }
     ensures other_lines { KnowledgeLaw }
 {}
 
-/// What is heard along a line: nothing at first, by a receive what its send knows, and nothing by a send.
+/// What is heard along a line. At first nothing is heard; at a receive, what its send knows; at a send, nothing.
 pub fn hearing_law()
     ensures first { FirstHearingLaw }
     ensures receive { ReceiveHearingLaw }
@@ -43,7 +43,7 @@ pub fn legal_law()
     ensures acyclic { NoCycleLaw }
 {}
 
-/// What one more event adds to the lines.
+/// What one more occurrence adds to the lines.
 pub fn line_law()
     ensures other_lines { OtherLineLaw }
     ensures close { CloseLineLaw }
@@ -51,7 +51,7 @@ pub fn line_law()
     ensures receive { ReceiveLineLaw }
 {}
 
-/// What one more send is in the chart, what it knows, and that nothing is heard by it.
+/// What one more send is in the chart, what it knows, and that nothing is heard at it.
 pub fn new_send_law()
     ensures send { NewSendLaw }
     ensures own { NewSendOwnLaw }
@@ -59,20 +59,20 @@ pub fn new_send_law()
     ensures hearing { NewSendHearingLaw }
 {}
 
-/// Where the sends of the messages of a lane stand, each in one place.
+/// Where the sends of a lane's messages are, each at one place.
 pub fn lane_law()
     ensures message { MessageSendLaw }
     ensures once { OneSendLaw }
 {}
 
-/// Which send one more receive belongs to, what it hears, and what its report is.
+/// Which send one more receive belongs to, what is heard at it, and what its report is.
 pub fn new_receive_law()
     ensures belongs { NewReceiveLaw }
     ensures hearing { NewReceiveHearingLaw }
     ensures report { NewReportLaw }
 {}
 
-/// What comes later leaves all of this as it is.
+/// Later occurrences leave all of this as it is.
 pub fn growth_law()
     ensures legal { LegalGrowthLaw }
     ensures place { PlaceGrowthLaw }
@@ -84,8 +84,8 @@ pub fn growth_law()
     ensures hearing { HearingGrowthLaw }
 {}
 
-/// In the chart of a legal history each send knows one number of each line and one only, the most that was heard is
-/// one number, and each receive has one report.
+/// In the chart of a legal history each send knows exactly one number of events of each line. The greatest heard is
+/// exactly one number, and each receive has exactly one report.
 pub fn existence_law()
     ensures knowledge { OneKnowledgeLaw }
     ensures hearing { OneHearingLaw }

@@ -5,18 +5,20 @@
 //!
 //! What is promised:
 //!
-//! - A name is 1 to 32 bytes by the stated rules, and anything else gets its first fault ([`Name::new`]).
-//! - A line grows by exactly the event that is pushed. It refuses its own instance (F13), then one event too many
-//!   (F7), then for want of memory (F6), and stays as it was ([`GrowingLine::push`], [`GrowingLine::push_sends`]).
-//!   So many events as it has room for need no memory ([`GrowingLine::reserve`]).
-//! - A chart has 2 to 32 lines whose partners exist; other lines come back with their fault ([`Chart::new`]).
+//! - A name is 1 to 32 bytes by the stated rules. Other bytes are refused with their first fault ([`Name::new`]).
+//! - A line grows by exactly the event that is pushed. It refuses a message to its own instance (F13), then one event
+//!   too many (F7), then an event for which there is no memory (F6). A refusal leaves it as it was
+//!   ([`GrowingLine::push`], [`GrowingLine::push_sends`]). Events for which it has room take no memory
+//!   ([`GrowingLine::reserve`]).
+//! - A chart has 2 to 32 lines, and the partner of each event exists. Other lines come back with their fault
+//!   ([`Chart::new`]).
 //! - Names are added and looked up as in a list ([`Names::add`], [`Names::instance`], [`Names::name`]).
-//! - [`laws`] has what holds of the definitions, for any number of instances: a receive's report is read off its
-//!   line and one number (`report_law`), a legal history's chart has a send for each receive and no cycle
-//!   (`legal_law`), and what comes later changes nothing of it (`growth_law`).
+//! - [`laws`] states what holds of the definitions, for any number of instances. A receive's report can be read off its
+//!   line and one number (`report_law`). The chart of a legal history has a send for each receive, and no cycle
+//!   (`legal_law`). Later occurrences change nothing of it (`growth_law`).
 //!
-//! [`line_events`] reads the events of lines by their numbers, [`run_steps`] has the steps of a run, and
-//! [`stable_order`] things by a number that each has.
+//! [`line_events`] reads the events of lines by their numbers. [`run_steps`] has the steps of a run. [`stable_order`]
+//! defines the order of things by a number that each of them has.
 #![tactic(auto)]
 
 mod chart;

@@ -48,15 +48,15 @@ impl<T: Drop> From<AllocFailed<T>> for LineError {
     }
 }
 
-/// The line of one instance (its lifeline, in UML's word), as a chart has it: a [`GrowingLine`] whose room nobody asks
-/// for, and its events as a list. A contract sees a record of the instance and of the events.
+/// The line of one instance in a chart (its lifeline, in UML). It has a [`GrowingLine`], whose room doesn't matter, and
+/// its events as a list. A contract sees a record of the instance and of the events.
 #[derive(Debug)]
 pub struct Line {
     growing: GrowingLine,
     events: Vec<Event>,
 }
 
-// (by hand, as that of a chart)
+// Written by hand, as that of a chart is.
 impl Drop for Line {
     #[inline(never)]
     fn drop(self) {
@@ -89,7 +89,7 @@ impl Line {
         }
     }
 
-    /// The line that grew so far, with its events in this list, which has room for them. It takes no memory.
+    /// The line that has grown so far. Its events are put into this list, which has room for them. It takes no memory.
     pub fn of(growing: GrowingLine, events: Vec<Event>) -> Line
         requires empty { events.items ≡ [] }
         requires room { length growing.line.events ≤ vec_capacity events }
@@ -102,7 +102,7 @@ impl Line {
         Line { growing, events }
     }
 
-    /// The same with its room.
+    /// The line as a growing line, with its room.
     pub fn as_growing(&self) -> &GrowingLine
         ensures { result.now.line ≡ self.now }
     {
@@ -137,7 +137,7 @@ impl Line {
         self.growing.is_empty()
     }
 
-    /// The greatest coregion of the line, as [`GrowingLine::greatest_region`] answers it.
+    /// The greatest coregion of the line, as [`GrowingLine::greatest_region`] returns it.
     pub fn greatest_region(&self) -> u32
         ensures value { result ≡ greatest_region self.now.events }
         ensures limit { result ≤ length self.now.events }

@@ -1,6 +1,6 @@
 //! The events of a chart's lines, by the numbers of instances and of events.
 //!
-//! What is promised: each function answers what the chart has there. Nothing here takes memory.
+//! What is promised: each function returns what the chart has at that place. Nothing here takes memory.
 
 mod reading;
 

@@ -30,7 +30,7 @@ impl Model for Message {
 }
 
 impl Message {
-    /// A message of this name and body. Where the body has more than [`MAX_BODY`] bytes (F5), both come back.
+    /// A message of this name and body. If the body has more than [`MAX_BODY`] bytes (F5), both come back.
     pub fn new(name: Name, body: Vec<u8>) -> Result<Message, (Name, Vec<u8>)>
         ensures short { IsOk result ↔ (length body.items ≤ MAX_BODY) }
         ensures ok { IfOk result (λ m. m ≡ record { name = name; body = body.items }) }

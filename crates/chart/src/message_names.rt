@@ -8,20 +8,21 @@ use crate::line::MAX_EVENTS;
 use crate::name::Name;
 use std::alloc::{AllocError, Global};
 
-/// For so many kinds of events a line knows which name it had last: sends to each instance, and receives from each.
+/// The number of kinds of events for each of which a line keeps the place of the last name. The kinds are sends to each
+/// instance, and receives from each.
 pub(crate) const GUESSES: usize = 64;
 
-/// So many names that were added last are looked through for one that isn't found where it is guessed.
+/// The number of names, the last ones added, that are searched for a name that isn't at its guessed place.
 const NEAR: usize = 8;
 
-/// The names of a line's messages. Its events keep the places that they have here.
+/// The names of a line's messages. The line's events keep their places in this list.
 ///
-/// Where a name is likely to be is guessed, and what is found there is compared. A name that isn't found is added,
-/// though it may be among the others.
+/// The likely place of a name is guessed, and compared with what is there. A name that isn't found is added, though it
+/// may be among the others.
 #[derive(Debug, Drop)]
 pub(crate) struct MessageNames {
     pub names: Vec<Name>,
-    /// For each kind of events a place. It may be any.
+    /// For each kind of events a guessed place. Any number may be here.
     guesses: [u16; GUESSES],
 }
 
@@ -36,7 +37,7 @@ impl MessageNames {
         }
     }
 
-    /// So many names can be added without memory.
+    /// The number of names that can be added without memory.
     #[inline(always)]
     pub fn room(&self) -> usize
         ensures { result ≡ vec_capacity self.now.names - vec_len self.now.names }
@@ -44,9 +45,9 @@ impl MessageNames {
         self.names.capacity() - self.names.len()
     }
 
-    /// Makes room for so many names.
+    /// Makes room for this number of names.
     ///
-    /// F6: it fails only where there is no memory, and then nothing has changed.
+    /// F6: it fails only if there is no memory, and then nothing has changed.
     pub fn reserve(&mut self, names: usize) -> Result<(), AllocError>
         ensures items { self.new.names.items ≡ self.old.names.items }
         ensures ok { OnOk result (names ≤ vec_capacity self.new.names - vec_len self.new.names) }
@@ -65,7 +66,7 @@ impl MessageNames {
         self.names[place as usize]
     }
 
-    /// The place of a name, which is added where it isn't found. There is room for it.
+    /// The place of a name, which is added if it isn't found. There is room for it.
     #[inline(always)]
     pub fn place_of(&mut self, guess: usize, name: &Name) -> u16
         requires guess { guess < GUESSES }
@@ -86,7 +87,7 @@ impl MessageNames {
         self.find_or_add(guess, name)
     }
 
-    /// The place of a name that isn't where it is guessed.
+    /// The place of a name that isn't at its guessed place. It is added if it isn't found.
     #[cold]
     #[inline(never)]
     fn find_or_add(&mut self, guess: usize, name: &Name) -> u16

@@ -32,15 +32,16 @@ pub enum NameError {
     /// `a` to `z`, and then letters, digits and `_`.
     #[error("byte {0} doesn't belong in a name")]
     BadByte(usize),
-    /// F4: the chart text keeps the word for itself.
+    /// F4: the bytes are a reserved word of the chart text.
     #[error("the name is a reserved word")]
     Reserved,
 }
 
 /// The name of an instance or of a message: 1 to [`MAX_NAME`] bytes, held in place. A contract sees the bytes.
 ///
-/// Behind a shorter name stand zeros, and in the last place how many bytes it is short of the most. No byte of a name
-/// is less than [`MAX_NAME`]; so the last one tells which it is, and two names are the same where all 32 bytes are.
+/// A shorter name is followed by zeros, and the last byte is the number of missing bytes. No byte of a name is less
+/// than [`MAX_NAME`]. So the last byte shows which of the two it is, and two names are equal exactly if all 32 bytes
+/// are.
 #[derive(Clone, Copy, Debug)]
 pub struct Name {
     bytes: [u8; MAX_NAME],
@@ -107,7 +108,7 @@ fn zeros() -> [u8; MAX_NAME]
     [0; MAX_NAME]
 }
 
-/// How many of the bytes that are held are the name's.
+/// The number of held bytes that are the name's.
 #[inline(always)]
 fn held_len(held: &[u8; MAX_NAME]) -> usize
     ensures value { result ≡ held_len held.now }
@@ -121,7 +122,7 @@ fn held_len(held: &[u8; MAX_NAME]) -> usize
     }
 }
 
-/// Whether both hold the same bytes. All are compared at once.
+/// Whether both hold the same bytes. All bytes are compared at once.
 #[inline(always)]
 fn are_same(held: &[u8; MAX_NAME], other: &[u8; MAX_NAME]) -> bool
     ensures { result ≡ pointwise nat_eq held.now other.now }
@@ -151,7 +152,7 @@ impl Name {
         Ok(Name::held(bytes))
     }
 
-    /// The name that these bytes are.
+    /// The name with these bytes.
     fn held(bytes: &[u8]) -> Name
         requires name { IsName bytes.now }
         requires short { length bytes.now ≤ MAX_NAME }

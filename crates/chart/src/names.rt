@@ -50,7 +50,7 @@ pub struct Names {
     names: IndexSet<Name>,
 }
 
-// (by hand, as that of a chart)
+// Written by hand, as that of a chart is.
 impl Drop for Names {
     #[inline(never)]
     fn drop(self) {
@@ -82,7 +82,7 @@ impl Names {
 
     /// A copy.
     ///
-    /// F6: it fails only where there is no memory.
+    /// F6: it fails only if there is no memory.
     pub fn copied(&self) -> Result<Names, AllocError>
         ensures { IfOk result (λ names. names ≡ self.now) }
     {
@@ -112,7 +112,7 @@ impl Names {
         self.names.contains(&name)
     }
 
-    /// Gives the name to the next instance, and answers its number. A refusal, the first of F22, F8 and F6 that
+    /// Gives the name to the next instance, and returns its number. A refusal, the first of F22, F8 and F6 that
     /// applies, leaves the names as they were.
     pub fn add(&mut self, name: Name) -> Result<InstanceNo, NamesError>
         ensures ok { IfOk result (λ p. (p ≡ length self.old + 1) × (self.new ≡ self.old ++ name ∷ [])) }
@@ -142,7 +142,7 @@ impl Names {
         }
     }
 
-    /// The name of an instance that has one. It takes no memory.
+    /// The name of an instance, if it has one. It takes no memory.
     pub fn name(&self, instance: InstanceNo) -> Option<Name>
         ensures { (place : ℕ) → instance ≡ suc place → result ≡ slice_get self.now place }
     {

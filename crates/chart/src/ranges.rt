@@ -8,7 +8,7 @@ use crate::instance::EventNo;
 use std::alloc::{AllocError, Global};
 use std::marker::Model;
 
-/// Neighbouring events of a line: the first of them, and how many they are.
+/// Neighbouring events of a line: the first of them, and their number.
 #[derive(Clone, Copy, Debug, PartialEq, Eq)]
 pub struct EventRange {
     pub first: EventNo,
@@ -28,7 +28,7 @@ impl EventRange {
         }
     }
 
-    /// Its event of this number, from 0.
+    /// The range's event of this number, from 0.
     pub fn event(&self, number: usize) -> EventNo
         requires range { IsRange self.now }
         requires within { number < self.now.count }
@@ -40,7 +40,7 @@ impl EventRange {
         }
     }
 
-    /// Whether the other one goes on where this one ends.
+    /// Whether the other range begins where this one ends.
     fn is_followed_by(&self, other: &EventRange) -> bool
         requires { IsRange self.now }
         ensures { result ≡ is_followed_by self.now other.now }
@@ -50,7 +50,7 @@ impl EventRange {
     }
 }
 
-/// A list of events, in as few ranges of neighbours as there can be. A contract sees the list of events.
+/// A list of events, in the fewest ranges of neighbours. A contract sees the list of events.
 #[derive(Debug, Drop)]
 pub struct EventRanges {
     ranges: Vec<EventRange>,
@@ -71,7 +71,7 @@ impl Model for EventRanges {
 impl EventRanges {
     /// These events.
     ///
-    /// F6: it fails only where there is no memory, and for no events it takes none.
+    /// F6: it fails only if there is no memory. For no events it takes none.
     pub fn of(alloc: Global, events: &[EventNo]) -> Result<EventRanges, AllocError>
         ensures events { IfOk result (λ ranges. ranges ≡ events.now) }
         ensures none { events.now ≡ [] → IsOk result }
@@ -84,7 +84,7 @@ impl EventRanges {
         Ok(builder.finish())
     }
 
-    /// The ranges, those of the first events first. Each has an event, and their numbers are within 32 bits.
+    /// The ranges, in the order of their events. Each has an event, and their numbers are within 32 bits.
     #[inline(always)]
     pub fn as_slice(&self) -> &[EventRange]
         ensures events { events_in result.now ≡ self.now }
@@ -101,7 +101,7 @@ impl EventRanges {
         self.ranges.is_empty()
     }
 
-    /// How many events they are, or [`usize::MAX`] where they are more.
+    /// The number of events, or [`usize::MAX`] if there are more.
     pub fn len(&self) -> usize
         ensures { result ≡ min (length self.now) (2 ^ 64 - 1) }
     {
@@ -113,7 +113,7 @@ impl EventRanges {
         events
     }
 
-    /// The events one by one, the first one first. It takes no memory.
+    /// The events one by one, in order. It takes no memory.
     pub fn iter(&self) -> Events<'_>
         ensures { result ≡ self.now }
     {
@@ -123,7 +123,7 @@ impl EventRanges {
         }
     }
 
-    /// Whether both are the same events.
+    /// Whether both have the same events.
     pub fn is(&self, other: &EventRanges) -> bool
         ensures { IsTrue result ↔ (self.now ≡ other.now) }
     {
@@ -132,7 +132,7 @@ impl EventRanges {
 
     /// The events one by one.
     ///
-    /// F6: it fails only where there is no memory, and where there are no events it takes none.
+    /// F6: it fails only if there is no memory. For no events it takes none.
     pub fn listed(&self, alloc: Global) -> Result<Vec<EventNo>, AllocError>
         ensures events { IfOk result (λ events. events.items ≡ self.now) }
         ensures none { self.now ≡ [] → IsOk result }
@@ -147,7 +147,7 @@ impl EventRanges {
 
     /// A copy.
     ///
-    /// F6: it fails only where there is no memory, and of no events it takes none.
+    /// F6: it fails only if there is no memory. For no events it takes none.
     #[inline(always)]
     pub fn copied(&self, alloc: Global) -> Result<EventRanges, AllocError>
         ensures events { IfOk result (λ copy. copy ≡ self.now) }
@@ -162,12 +162,12 @@ impl EventRanges {
     }
 }
 
-/// The events of ranges, one by one. A contract sees those that are still to come.
+/// The events of ranges, one by one. A contract sees the events that are still to come.
 #[derive(Drop)]
 pub struct Events<'a> {
-    /// The first one is that of the next event.
+    /// The remaining ranges. The first of them has the next event.
     ranges: &'a [EventRange],
-    /// So many events of the first one have come.
+    /// The number of events of the first range that have come already.
     passed: usize,
 }
 
@@ -220,10 +220,10 @@ fn are_same(ranges: &[EventRange], others: &[EventRange]) -> bool
     ranges == others
 }
 
-/// A list of events that is made from its last one on. A contract sees the list of events.
+/// A list of events that is built from its last event backwards. A contract sees the list of events.
 #[derive(Drop)]
 pub struct RangesBuilder {
-    /// The last events first.
+    /// The ranges so far, the last one of the list first.
     backwards: Vec<EventRange>,
 }
 
@@ -252,7 +252,7 @@ impl RangesBuilder {
 
     /// Puts the events of a range before all others.
     ///
-    /// F6: it fails only where there is no memory, and then nothing has changed.
+    /// F6: it fails only if there is no memory, and then nothing has changed.
     pub fn put_before(&mut self, range: EventRange) -> Result<(), AllocError>
         requires { IsRange range }
         ensures ok { OnOk result (self.new ≡ events_of range ++ self.old) }

@@ -7,10 +7,9 @@ use crate::ranges::EventRanges;
 use std::alloc::{AllocError, Global};
 use std::marker::Model;
 
-/// The races of a receive: the earlier events of its line that come before it by luck alone, so that they don't happen
-/// before it in the sense of Lamport's order. They are kept as ranges of
-/// neighbours, so a report costs its ranges. A contract sees it as a record of the receive and of the events one by
-/// one.
+/// The races of a receive: the earlier events of its line that come before it only by luck. They don't happen before it
+/// in the sense of Lamport's order. They are kept as ranges of neighbours, so a report takes memory by its ranges. A
+/// contract sees a record of the receive and of the list of events.
 #[derive(Debug, Drop)]
 pub struct Report {
     receive: EventNo,
@@ -36,7 +35,7 @@ impl Report {
 
     /// The report with these earlier events, whichever they are.
     ///
-    /// F6: it fails only where there is no memory, and for no events it takes none.
+    /// F6: it fails only if there is no memory. For no events it takes none.
     pub fn of(alloc: Global, receive: EventNo, earlier: &[EventNo]) -> Result<Report, AllocError>
         ensures value { IfOk result (λ report. report ≡ record { receive = receive; earlier = earlier.now }) }
         ensures none { earlier.now ≡ [] → IsOk result }
@@ -52,7 +51,7 @@ impl Report {
         self.receive
     }
 
-    /// The earlier events, the first of the line first.
+    /// The earlier events, in the order of the line.
     #[inline(always)]
     pub fn earlier(&self) -> &EventRanges
         ensures { result.now ≡ self.now.earlier }
@@ -60,7 +59,7 @@ impl Report {
         &self.earlier
     }
 
-    /// Whether both have one receive and the same earlier events.
+    /// Whether both have the same receive and the same earlier events.
     pub fn is(&self, other: &Report) -> bool
         ensures { IsTrue result ↔ (self.now ≡ other.now) }
     {
@@ -69,7 +68,7 @@ impl Report {
 
     /// A copy.
     ///
-    /// F6: it fails only where there is no memory, and without races it takes none.
+    /// F6: it fails only if there is no memory. Without races it takes none.
     #[inline(always)]
     pub fn copied(&self, alloc: Global) -> Result<Report, AllocError>
         ensures value { IfOk result (λ copy. copy ≡ self.now) }
@@ -83,7 +82,7 @@ impl Report {
     }
 }
 
-/// Whether some of these reports has a race.
+/// Whether one of these reports has a race.
 pub fn has_races(reports: &[Report]) -> bool
     ensures { result ≡ has_races reports.now }
 {

@@ -1,5 +1,5 @@
-//! Lists of things by a number that each has: the words for them, and what a stable sort leaves.
+//! Lists of things, each with a number: the definitions of their order, and what a stable sort leaves.
 //!
-//! What is promised: things by their numbers, those of one number as they came, are one list
-//! (`specs/StableOrder/Order`), and it is what a stable sort leaves (`by_key` of
-//! `proofs/StableOrderLemmas/OrderLemmas`). Nothing here runs.
+//! What is promised: one list has the things by their numbers, and things of the same number in their original order
+//! (`specs/StableOrder/Order`). A stable sort leaves this list (`by_key` of `proofs/StableOrderLemmas/OrderLemmas`).
+//! Nothing here runs.

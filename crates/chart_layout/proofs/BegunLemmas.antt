@@ -1,4 +1,4 @@
--- Rows that were begun, from the top on, and one row more.
+-- The first rows of a drawing, from the top down, and one more row.
 use Rattle.std.proofs.Common.{◌≡◌, ℕ, zero, suc, ◌+◌, ◌-◌, ◌<◌, ◌≤◌, ◌==◌, ◌⊎◌, inl, inr, Bool, true, false, cond, List, [], ◌∷◌, ◌++◌, length, Some, refl, sym, ap, ◌∙◌, subst, arith, append-nil, length-append}
 use Rattle.std.specs.Prelude.{slice_get, option_map}
 use Rattle.std.specs.List.{range_with_len}
@@ -23,14 +23,14 @@ use Rattle.chart_layout.proofs.LaidOutLemmas.{laid_out-push, number_on-own, numb
 use Rattle.chart_layout.proofs.IndexLemmas.{is_at-same}
 use Rattle.chart_layout.proofs.RowLemmas.{row_of-push_old, row_of-within}
 
--- of each line the first events stand in the rows, as a layout has them
+-- the first events of each line are in the rows, as a layout has them
 pub record IsBegun (lines : List LineView) (rows : List Row) : Type 0 where
   pub order : AreInOrder rows
   pub within : (p : ℕ) → length (laid_out rows p) ≤ length (chart_lines lines p)
   pub level : (i : ℕ) (s r : EventNo) → slice_get rows i ≡ Some (Message s r) → BelongsTo (chart_lines lines) (place_of s) (place_of r)
   pub lower : (i : ℕ) (e : EventNo) (s : Place) → slice_get rows i ≡ Some (Event e) → BelongsTo (chart_lines lines) s (place_of e) → (j : ℕ) × (row_of rows s ≡ Some j) × (j < i)
 
--- no row was begun with
+-- there are no rows yet
 pub IsBegun-none : (lines : List LineView) → IsBegun lines []
 IsBegun-none lines = record {
   order = λ p. refl;
@@ -47,7 +47,7 @@ range_push a (suc n) =
     let m : suc n + 1 ≡ suc (n + 1) = omega arith in
     ap (λ x. a ∷ (range_with_len (a + 1) n ++ x ∷ [])) e ∙ ap (λ xs. a ∷ xs) (range_push (a + 1) n) ∙ ap (range_with_len a) (sym m)
 
--- what stands at a place of a range
+-- the number at a place of a range
 ith_range : (a n k x : ℕ) → ith (range_with_len a n) (suc k) ≡ Some x → x ≡ a + k
 ith_range a zero k x at_k = absurd (none-some x at_k)
 ith_range a (suc n) zero x at_k = let e = same_Some a x at_k in omega arith
@@ -82,7 +82,7 @@ has_row (row ∷ rows) p x k at_k =
     go true found = (0, refl, omega arith)
     go false (j, at_j, inside) = (suc j, ap (option_map suc) at_j, omega arith)
 
--- so each event up to the last one that is drawn of its line
+-- so does each event of a line up to the last drawn one
 pub row_of_laid_out : (rows : List Row) → AreInOrder rows → (e : Place) → 1 ≤ e.index → e.index ≤ length (laid_out rows e.instance) → (j : ℕ) × (row_of rows e ≡ Some j) × (j < length rows)
 row_of_laid_out rows order e begun above = go e.index refl
   where
@@ -148,7 +148,7 @@ adds lines rows (Message s r) p chart next =
           ]
     ]
 
--- how many events of a line are drawn with one row more
+-- the number of drawn events of a line, with one more row
 pub laid_out_more : (rows : List Row) (row : Row) (p : ℕ) → length (laid_out (rows ++ row ∷ []) p) ≡ length (laid_out rows p) + length (row_on p row)
 laid_out_more rows row p = ap length (laid_out-push rows row p) ∙ length-append (laid_out rows p) (row_on p row)
 
@@ -210,7 +210,7 @@ module _ (lines : List LineView) (rows : List Row) (row : Row) (chart : IsChart 
     lower = lower_more;
   }
 
--- where all events stand in the rows, these draw the chart
+-- if all events are in the rows, these draw the chart
 pub IsDrawing-from_begun : (lines : List LineView) (rows : List Row) → IsBegun lines rows → AreLaidOut (chart_lines lines) (length lines) rows → IsDrawing lines rows
 IsDrawing-from_begun lines rows is all = record {
   order = λ p. is.order p ∙ ap (range_with_len 1) (whole p);
@@ -226,12 +226,12 @@ IsDrawing-from_begun lines rows is all = record {
           | inr past ↦ let none = ap length (empty_line lines p past) in omega (arith, none, is.within (suc p))
         ]
 
--- how many events of the first n lines are still to be drawn
+-- the number of events of the first n lines that remain to be drawn
 abbrev pub left : Chart → ℕ → List Row → ℕ
 left c zero rows = 0
 left c (suc n) rows = left c n rows + (length (c (suc n)) - length (laid_out rows (suc n)))
 
--- a row more leaves no more, and fewer where it has an event of these lines
+-- one more row leaves no more events, and fewer if it has an event of these lines
 left-le : (c : Chart) (n : ℕ) (rows : List Row) (row : Row) → left c n (rows ++ row ∷ []) ≤ left c n rows
 left-le c zero rows row = omega arith
 left-le c (suc n) rows row = omega (arith, left-le c n rows row, laid_out_more rows row (suc n))
@@ -247,7 +247,7 @@ left-less c (suc n) p rows row inside some one =
       | inr differs ↦ omega (arith, left-less c n p rows row (omega arith) some one, laid_out_more rows row (suc n))
     ]
 
--- the line that the search goes on from is one of the chart's, and a row more leaves fewer events
+-- the line from which the search goes on is one of the chart's, and one more row leaves fewer events
 pub line_within-next : (lines : List LineView) (rows : List Row) (row : Row) → IsNextRow (chart_lines lines) rows row → (p : ℕ) → line_of row ≡ suc p → p < length lines
 line_within-next lines rows (Message s r) next p is = let on = instance_within lines (place_of s) next.1.event in omega (arith, on.1, on.2, is)
 line_within-next lines rows (Event e) next p is = let on = instance_within lines (place_of e) next.next.event in omega (arith, on.1, on.2, is)

@@ -12,7 +12,7 @@ use Rattle.closure.specs.Faults.{place_of}
 use Rattle.closure.proofs.ReadLemmas.{instance_within}
 use Rattle.chart_layout.specs.Ends.{ends_on, end_in, end_of, IsEnd, AreEnds, IsPassed, IsPart, HasSlot, IsSet}
 
--- two events with the same place are one
+-- two events with the same place are the same
 abbrev pub no_of : Place → EventNo
 no_of e = record { instance = e.instance; index = e.index }
 
@@ -70,7 +70,7 @@ module _ (e x : EventNo) (old new : List (List (Option EventNo))) (put : IsSet e
       beside zero apart = refl
       beside (suc i) apart = get_or-set_other row put.slot.number i (Some x) None (λ same. apart (ap suc same ∙ sym put.slot.index))
 
--- what stands at a place of a list hangs on no default
+-- the element at a place of a list doesn't depend on the default
 get_or_any : {X : Type 0} (xs : List X) (i : ℕ) (d e : X) → i < length xs → get_or xs i d ≡ get_or xs i e
 get_or_any [] i d e within = absurd (omega (arith, within))
 get_or_any (x ∷ xs) zero d e within = refl
@@ -118,7 +118,7 @@ receive_event c s r belongs = IsEvent-from_passes c (is_receive_from s.instance)
 not_ends : (c : Chart) (s r t : Place) → BelongsTo c s r → BelongsTo c r t → ⊥
 not_ends c s r t first second = not_both c t.instance s.instance r second.sent first.received
 
--- a receive that was passed with one event more was passed before, or is that event
+-- a receive that was passed with one more event was passed before, or is that event
 passed_more : (p k : ℕ) (r : Place) → IsPassed p (suc k) r → IsPassed p k r ⊎ ((r.instance ≡ suc p) × (r.index ≡ suc k))
 passed_more p k r (inl low) = inl (inl low)
 passed_more p k r (inr on) =
@@ -252,7 +252,7 @@ AreEnds-from_part lines ends p k all part e = go (end_of ends e) refl
       λ x belongs. none-some (no_of x) (sym is ∙ (part.whole e (no_of x) belongs (passed (place_of e) x belongs)).0),
     )
 
--- nothing is known of a line's events, or of several lines'
+-- no end of a line's events is known, or of several lines'
 abbrev pub unknown_line : LineView → List (Option EventNo)
 unknown_line line = replicate (length line.events) None
 

@@ -1,4 +1,4 @@
--- Which line can go on, and that one can while events are left.
+-- Which line can go on, and that one can as long as events are left.
 use Rattle.std.proofs.Common.{◌≡◌, ℕ, suc, ◌+◌, ◌-◌, ◌<◌, ◌≤◌, ◌⊎◌, inl, inr, List, length, map, None, Some, refl, sym, ap, ◌∙◌, subst, arith, eq-eqb}
 use Rattle.std.specs.Prelude.{slice_index}
 use Rattle.std.specs.List.{range_with_len}
@@ -27,11 +27,11 @@ use Rattle.chart_layout.specs.Layouts.{laid_out, row_of, AreInOrder}
 use Rattle.chart_layout.specs.Ways.{IsNextEvent, IsArrival, HasNoArrival, HasNoWay, HaveNoArrival, HaveNoWay, AreLaidOut}
 use Rattle.chart_layout.proofs.BegunLemmas.{row_of_laid_out}
 
--- a line has one next event
+-- a line has only one next event
 pub same_next : (c : Chart) (rows : List Row) (e f : Place) → e.instance ≡ f.instance → IsNextEvent c rows e → IsNextEvent c rows f → e ≡ f
 same_next c rows e f line x y = same_place e f line (x.next ∙ ap (λ p. length (laid_out rows p) + 1) line ∙ sym y.next)
 
--- and none where all of its events stand in the rows
+-- it has none if all of its events are in the rows
 pub none_next : (c : Chart) (rows : List Row) (p : ℕ) → length (c (suc p)) ≤ length (laid_out rows (suc p)) → (e : Place) → e.instance ≡ suc p → IsNextEvent c rows e → ⊥
 none_next c rows p all e line next =
     let number = subst (λ q. e.index ≡ length (laid_out rows q) + 1) line next.next in
@@ -54,7 +54,7 @@ kind_of c e here = let m = ith_at (c e.instance) e.index here.0 here.1 in go m.0
     go (events.Receive from name region) is = inr (from, (events.Receive from name region, is, eq-eqb from from refl))
 
 module _ (c : Chart) (rows : List Row) (e : Place) (p : ℕ) (line : e.instance ≡ suc p) (next : IsNextEvent c rows e) where
-  -- where the next event is no receive, it is a send, and the line can't go on in the other ways
+  -- if the next event is no receive, it is a send, and the line can't go on in the other ways
   module _ (none : (q : ℕ) → IsReceiveFrom c q e → ⊥) where
     pub is_send : (q : ℕ) × IsSendTo c q e
     is_send = elim (kind_of c e next.event) [ inl sends ↦ sends | inr receives ↦ absurd (none receives.0 receives.1) ]
@@ -69,7 +69,7 @@ module _ (c : Chart) (rows : List Row) (e : Place) (p : ℕ) (line : e.instance 
     not_otherwise Level other = not_level
     not_otherwise Early other = absurd (other refl)
 
-  -- where it is the receive of a send, what becomes of it hangs on that one
+  -- if it is the receive of a send, it depends on this send
   module _ (s : Place) (belongs : BelongsTo c s e) where
     pub not_early : HasNoWay c rows Early p
     not_early = λ q t here sends next_t. not_both c q s.instance e (subst (IsSendTo c q) (same_next c rows t e (here ∙ sym line) next_t next) sends) belongs.received
@@ -80,7 +80,7 @@ module _ (c : Chart) (rows : List Row) (e : Place) (p : ℕ) (line : e.instance 
     pub not_level_yet : (s.index ≡ length (laid_out rows s.instance) + 1 → ⊥) → HasNoWay c rows Level p
     not_level_yet later = λ t r here other next_t next_r. later (subst (λ (x : Place). x.index ≡ length (laid_out rows x.instance) + 1) (its_send t r here other next_r) next_t.next)
 
-    -- as many events of the send's line stand in the rows as there are before it
+    -- as many events of the send's line are in the rows as there are before the send
     pub send_next : s.index - 1 ≡ length (laid_out rows s.instance) → IsNextEvent c rows s
     send_next same = let event = IsEvent-from_passes c (is_send_to e.instance) s belongs.sent in record { event = event; next = omega (arith, event.0, same) }
 
@@ -91,7 +91,7 @@ module _ (c : Chart) (rows : List Row) (e : Place) (p : ℕ) (line : e.instance 
     not_else Level level = absurd (level refl)
     not_else Early level = not_early
 
-    -- it comes next where its send stands above
+    -- it comes next if its send is above
     pub arrives : (i : ℕ) → row_of rows s ≡ Some i → IsArrival c rows e i
     arrives i row = record { next = next; send = s; belongs = belongs; row = row }
 
@@ -104,7 +104,7 @@ module _ (c : Chart) (rows : List Row) (e : Place) (p : ℕ) (line : e.instance 
 pub has_sends : (n : ℕ) (c : Chart) → IsPossible n c → HasSends c
 has_sends n c possible = subst HasSends (fun_ext possible.3) (sends_of n possible.1 possible.0 possible.2)
 
--- where no line can go on, all events stand in the rows: else some line could, since the chart has no cycle
+-- if no line can go on, all events are in the rows: otherwise some line could, since the chart has no cycle
 module _ (lines : List LineView) (rows : List Row) (possible : IsPossibleChart lines) (order : AreInOrder rows) (arrivals : HaveNoArrival (chart_lines lines) (length lines) rows) (early : HaveNoWay (chart_lines lines) (length lines) rows Early) where
   abbrev n : ℕ
   n = length lines
@@ -112,7 +112,7 @@ module _ (lines : List LineView) (rows : List Row) (possible : IsPossibleChart l
   abbrev c : Chart
   c = chart_lines lines
 
-  -- how many events of each line stand in the rows
+  -- the number of events of each line in the rows
   abbrev made : List ℕ
   made = map (λ p. length (laid_out rows (suc p))) (range_with_len 0 n)
 

@@ -17,7 +17,7 @@ use Rattle.chart_layout.specs.Indexes.{line_at, IsIndex, IsPut, ArePut, AreNext}
 use Rattle.chart_layout.proofs.LaidOutLemmas.{laid_out-push, length-number_on}
 use Rattle.chart_layout.proofs.RowLemmas.{row_of-push_old, row_of-push_new}
 
--- a list has none past its end, and other places keep theirs
+-- a list has no element past its end, and other places keep theirs
 ith-past : (xs : List ℕ) → ith xs (length xs + 1) ≡ None
 ith-past xs = ap (ith xs) (add-one (length xs)) ∙ slice_get_past xs (length xs) (omega arith)
 
@@ -28,7 +28,7 @@ ith-push_other [] n (suc (suc j)) other = refl
 ith-push_other (x ∷ xs) n (suc zero) other = refl
 ith-push_other (x ∷ xs) n (suc (suc j)) other = ith-push_other xs n (suc j) (λ e. other (omega (arith, e)))
 
--- what is at a place is there
+-- an event that is at a place has this place
 pub is_at-true : (e : Place) (x : EventNo) → is_at e x ≡ true → place_of x ≡ e
 is_at-true e x its =
     let parts = and_parts (x.instance == e.instance) (x.index == e.index) its in
@@ -38,7 +38,7 @@ pub is_at-same : (e : Place) (x : EventNo) → x.instance ≡ e.instance → x.i
 is_at-same e x line number = and_from (x.instance == e.instance) (x.index == e.index) (eq-eqb x.instance e.instance line) (eq-eqb x.index e.index number)
 
 module _ (x : EventNo) (n : ℕ) (old new : List (List ℕ)) (whole : length old ≡ MAX_INSTANCES) (added : IsPut x n old new) where
-  -- the event's own line has a number more, each other one is as it was
+  -- the event's own line has one more number, and each other line is as it was
   line_at-own : line_at new x.instance ≡ line_at old x.instance ++ n ∷ []
   line_at-own =
       subst (λ p. line_at new p ≡ line_at old p ++ n ∷ []) (sym added.instance)
@@ -60,7 +60,7 @@ module _ (x : EventNo) (n : ℕ) (old new : List (List ℕ)) (whole : length old
         | inr other ↦ let same = ap length (line_at-other p other.0) in omega (arith, same, other.1)
       ]
 
-  -- where the event is the next of its line, its number is new, and all other events keep theirs
+  -- if the event is the next of its line, its number is new, and all other events keep theirs
   module _ (next : x.index ≡ length (line_at old x.instance) + 1) where
     pub put-here : (e : Place) → is_at e x ≡ true → (ith (line_at new e.instance) e.index ≡ Some n) × (ith (line_at old e.instance) e.index ≡ None)
     put-here e its =
@@ -78,7 +78,7 @@ module _ (x : EventNo) (n : ℕ) (old new : List (List ℕ)) (whole : length old
               (ap (λ xs. ith xs e.index) line_at-own ∙ ith-push_other (line_at old x.instance) n e.index (λ same. both_ways (is_at e x) differs (is_at-same e x line (next ∙ sym same))))
         ]
 
--- a row with one event more
+-- one more row, with an event
 pub IsIndex-event : (rows : List Row) (old new : List (List ℕ)) (x : EventNo) (n : ℕ) → IsIndex rows old → IsNext rows (place_of x) → n ≡ length rows → IsPut x n old new → IsIndex (rows ++ Event x ∷ []) new
 IsIndex-event rows old new x n is next number added = record {
   whole = put-whole x n old new is.whole added;
@@ -101,7 +101,7 @@ IsIndex-event rows old new x n is next number added = record {
         here.0 ∙ ap (λ m. Some m) number ∙ sym (row_of-push_new rows (Event x) e (sym (is.each e) ∙ here.1) ∙ ap (λ b. cond b (Some (length rows)) None) its)
     by_test e (inr differs) = put-elsewhere x n old new is.whole added own e differs ∙ is.each e ∙ sym (by_row e differs (row_of rows e) refl)
 
--- a row with a message more
+-- one more row, with a message
 pub IsIndex-message : (rows : List Row) (old half new : List (List ℕ)) (s r : EventNo) (n : ℕ) → IsIndex rows old → AreNext rows (Message s r) → n ≡ length rows → IsPut s n old half → IsPut r n half new → IsIndex (rows ++ Message s r ∷ []) new
 IsIndex-message rows old half new s r n is (next_s, next_r, differ) number added_s added_r = record {
   whole = put-whole r n half new whole added_r;

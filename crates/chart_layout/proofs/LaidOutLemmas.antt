@@ -5,19 +5,19 @@ use Rattle.chart.specs.declared.instance.EventNo.{EventNo}
 use Rattle.chart_layout.specs.declared.row.Row.{Row}
 use Rattle.chart_layout.specs.Layouts.{number_on, row_on, laid_out}
 
--- a row more
+-- one more row
 pub laid_out-push : (rows : List Row) (row : Row) (p : ℕ) → laid_out (rows ++ row ∷ []) p ≡ laid_out rows p ++ row_on p row
 laid_out-push [] row p = append-nil (row_on p row)
 laid_out-push (first ∷ rows) row p = ap (λ xs. row_on p first ++ xs) (laid_out-push rows row p) ∙ sym (append_assoc (row_on p first) (laid_out rows p) (row_on p row))
 
--- an event's number is on its own line alone
+-- an event's number is only on its own line
 pub number_on-own : (p : ℕ) (e : EventNo) → e.instance ≡ p → number_on p e ≡ e.index ∷ []
 number_on-own p e its = ap (λ b. cond b (e.index ∷ []) []) (eq-eqb e.instance p its)
 
 pub number_on-other : (p : ℕ) (e : EventNo) → (e.instance ≡ p → ⊥) → number_on p e ≡ []
 number_on-other p e other = ap (λ b. cond b (e.index ∷ []) []) (ne_eqb e.instance p other)
 
--- how many there are
+-- the number of these numbers
 pub length-number_on : (p : ℕ) (e : EventNo) → ((e.instance ≡ p) × (length (number_on p e) ≡ 1)) ⊎ ((e.instance ≡ p → ⊥) × (length (number_on p e) ≡ 0))
 length-number_on p e =
     elim (cases_eq e.instance p) [

@@ -1,4 +1,4 @@
--- A chart has one layout: what is picked leaves no choice.
+-- A chart has only one layout: the picking leaves no choice.
 use Rattle.std.proofs.Common.{◌≡◌, ℕ, zero, suc, ◌≤◌, ◌⊎◌, inl, inr, Bool, true, false, cond, List, [], ◌∷◌, ◌++◌, length, drop, Option, None, Some, refl, sym, ap, ◌∙◌, subst, arith, append_assoc, length-append}
 use Rattle.std.specs.Prelude.{slice_get, option_map, ◌||◌, ◌+◌}
 use Rattle.std.proofs.Math.Seq.{take-append_seam}
@@ -58,7 +58,7 @@ module _ (lines : List LineView) where
   abbrev AreLevelIn : List Row → Type 0
   AreLevelIn rows = (i : ℕ) (s r : EventNo) → slice_get rows i ≡ Some (Message s r) → BelongsTo c (place_of s) (place_of r)
 
-  -- a row has one send
+  -- a row has only one send
   one_send : (rows : List Row) → AreLevelIn rows → (s t q r : Place) (i : ℕ) → BelongsTo c s q → BelongsTo c t r → row_of rows s ≡ Some i → row_of rows t ≡ Some i → s ≡ t
   one_send rows level s t q r i sent other at_s at_t =
       let a = row_with rows s i at_s in
@@ -76,7 +76,7 @@ module _ (lines : List LineView) where
         ]
       ]
 
-  -- a line on which a row is sought has one in this way
+  -- a line on which a row is found has one in this way
   blocks : (rows : List Row) (way : Way) (x : Row) (p : ℕ) → IsWay c rows way x → sought_on x ≡ suc p → HasNoWay c rows way p → ⊥
   blocks rows Level (Message s r) p is line none = none (place_of s) (place_of r) line is.0 is.1 is.2
   blocks rows Level (Event e) p is line none = is
@@ -89,7 +89,7 @@ module _ (lines : List LineView) where
   on_line rows Early (Message s r) is = absurd is
   on_line rows Early (Event e) is = let on = instance_within lines (place_of e) is.0.event in (on.0, on.1)
 
-  -- what is sought in one way is on one line
+  -- the rows that are found in one way are on one line
   same_line : (rows : List Row) (way : Way) (line : ℕ) (x y : Row) → IsWay c rows way x → IsWay c rows way y → IsFirst c rows way line x → IsFirst c rows way line y → sought_on x ≡ sought_on y
   same_line rows way line x y is_x is_y first_x first_y = go (on_line rows way x is_x) (on_line rows way y is_y) first_x first_y
     where
@@ -105,7 +105,7 @@ module _ (lines : List LineView) where
         ]
       ]
 
-  -- on one line there is one such row
+  -- on one line there is only one such row
   same_way : (rows : List Row) (way : Way) (x y : Row) → IsWay c rows way x → IsWay c rows way y → sought_on x ≡ sought_on y → x ≡ y
   same_way rows Level (Message s r) (Message t q) is_x is_y line =
       let receives = same_next c rows (place_of r) (place_of q) line is_x.2 is_y.2 in
@@ -120,7 +120,7 @@ module _ (lines : List LineView) where
   same_sought : (rows : List Row) (way : Way) (x y : Row) → IsSought c rows way x → IsSought c rows way y → x ≡ y
   same_sought rows way x y a b = same_way rows way x y a.0 b.0 (same_line rows way (last_line rows) x y a.0 b.0 a.1 b.1)
 
-  -- where no line has an arrival, there is none
+  -- if no line has an arrival, there is none
   no_highest : (rows : List Row) (e : Place) → HaveNoArrival c n rows → IsHighest c rows e → ⊥
   no_highest rows e none highest = let on = instance_within lines e highest.1.next.event in none on.0 on.2 e highest.0 on.1 highest.1
 
@@ -130,7 +130,7 @@ module _ (lines : List LineView) where
   not_sought rows Early (Message s r) none is = is
   not_sought rows Early (Event e) none is = let on = instance_within lines (place_of e) is.0.event in none on.0 on.2 is.1.0 (place_of e) on.1 is.1.1 is.0
 
-  -- the highest of the arrivals is one
+  -- there is only one highest arrival
   same_highest : (rows : List Row) → AreLevelIn rows → (e f : EventNo) → IsHighest c rows (place_of e) → IsHighest c rows (place_of f) → e ≡ f
   same_highest rows level e f a b =
       let low = a.2 (place_of f) b.0 b.1 in
@@ -139,7 +139,7 @@ module _ (lines : List LineView) where
       let sends = one_send rows level a.1.send b.1.send (place_of e) (place_of f) b.0 a.1.belongs b.1.belongs (a.1.row ∙ ap (λ i. Some i) row) b.1.row in
       same_event e f (same_receive c b.1.send (place_of e) (place_of f) (subst (λ s. BelongsTo c s (place_of e)) sends a.1.belongs) b.1.belongs)
 
-  -- one row is picked
+  -- only one row is picked
   same_pick : (rows : List Row) → AreLevelIn rows → (x y : Row) → IsPicked c n rows x → IsPicked c n rows y → x ≡ y
   same_pick rows level (Message s r) (Message t q) a b = same_sought rows Level (Message s r) (Message t q) a.1 b.1
   same_pick rows level (Message s r) (Event e) a (inl b) = absurd (no_highest rows (place_of e) a.0 b)
@@ -151,14 +151,14 @@ module _ (lines : List LineView) where
   same_pick rows level (Event e) (Event f) (inr a) (inl b) = absurd (no_highest rows (place_of f) a.0 b)
   same_pick rows level (Event e) (Event f) (inr a) (inr b) = same_sought rows Early (Event e) (Event f) a.2 b.2
 
-  -- one row comes next
+  -- only one row comes next
   same_coming : (rows : List Row) (turns : List ℕ) → AreLevelIn rows → (x y : Row) → Comes c n rows turns x → Comes c n rows turns y → x ≡ y
   same_coming rows turns level x y (inl a) (inl b) = same_turn_row c rows turns x y a b
   same_coming rows turns level x y (inl a) (inr b) = absurd (b.0 x a)
   same_coming rows turns level x y (inr a) (inl b) = absurd (a.0 y b)
   same_coming rows turns level x y (inr a) (inr b) = same_pick rows level x y a.1 b.1
 
-  -- a row more draws an event more
+  -- one more row draws at least one more event
   some_event : (row : Row) → 1 ≤ length (row_on (line_of row) row)
   some_event (Event e) = let own = ap length (number_on-own e.instance e refl) in omega arith
   some_event (Message s r) =

@@ -1,4 +1,4 @@
--- What is picked: the highest of some arrivals, a message, a send.
+-- The picked row: the highest of some arrivals, a message, a send.
 use Rattle.std.proofs.Common.{◌≡◌, ℕ, suc, ◌<◌, ◌≤◌, inl, inr, Bool, true, false, cond, List, [], ◌∷◌, ◌++◌, length, take, Option, None, Some, refl, sym, ap, ◌∙◌, subst, arith}
 use Rattle.std.specs.Prelude.{MatchOption, nat_lt, slice_get}
 use Rattle.std.proofs.lemmas.Bool.{cases_eq, ltb-true, ltb-false}
@@ -31,7 +31,7 @@ same_arrival c rows x y i j line one other =
     let sends = same_send c one.send other.send y (subst (BelongsTo c one.send) same one.belongs) other.belongs in
     same_Some i j (sym one.row ∙ ap (row_of rows) sends ∙ other.row)
 
--- of one line more
+-- one more line
 module _ (c : Chart) (rows : List Row) (p : ℕ) where
   none_more : HaveNoArrival c p rows → HasNoArrival c rows p → HaveNoArrival c (suc p) rows
   none_more before here q less = elim (cases_eq q p) [
@@ -48,7 +48,7 @@ module _ (c : Chart) (rows : List Row) (p : ℕ) where
     | inr other ↦ before q x j (omega (arith, less, other)) line arrival
   ]
 
-  -- the arrival of line p is as low as each arrival of it
+  -- the send of line p's arrival is at least as high as that of each arrival of this line
   lower_here : (found : Arrival) → found.receive.instance ≡ suc p → IsArrival c rows (place_of found.receive) found.row → (x : Place) (j : ℕ) → x.instance ≡ suc p → IsArrival c rows x j → found.row ≤ j
   lower_here found line is x j its arrival = let same = same_arrival c rows (place_of found.receive) x found.row j (line ∙ sym its) is arrival in omega (arith, same)
 
@@ -62,7 +62,7 @@ module _ (c : Chart) (rows : List Row) (p : ℕ) where
       go true is = let above = ltb-true a.row b.row is in (here.1, lower_more a (λ q x j less line arrival. let low = before.1 q x j less line arrival in omega arith) (lower_here a here.0 here.1))
       go false is = let above = ltb-false a.row b.row is in (before.0, lower_more b before.1 (λ x j line arrival. let low = lower_here a here.0 here.1 x j line arrival in omega arith))
 
--- the row that comes of it
+-- the resulting row
 module _ (lines : List LineView) (rows : List Row) where
   abbrev c : Chart
   c = chart_lines lines
@@ -81,7 +81,7 @@ module _ (lines : List LineView) (rows : List Row) where
   picked_send hint (Message s r) last none level way = absurd way.0
   picked_send hint (Event e) last none level way = inr (none, level, (way.0, subst (λ line. IsFirst c rows Early line (Event e)) (sym last) way.1))
 
-  -- what the last way says
+  -- the result of the last way
   pub last_way : (hint : ℕ) → IsPossibleChart lines → AreInOrder rows → last_line rows ≡ suc hint → HaveNoArrival c n rows → HaveNoWay c n rows Level → (found : Option Row)
       → MatchOption found (HaveNoWay c n rows Early) (λ row. IsWay c rows Early row × IsFirst c rows Early (suc hint) row) → MatchOption found (AreLaidOut c n rows) (IsPicked c n rows)
   last_way hint possible order last none level None early = all_laid_out lines rows possible order none early
@@ -99,7 +99,7 @@ module _ (lines : List LineView) (rows : List Row) where
     after = λ s belongs. absurd (not_both c early.2.0.1.0 s.instance (place_of e) early.2.0.1.1 belongs.received);
   }
 
--- what holds of each row, with those above it
+-- a fact that holds of each row and of those above it
 abbrev pub OfEach : (List Row → Row → Type 0) → List Row → Type 0
 OfEach Holds rows = (i : ℕ) (row : Row) → slice_get rows i ≡ Some row → Holds (take i rows) row
 
@@ -115,7 +115,7 @@ OfEach-next Holds rows row old new i x at_i =
           subst (λ xs. Holds xs x) (sym (take_at rows (row ∷ []) i (sym here))) (subst (Holds rows) one.1 new)
     ]
 
--- the line from which the next row is sought is the last row's
+-- the line from which the search for the next row begins is the last row's
 pub last_from-push : (p : ℕ) (rows : List Row) (row : Row) → last_from p (rows ++ row ∷ []) ≡ line_of row
 last_from-push p [] row = refl
 last_from-push p (first ∷ rows) row = last_from-push (line_of first) rows row

@@ -1,4 +1,4 @@
--- What comes next by turns.
+-- The next row by turns.
 use Rattle.std.proofs.Common.{◌≡◌, ℕ, suc, ◌+◌, ◌≤◌, inl, inr, true, false, List, [], ◌∷◌, ◌++◌, length, drop, Option, None, Some, refl, sym, ap, ◌∙◌, subst, arith, length-append}
 use Rattle.std.specs.Prelude.{MatchOption}
 use Rattle.std.proofs.lemmas.List.{drop-drop}
@@ -27,7 +27,7 @@ same_event a b same = go a b (ap (λ (e : Place). e.instance) same) (ap (λ (e :
     go : (x y : EventNo) → x.instance ≡ y.instance → x.index ≡ y.index → x ≡ y
     go x y line number = ap (λ p. record { instance = p; index = x.index }) line ∙ ap (λ i. record { instance = y.instance; index = i }) number
 
--- one instance has the turn
+-- only one instance has the turn
 same_turn : (turns : List ℕ) (p q : ℕ) → HasTurn turns p → HasTurn turns q → p ≡ q
 same_turn [] p q one other = absurd one
 same_turn (x ∷ turns) p q one other = sym one ∙ other
@@ -46,7 +46,7 @@ module _ (c : Chart) (rows : List Row) (turns : List ℕ) where
     its : (f : EventNo) → HasTurn turns f.instance → IsNextEvent c rows (place_of f) → f ≡ e
     its f has here = same_event f e (same_next c rows (place_of f) (place_of e) (same_turn turns f.instance e.instance has turn) here next)
 
-    -- a receive whose send stands above, or doesn't yet
+    -- a receive whose send is above, or isn't yet
     module _ (s : Place) (belongs : BelongsTo c s (place_of e)) where
       pub receive_row : (i : ℕ) → row_of rows s ≡ Some i → IsTurn c rows turns (Event e)
       receive_row i row = (
@@ -73,7 +73,7 @@ module _ (c : Chart) (rows : List Row) (turns : List ℕ) where
       is.1,
     )
 
-  -- the turns have one row
+  -- the turns have only one row
   pub same_turn_row : (x y : Row) → IsTurn c rows turns x → IsTurn c rows turns y → x ≡ y
   same_turn_row (Message s r) (Message t q) a b =
       let sends = its t b.0 b.2.1 s a.0 a.2.1 in
@@ -87,7 +87,7 @@ module _ (c : Chart) (rows : List Row) (turns : List ℕ) where
       absurd (a.2 r b.1 (subst (λ (y : EventNo). IsWay c rows Level (Message y r)) same b.2))
   same_turn_row (Event e) (Event f) a b = ap (λ z. Event z) (its f b.0 b.1.next e a.0 a.1.next)
 
-  -- the row of a send whose receive comes next behind it
+  -- the row of a send whose receive comes next after it
   pub level_row : (send receive : EventNo) → IsNextEvent c rows (place_of send) → HasTurn turns receive.instance × IsNextEvent c rows (place_of receive) → (sender : EventNo) → BelongsTo c (place_of sender) (place_of receive)
       → is_at (place_of send) sender ≡ true → IsSendRow c rows turns send (Message send receive)
   level_row send receive next here sender belongs same =
@@ -96,11 +96,11 @@ module _ (c : Chart) (rows : List Row) (turns : List ℕ) where
   alone_row : (send : EventNo) → ((r : EventNo) → HasTurn turns r.instance → IsNextEvent c rows (place_of r) → BelongsTo c (place_of send) (place_of r) → ⊥) → IsSendRow c rows turns send (Event send)
   alone_row send none = (refl, λ r has way. none r has way.2 way.0)
 
-  -- a send whose receive doesn't: what comes next is no receive
+  -- a send whose receive doesn't come next: the next event is no receive
   pub no_receive_row : (send receive : EventNo) → HasTurn turns receive.instance × IsNextEvent c rows (place_of receive) → ((q : ℕ) → IsReceiveFrom c q (place_of receive) → ⊥) → IsSendRow c rows turns send (Event send)
   no_receive_row send receive here never = alone_row send (λ r has next belongs. never send.instance (subst (λ (y : EventNo). IsReceiveFrom c send.instance (place_of y)) (its receive here.0 here.1 r has next) belongs.received))
 
-  -- or that of another send
+  -- the next event is the receive of another send
   pub other_row : (send receive : EventNo) → HasTurn turns receive.instance × IsNextEvent c rows (place_of receive) → (sender : EventNo) → BelongsTo c (place_of sender) (place_of receive) → is_at (place_of send) sender ≡ false → IsSendRow c rows turns send (Event send)
   other_row send receive here sender mine differs = alone_row send (λ r has next belongs.
       let same = its receive here.0 here.1 r has next in
@@ -108,7 +108,7 @@ module _ (c : Chart) (rows : List Row) (turns : List ℕ) where
       both_ways (is_at (place_of send) sender) differs (is_at-same (place_of send) sender (ap (λ (y : EventNo). y.instance) sends) (ap (λ (y : EventNo). y.index) sends)))
 
 module _ (lines : List LineView) (rows : List Row) (turns : List ℕ) where
-  -- what comes next may be the next row
+  -- a row that comes next may be the next one
   pub next_coming : (row : Row) → Comes (chart_lines lines) (length lines) rows turns row → IsNextRow (chart_lines lines) rows row
   next_coming (Message s r) (inl turn) = turn.2
   next_coming (Event e) (inl turn) = turn.1
@@ -119,7 +119,7 @@ module _ (lines : List LineView) (rows : List Row) (turns : List ℕ) where
   picked_coming none None all = all
   picked_coming none (Some row) picked = inr (none, picked)
 
--- the turns that are left
+-- the remaining turns
 actors_more : (rows : List Row) (row : Row) → length (actors (rows ++ row ∷ [])) ≡ length (actors rows) + length (actors_of row)
 actors_more [] row = length-append (actors_of row) [] ∙ omega arith
 actors_more (first ∷ rows) row =
@@ -131,6 +131,6 @@ actors_more (first ∷ rows) row =
 pub left-next : (turns : List ℕ) (rows : List Row) (row : Row) → drop (length (actors_of row)) (drop (length (actors rows)) turns) ≡ drop (length (actors (rows ++ row ∷ []))) turns
 left-next turns rows row = drop-drop (length (actors_of row)) (length (actors rows)) turns ∙ ap (λ k. drop k turns) (sym (actors_more rows row))
 
--- where all events stand in the rows, these are the layout
+-- if all events are in the rows, these are the layout
 pub IsLayout-from_begun : (lines : List LineView) (turns : List ℕ) (rows : List Row) → IsBegun lines rows → OfEach (λ above row. Comes (chart_lines lines) (length lines) above (drop (length (actors above)) turns) row) rows → AreLaidOut (chart_lines lines) (length lines) rows → IsLayout lines turns rows
 IsLayout-from_begun lines turns rows begun comes all = record { drawing = IsDrawing-from_begun lines rows begun all; comes = comes }

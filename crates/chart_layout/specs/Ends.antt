@@ -4,22 +4,22 @@ use Rattle.chart.specs.declared.instance.EventNo.{EventNo}
 use Rattle.chart.specs.Charts.{Chart, Place, LineView, BelongsTo, chart_lines}
 use Rattle.closure.specs.Faults.{place_of}
 
--- what the table has for an instance's events
+-- the table's ends for an instance's events
 abbrev pub ends_on : List (List (Option EventNo)) → ℕ → List (Option EventNo)
 ends_on ends zero = []
 ends_on ends (suc p) = slice_index_or ends p []
 
--- what a list has for the event of this number
+-- a list's end for the event of this number
 abbrev pub end_in : List (Option EventNo) → ℕ → Option EventNo
 end_in ends zero = None
 end_in ends (suc i) = slice_index_or ends i None
 
--- what the table has for an event
+-- the table's end for an event
 abbrev pub end_of : List (List (Option EventNo)) → EventNo → Option EventNo
 end_of ends e = end_in (ends_on ends e.instance) e.index
 
--- the other end of the message of the event at e: its send, or its receive. It has none where it is a send whose
--- message waits, or no event of the chart
+-- the other end of the message of the event at e: its send, or its receive. It has none if it is a send whose message
+-- waits, or no event of the chart
 abbrev pub IsEnd : Chart → Place → Option EventNo → Type 0
 IsEnd c e None = ((x : Place) → BelongsTo c x e → ⊥) × ((x : Place) → BelongsTo c e x → ⊥)
 IsEnd c e (Some x) = BelongsTo c (place_of x) e ⊎ BelongsTo c e (place_of x)
@@ -32,7 +32,7 @@ AreEnds c ends = (e : EventNo) → IsEnd c (place_of e) (end_of ends e)
 abbrev pub IsPassed : ℕ → ℕ → Place → Type 0
 IsPassed p k r = (r.instance ≤ p) ⊎ ((r.instance ≡ suc p) × (r.index ≤ k))
 
--- the table has the ends of the messages whose receives were passed, and nothing that isn't so
+-- the table has the ends of the messages whose receives were passed, and no wrong ends
 pub record IsPart (lines : List LineView) (ends : List (List (Option EventNo))) (p k : ℕ) : Type 0 where
   pub many : length ends ≡ length lines
   pub shape : (q : ℕ) → length (ends_on ends q) ≡ length (chart_lines lines q)

@@ -1,4 +1,4 @@
--- What a layout keeps beside its rows: for each instance the rows of its events (this project's own).
+-- What a layout keeps besides its rows: for each instance the rows of its events (this project's own).
 use Rattle.std.specs.Prelude.{◌≡◌, ◌≢◌, ℕ, zero, suc, ◌<◌, ◌++◌, List, [], ◌∷◌, length, slice_set, slice_index_or}
 use Rattle.chart.specs.declared.instance.EventNo.{EventNo}
 use Rattle.chart.specs.declared.instance.TheConstants.{MAX_INSTANCES}
@@ -14,7 +14,7 @@ abbrev pub line_at : List (List ℕ) → ℕ → List ℕ
 line_at lines zero = []
 line_at lines (suc p) = slice_index_or lines p []
 
--- for each event that has a row the number of its row is kept, and nothing else is
+-- the number of the row is kept for each event that has one, and nothing else is
 pub record IsIndex (rows : List Row) (lines : List (List ℕ)) : Type 0 where
   pub whole : length lines ≡ MAX_INSTANCES
   pub counted : (p : ℕ) → length (line_at lines p) ≡ length (laid_out rows p)
@@ -27,7 +27,7 @@ pub record IsPut (e : EventNo) (number : ℕ) (old new : List (List ℕ)) : Type
   pub within : place < MAX_INSTANCES
   pub added : new ≡ slice_set old place (slice_index_or old place [] ++ number ∷ [])
 
--- it was added for each event of the row
+-- the number was added for each event of the row
 abbrev pub ArePut : Row → ℕ → List (List ℕ) → List (List ℕ) → Type 0
 ArePut (Message send receive) number old new = (half : List (List ℕ)) × IsPut send number old half
     × IsPut receive number half new

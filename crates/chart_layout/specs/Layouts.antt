@@ -1,6 +1,6 @@
--- Drawings of a chart in rows, of one message or one event each (after the graphical form of ITU-T Z.120, in which a
--- message is an arrow from its output to its input event; that a row has one message or one event is this project's
--- profile).
+-- Drawings of a chart in rows, of one message or one event each. They follow the graphical form of ITU-T Z.120, in
+-- which a message is an arrow from its output to its input event. That a row has one message or one event is this
+-- project's profile.
 use Rattle.std.specs.Prelude.{◌≡◌, ℕ, suc, ◌+◌, ◌<◌, ◌==◌, ◌&&◌, ◌||◌, Bool, List, [], ◌∷◌, ◌++◌, length, slice_get, Option, None, Some, option_map, if◌then◌else◌}
 use Rattle.std.specs.List.{range_with_len}
 use Rattle.chart.specs.declared.instance.EventNo.{EventNo}
@@ -9,7 +9,7 @@ use Rattle.closure.specs.Faults.{place_of}
 use Rattle.chart_layout.specs.declared.row.Row.{Row}
 use Rattle.chart_layout.specs.declared.row.Row.TheVariants.{Message, Event}
 
--- the number of an event, where it is one of p's
+-- the number of an event, if it is one of p's
 abbrev pub number_on : ℕ → EventNo → List ℕ
 number_on p e = if e.instance == p then e.index ∷ [] else []
 
@@ -18,7 +18,7 @@ abbrev pub row_on : ℕ → Row → List ℕ
 row_on p (Message send receive) = number_on p send ++ number_on p receive
 row_on p (Event event) = number_on p event
 
--- the numbers of p's events in rows, from the top on
+-- the numbers of p's events in rows, from the top down
 abbrev pub laid_out : List Row → ℕ → List ℕ
 laid_out [] p = []
 laid_out (row ∷ rows) p = row_on p row ++ laid_out rows p
@@ -32,7 +32,7 @@ abbrev pub has_event : Place → Row → Bool
 has_event e (Message send receive) = is_at e send || is_at e receive
 has_event e (Event event) = is_at e event
 
--- the number of the row that has the event, from 0; none where no row has it
+-- the number, from 0, of the row that has the event; none if no row has it
 abbrev pub row_of : List Row → Place → Option ℕ
 row_of [] e = None
 row_of (row ∷ rows) e = if has_event e row then Some 0 else option_map suc (row_of rows e)
@@ -45,8 +45,8 @@ IsNext rows e = e.index ≡ length (laid_out rows e.instance) + 1
 abbrev pub AreInOrder : List Row → Type 0
 AreInOrder rows = (p : ℕ) → laid_out rows p ≡ range_with_len 1 (length (laid_out rows p))
 
--- the rows draw the chart: each line's events go down in their order, the ends of a message in one row belong together,
--- and a receive alone stands lower than its send
+-- the rows draw the chart: each line's events go down in order; the ends of a message in one row belong together; and a
+-- receive alone is lower than its send
 pub record IsDrawing (lines : List LineView) (rows : List Row) : Type 0 where
   pub order : (p : ℕ) → laid_out rows p ≡ range_with_len 1 (length (chart_lines lines p))
   pub level : (i : ℕ) (s r : EventNo) → slice_get rows i ≡ Some (Message s r)

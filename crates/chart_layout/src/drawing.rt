@@ -9,7 +9,7 @@ use chart::InstanceNo;
 use closure::Closure;
 use std::alloc::{AllocError, Global};
 
-/// The line from which the next row is sought: the event's, or of a message the sender's.
+/// The line from which the search for the next row begins: the event's, or the message's sender's.
 fn line_of(row: &Row) -> usize
     ensures { line_of row.now ≡ suc result }
 {
@@ -21,13 +21,16 @@ fn line_of(row: &Row) -> usize
 
 /// The layout of a possible chart, whose events come in the order of these turns.
 ///
-/// As long as the turns fit the chart, each turn is that of the next event of its line, which has a row of its own;
-/// only a receive whose turn is right behind its send's is in the send's row. Where there are no turns, as of a chart
-/// that comes from no run, each row is the receive whose send is highest, of those whose sends have a row; where there
-/// is none, a message both of whose ends are next; and where there is none of both, a send. The last two are sought on
-/// the line of the row above first, and then on each line by its number.
+/// As long as the turns fit the chart, each turn is that of the next event of its line. This event has a row of its
+/// own. Only a receive whose turn directly follows that of its send is in the send's row. A chart that comes from no
+/// run has no turns. Without turns the next row is found in this order:
+/// - a receive whose send has a row: the one whose send is highest;
+/// - a message both of whose ends are next;
+/// - a send.
 ///
-/// For each row it looks at each line three times at most. F6: it fails only where there is no memory.
+/// The search for the last two begins on the line of the row above, and goes on with each line by its number.
+///
+/// For each row it looks at each line at most three times. F6: it fails only if there is no memory.
 pub fn layout(
     alloc: Global,
     closure: &Closure<'_>,
@@ -47,7 +50,7 @@ pub fn layout(
     Ok(layout)
 }
 
-/// A chart has one layout for its turns.
+/// A chart has exactly one layout for its turns.
 pub fn one_layout_law()
     ensures { OneLayoutLaw }
 {}

@@ -29,7 +29,7 @@ impl Model for LineEnds {
 }
 
 impl LineEnds {
-    /// Those of so many events of which nothing is known yet.
+    /// The ends of this number of events, none of which is known yet.
     fn unknown(alloc: Global, events: usize) -> Result<LineEnds, AllocError>
         ensures { IfOk result (λ line. line ≡ replicate events None) }
     {
@@ -51,7 +51,7 @@ impl LineEnds {
         }
     }
 
-    /// Puts an end at a place from 0.
+    /// Sets the end at a place from 0.
     fn set(&mut self, place: usize, end: EventNo)
         requires { place < length self.old }
         ensures { self.new ≡ slice_set self.old place (Some end) }
@@ -98,7 +98,7 @@ fn add_line(lines: &mut [LineEnds], closure: &Closure<'_>, line: usize)
     }
 }
 
-/// A table for these lines of which nothing is known yet.
+/// A table for these lines, without known ends.
 fn unknown(alloc: Global, lines: &[Line]) -> Result<Vec<LineEnds>, AllocError>
     ensures { IfOk result (λ ends. IsPart lines.now ends.items 0 0) }
 {
@@ -127,7 +127,7 @@ impl Model for Ends {
 impl Ends {
     /// The other ends of a chart's messages.
     ///
-    /// It looks at each event once. F6: it fails only where there is no memory.
+    /// It looks at each event once. F6: it fails only if there is no memory.
     pub fn of(alloc: Global, closure: &Closure<'_>) -> Result<Ends, AllocError>
         ensures { IfOk result (AreEnds (chart_lines closure.now)) }
     {
@@ -138,8 +138,8 @@ impl Ends {
         Ok(Ends { lines })
     }
 
-    /// The other end of an event's message: its send, or its receive. There is none exactly where the message of a send
-    /// waits, or the chart has no such event.
+    /// The other end of an event's message: its send, or its receive. There is none exactly if the event is a send
+    /// whose message waits, or if the chart has no such event.
     pub fn of_event(&self, event: EventNo) -> Option<EventNo>
         ensures { result ≡ end_of self.now event }
     {

@@ -1,4 +1,4 @@
-//! Which row comes next.
+//! The search for the next row.
 ghost use Rattle.std.specs.Prelude.{ℕ, ◌≡◌, ◌<◌, ◌≤◌, suc, length, nat_lt, if◌then◌else◌, MatchOption};
 ghost use Rattle.chart.specs.declared.instance.TheConstants.{MAX_INSTANCES};
 ghost use Rattle.chart.specs.declared.line.TheConstants.{MAX_EVENTS};
@@ -15,23 +15,23 @@ use crate::rows::Layout;
 use chart::{Event, EventNo, InstanceNo, Line};
 use closure::Closure;
 
-/// How an event comes next, but as a receive whose send stands above.
+/// How an event comes next, except for a receive whose send is above.
 #[derive(Clone, Copy)]
 pub(crate) enum Way {
-    /// As an end of a message whose other end is next too.
+    /// As an end of a message whose other end is next, too.
     Level,
     /// Alone, as a send.
     Early,
 }
 
-/// A receive that comes next, and the row of its send.
+/// A receive that is next, and the row of its send.
 #[derive(Clone, Copy)]
 pub(crate) struct Arrival {
     receive: EventNo,
     row: usize,
 }
 
-/// How many events a line has.
+/// The number of events of a line.
 pub(crate) fn len_of(lines: &[Line], line: usize) -> usize
     requires { line < length lines.now }
     ensures value { result ≡ length (chart_lines lines.now (suc line)) }
@@ -53,7 +53,7 @@ pub fn event_in(lines: &[Line], event: &EventNo) -> Option<Event>
     }
 }
 
-/// The next event of a line, where one is left.
+/// The next event of a line, if one is left.
 pub(crate) fn next_of(closure: &Closure<'_>, layout: &Layout, line: usize) -> Option<EventNo>
     requires limit { length closure.now ≤ MAX_INSTANCES }
     requires line { line < length closure.now }
@@ -72,7 +72,7 @@ pub(crate) fn next_of(closure: &Closure<'_>, layout: &Layout, line: usize) -> Op
     })
 }
 
-/// The receive that the next event of a line is, if its send stands above.
+/// The next event of a line, if it is a receive whose send is above.
 fn arrival_on(closure: &Closure<'_>, layout: &Layout, line: usize) -> Option<Arrival>
     requires limit { length closure.now ≤ MAX_INSTANCES }
     requires line { line < length closure.now }
@@ -92,14 +92,14 @@ fn arrival_on(closure: &Closure<'_>, layout: &Layout, line: usize) -> Option<Arr
     }
 }
 
-/// Of two arrivals the one whose send is higher: the first, where they are level.
+/// The arrival of the two whose send is higher, or the first one if they are level.
 fn higher(one: &Arrival, other: &Arrival) -> Arrival
     ensures { result ≡ (if nat_lt other.now.row one.now.row then other.now else one.now) }
 {
     if other.row < one.row { *other } else { *one }
 }
 
-/// Of what two lines have the arrival whose send is higher.
+/// The arrival of two lines whose send is higher, if they have one.
 fn highest_of(best: &Option<Arrival>, found: &Option<Arrival>) -> Option<Arrival>
     ensures { result ≡ higher best.now found.now }
 {
@@ -111,7 +111,7 @@ fn highest_of(best: &Option<Arrival>, found: &Option<Arrival>) -> Option<Arrival
     }
 }
 
-/// Of the receives that come next and whose sends stand above the one whose send is highest.
+/// The receive whose send is highest, among those that are next and whose sends are above.
 fn highest(closure: &Closure<'_>, layout: &Layout) -> Option<Arrival>
     requires limit { length closure.now ≤ MAX_INSTANCES }
     ensures { IsHighestOf (chart_lines closure.now) (length closure.now) layout.now result }
@@ -159,7 +159,7 @@ fn row_on(closure: &Closure<'_>, layout: &Layout, way: Way, line: usize) -> Opti
     }
 }
 
-/// The row that comes next in this way, by the line of the hint, or else by the first that has one.
+/// The next row in this way, on the line of the hint, or else on the first line that has one.
 fn row_by(closure: &Closure<'_>, layout: &Layout, way: Way, hint: usize) -> Option<Row>
     requires limit { length closure.now ≤ MAX_INSTANCES }
     requires hint { hint < length closure.now }
@@ -178,9 +178,9 @@ fn row_by(closure: &Closure<'_>, layout: &Layout, way: Way, hint: usize) -> Opti
     None
 }
 
-/// The row that comes next, sought from the line of the hint: of the receives whose sends stand above the one whose
-/// send is highest, or else a message of which both ends are next, or else a send. There is none only where all events
-/// have a row.
+/// The next row, with the search beginning on the line of the hint. It is the receive whose send is highest, among
+/// those whose sends are above; or else a message of which both ends are next; or else a send. There is none only if
+/// all events have a row.
 pub(crate) fn next_row(closure: &Closure<'_>, layout: &Layout, hint: usize) -> Option<Row>
     requires possible { IsPossibleChart closure.now }
     requires order { AreInOrder layout.now }

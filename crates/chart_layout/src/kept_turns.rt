@@ -1,7 +1,7 @@
-//! A law on layouts: turns that are those of a run are kept.
+//! A law of layouts: a layout keeps the turns of a run.
 //!
-//! What is promised ([`kept_turns_law`], `specs/KeptTurns/Runs`): where the turns are those of a run of the chart,
-//! the rows of its layout have its events in their order, from the top on. Nothing here runs.
+//! What is promised ([`kept_turns_law`], `specs/KeptTurns/Runs`): suppose that the turns are those of a run of the
+//! chart. Then the rows of its layout, from the top, have the events in the run's order. Nothing here runs.
 
 mod laws;
 

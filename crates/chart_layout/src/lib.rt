@@ -1,20 +1,20 @@
-//! Where the events of a chart stand in a drawing: which of them are in which row.
+//! The rows of a chart's drawing: which events are in which row.
 //!
-//! Each row of a drawing has one thing: a message whose send and receive stand side by side, or one event alone. So
-//! the usual tools set message sequence charts, and no two labels meet.
+//! Each row of a drawing has one thing: a message with its send and its receive side by side, or one event alone. The
+//! usual tools draw message sequence charts in this way, and no two labels meet.
 //!
 //! What is promised, unless an allocation is refused ([`layout`]):
 //!
-//! - Each event of the chart is in one row, and nothing else is. Along each line they go down in their order.
-//! - The ends of a message in one row belong together. A receive alone stands lower than its send, so no receive is
-//!   higher than its send.
-//! - The rows come in the order of a run, if the caller has one: each event of it has a row, and a receive that
-//!   comes right behind its send is in the send's row. Else they are picked from the top on: a receive whose send
-//!   has its row comes first, then a level message, then a send alone.
-//! - Nothing of this leaves a choice: a chart has one layout for its turns ([`one_layout_law`]).
-//! - Of each event it is told which row has it, in constant time ([`Layout::row_of`]).
+//! - Each event of the chart is in one row, and nothing else is. The events of each line go down in their order.
+//! - The ends of a message in one row belong together. A receive alone is lower than its send, so no receive is higher
+//!   than its send.
+//! - The rows come in the order of a run, if the caller has one: each event of the run has a row, and a receive that
+//!   comes directly after its send is in the send's row. Otherwise they are picked from the top down: first a receive
+//!   whose send has its row, then a level message, then a send alone.
+//! - This leaves no choice: a chart has one layout for its turns ([`one_layout_law`]).
+//! - The row of each event is found in constant time ([`Layout::row_of`]).
 //!
-//! [`kept_turns`] has the law that turns are kept, and [`margin`] what stands beside the rows.
+//! [`kept_turns`] has the law that turns are kept. [`margin`] has the notes beside the rows.
 #![tactic(auto)]
 
 mod drawing;

@@ -11,7 +11,7 @@ use chart::{EventNo, InstanceNo, MAX_INSTANCES};
 use std::alloc::{AllocError, Global};
 use std::marker::Model;
 
-/// The numbers of rows, from 0, of one instance's events in their order. A contract sees the list.
+/// The row numbers, from 0, of one instance's events, in order. A contract sees the list.
 #[derive(Drop)]
 struct LineRows {
     numbers: Vec<usize>,
@@ -35,14 +35,14 @@ impl LineRows {
         }
     }
 
-    /// How many events have a row.
+    /// The number of events that have a row.
     fn len(&self) -> usize
         ensures { result ≡ length self.now }
     {
         self.numbers.len()
     }
 
-    /// The row of the event of this number.
+    /// The row of the event with this number.
     fn row_of(&self, number: u32) -> Option<usize>
         ensures { result ≡ ith self.now number }
     {
@@ -61,7 +61,7 @@ impl LineRows {
     }
 }
 
-/// Adds the row of an event, which is the next of its instance's.
+/// Adds the row of an event, which is the next of its instance.
 fn put(lines: &mut [LineRows], event: &EventNo, number: usize) -> Result<(), AllocError>
     requires { length lines.old ≡ MAX_INSTANCES }
     ensures { OnOk result (IsPut event.now number lines.old lines.new) }
@@ -69,7 +69,7 @@ fn put(lines: &mut [LineRows], event: &EventNo, number: usize) -> Result<(), All
     lines[event.instance.place()].push(number)
 }
 
-/// Adds the row of its events, each the next of its instance's.
+/// Adds the row of its events, each the next of its instance.
 fn put_row(lines: &mut [LineRows], row: &Row, number: usize) -> Result<(), AllocError>
     requires { length lines.old ≡ MAX_INSTANCES }
     ensures { OnOk result (ArePut row.now number lines.old lines.new) }
@@ -87,7 +87,7 @@ fn put_row(lines: &mut [LineRows], row: &Row, number: usize) -> Result<(), Alloc
 #[derive(Drop)]
 pub struct Layout {
     rows: Vec<Row>,
-    /// For each instance that there may be.
+    /// For each possible instance.
     lines: Vec<LineRows>,
 }
 
@@ -106,7 +106,7 @@ impl Model for Layout {
 impl Layout {
     /// No rows.
     ///
-    /// F6: it fails only where there is no memory.
+    /// F6: it fails only if there is no memory.
     pub(crate) fn none(alloc: Global) -> Result<Layout, AllocError>
         ensures { IfOk result (λ layout. layout ≡ []) }
     {
@@ -120,16 +120,16 @@ impl Layout {
         })
     }
 
-    /// How many events of an instance have a row.
+    /// The number of events of an instance that have a row.
     pub(crate) fn laid_out(&self, instance: InstanceNo) -> usize
         ensures { result ≡ length (laid_out self.now instance) }
     {
         self.lines[instance.place()].len()
     }
 
-    /// The same with a row more at the bottom, whose events are the next of their instances.
+    /// The layout with one more row at the bottom, whose events are the next of their instances.
     ///
-    /// F6: it fails only where there is no memory.
+    /// F6: it fails only if there is no memory.
     pub(crate) fn with(self, row: Row) -> Result<Layout, AllocError>
         requires { AreNext self row }
         ensures { IfOk result (λ layout. layout ≡ self ++ row ∷ []) }
@@ -150,8 +150,8 @@ impl Layout {
         self.rows.as_slice()
     }
 
-    /// The number of the row that has an event, from 0. There is none exactly where no row has it: it is no event of
-    /// the chart.
+    /// The number, from 0, of the row that has an event. There is none exactly if no row has the event: the chart
+    /// doesn't have it.
     pub fn row_of(&self, event: &EventNo) -> Option<usize>
         ensures { result ≡ row_of self.now (place_of event.now) }
     {

@@ -1,4 +1,4 @@
-//! Which row comes next, where a run says whose turn it is.
+//! The next row, if a run says whose turn it is.
 ghost use Rattle.std.specs.Prelude.{ℕ, ◌≡◌, ◌<◌, ◌≤◌, suc, length, drop, None, MatchOption};
 ghost use Rattle.chart.specs.declared.instance.EventNo.{EventNo};
 ghost use Rattle.chart.specs.declared.instance.TheConstants.{MAX_INSTANCES};
@@ -17,7 +17,7 @@ use crate::rows::Layout;
 use chart::{EventNo, InstanceNo};
 use closure::Closure;
 
-/// The event that comes next by the first of the turns.
+/// The next event, by the first of the turns.
 fn next_by(closure: &Closure<'_>, layout: &Layout, turns: &[InstanceNo]) -> Option<EventNo>
     requires limit { length closure.now ≤ MAX_INSTANCES }
     ensures { MatchOption result
@@ -32,14 +32,14 @@ fn next_by(closure: &Closure<'_>, layout: &Layout, turns: &[InstanceNo]) -> Opti
     }
 }
 
-/// Whether it is the other event.
+/// Whether the events are the same.
 fn is_same(event: &EventNo, other: &EventNo) -> bool
     ensures { result ≡ is_at (place_of other.now) event.now }
 {
     event.instance == other.instance && event.index == other.index
 }
 
-/// The row of a send that comes next: with its receive, where that comes next by the turns behind it.
+/// The row of a send that is next: with its receive, if that is next by the turns after it.
 fn send_row(closure: &Closure<'_>, layout: &Layout, send: &EventNo, behind: &[InstanceNo]) -> Row
     requires limit { length closure.now ≤ MAX_INSTANCES }
     requires next { IsNextEvent (chart_lines closure.now) layout.now (place_of send.now) }
@@ -60,7 +60,7 @@ fn send_row(closure: &Closure<'_>, layout: &Layout, send: &EventNo, behind: &[In
     }
 }
 
-/// The turns behind the first one.
+/// The turns after the first one.
 fn behind(turns: &[InstanceNo]) -> &[InstanceNo]
     ensures { result.now ≡ later turns.now }
 {
@@ -70,7 +70,7 @@ fn behind(turns: &[InstanceNo]) -> &[InstanceNo]
     }
 }
 
-/// The row of the first turns, where they have one.
+/// The row of the first turns, if they have one.
 fn row_of_turns(closure: &Closure<'_>, layout: &Layout, turns: &[InstanceNo]) -> Option<Row>
     requires limit { length closure.now ≤ MAX_INSTANCES }
     ensures { MatchOption result ((x : Row) → IsTurn (chart_lines closure.now) layout.now turns.now x → ⊥)
@@ -88,8 +88,7 @@ fn row_of_turns(closure: &Closure<'_>, layout: &Layout, turns: &[InstanceNo]) ->
     }
 }
 
-/// The row that comes next: that of the turns, or else the one that is picked. There is none only where all events have
-/// a row.
+/// The next row: that of the turns, or else the one that is picked. There is none only if all events have a row.
 pub(crate) fn row_below(
     closure: &Closure<'_>,
     layout: &Layout,
@@ -109,7 +108,7 @@ pub(crate) fn row_below(
     }
 }
 
-/// The turns that are left when each event of a row had one.
+/// The turns that are left after each event of a row had one.
 pub(crate) fn turns_below<'a>(turns: &'a [InstanceNo], row: &Row) -> &'a [InstanceNo]
     ensures { result.now ≡ drop (length (actors_of row.now)) turns.now }
 {

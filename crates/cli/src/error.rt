@@ -1,4 +1,4 @@
-//! Why a command line asks for nothing.
+//! Why a command line makes no request.
 ghost use Rattle.std.specs.Prelude.{◌≡◌, ◌↔◌, ◌⊎◌};
 ghost use Rattle.clap.specs.Words.{kind_of};
 
@@ -6,16 +6,16 @@ use clap::Error;
 use clap::error::ErrorKind;
 use std::alloc::AllocError;
 
-/// Why a command line asks for nothing.
+/// Why a command line makes no request.
 #[derive(Clone, Copy, Debug, PartialEq, Eq)]
 pub enum CommandLineError {
-    /// It is none that the program understands: G1.
+    /// G1: the program doesn't understand the command line.
     Usage,
-    /// A growth was refused: F6.
+    /// F6: a growth was refused.
     Memory,
 }
 
-/// A command line that doesn't parse is a mistake, but where memory ran out.
+/// The error of a command line that `clap` doesn't parse: a usage mistake, unless memory ran out.
 fn fault(error: &Error) -> CommandLineError
     ensures memory { (result ≡ CommandLineError.Memory) ↔ (kind_of error.now ≡ ErrorKind.OutOfMemory) }
     ensures usage { (result ≡ CommandLineError.Usage) ⊎ (result ≡ CommandLineError.Memory) }

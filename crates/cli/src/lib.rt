@@ -1,6 +1,7 @@
 //! The command line of `mscrun`: which command is asked for, and with which words.
 //!
-//! It is a crate of its own because it stands on `clap` alone: it is proved beside the crates that do the work.
+//! It is a crate of its own because it depends only on `clap`. So it is proved in parallel with the crates that do the
+//! work.
 //!
 //! [`view`] is the command line of `mscview`.
 #![tactic(auto)]

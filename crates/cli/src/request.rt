@@ -1,20 +1,20 @@
-//! What a command line asks for.
+//! The request of a command line.
 use crate::error::CommandLineError;
 use crate::words::{Word, program_of};
 use clap::ArgMatches;
 use std::alloc::Global;
 use std::convert::AsStr;
 
-/// What a command line asks for.
+/// The request of a command line.
 #[derive(Clone, Copy, Debug, PartialEq, Eq)]
 pub enum Request<'a> {
     /// `replay FILE`.
     Replay { file: &'a str },
-    /// `random FILE --seed N`, whose seed is a word still.
+    /// `random FILE --seed N`. The seed is still a word.
     Random { file: &'a str, seed: &'a str },
     /// `check FILE`.
     Check { file: &'a str },
-    /// `threads FILE --turns N`, whose number is a word still.
+    /// `threads FILE --turns N`. The number is still a word.
     Threads { file: &'a str, turns: &'a str },
 }
 
@@ -29,7 +29,7 @@ const COMMANDS: [(&str, &[&[Word]]); 4] = [
     ("threads", &[FILE, &[Word::NeededOption("turns")]]),
 ];
 
-/// What a command's words ask for.
+/// The request of a command's words.
 fn request_of<'a>(command: &str, words: &ArgMatches<'a>) -> Option<Request<'a>> {
     let file = words.get_str("FILE")?;
     match command {
@@ -47,7 +47,7 @@ fn request_of<'a>(command: &str, words: &ArgMatches<'a>) -> Option<Request<'a>> 
     }
 }
 
-/// What these words ask for, of which the first is the program's name.
+/// The request of these words, of which the first is the program's name.
 ///
 /// G1: they aren't a command line that the program understands. F6: a growth was refused.
 pub fn requested<'a, S: AsStr>(

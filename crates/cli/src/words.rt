@@ -1,19 +1,19 @@
-//! Commands as tables of the words that go with them.
+//! Commands as tables of their words.
 use clap::{Arg, ArgAction, Command};
 use std::alloc::{AllocError, Global};
 
-/// A word that goes with a command, by its name.
+/// A word of a command, by its name.
 #[derive(Clone, Copy)]
 pub enum Word {
-    /// It has to be there.
+    /// A required word.
     Needed(&'static str),
-    /// It may be left out.
+    /// An optional word.
     Free(&'static str),
-    /// Any number of words, which are the last ones.
+    /// Any number of words, at the end.
     Rest(&'static str),
-    /// An option with so many words behind it.
+    /// An option with this number of words after it.
     Option(&'static str, usize),
-    /// An option with a word, which has to be there.
+    /// A required option with a word.
     NeededOption(&'static str),
     /// An option with a word, which may be given several times.
     Repeated(&'static str),
@@ -42,7 +42,7 @@ fn arg_of<'a>(alloc: Global, word: Word) -> Arg<'a> {
     }
 }
 
-/// The command with these words more.
+/// The command with these additional words.
 fn with_words<'a>(
     alloc: Global,
     mut command: Command<'a>,
@@ -67,7 +67,8 @@ fn command_of<'a>(
     Ok(command)
 }
 
-/// A program of this name with these commands, of which one has to be given. Each has the words of all of its lists.
+/// A program of this name with these commands, one of which is required. Each command has the words of all of its
+/// lists.
 ///
 /// F6: a growth was refused.
 pub fn program_of<'a>(

@@ -21,7 +21,7 @@ pub record IsDiffUpTo (base clock : List ℕ) (n : ℕ) (diff : List Change) : T
 lower : (n m : ℕ) (diff : List Change) → n ≤ m → All (λ change. change.instance ≤ n) diff → All (λ change. change.instance ≤ m) diff
 lower n m diff le below k d within = let here : (get_or diff k d).instance ≤ n = below k d within in omega arith
 
--- the changes up to now are of instances below the next one
+-- the changes so far are of instances below the next one
 below_next : (n : ℕ) (diff : List Change) → All (λ change. change.instance ≤ n) diff → All (λ p. p < suc n) (map (λ change. change.instance) diff)
 below_next n diff below = All-map (λ p. p < suc n) (λ change. change.instance) diff (λ k d within. let here : (get_or diff k d).instance ≤ n = below k d within in omega arith)
 
@@ -41,11 +41,11 @@ pub apply_diff-push : (clock : List ℕ) (diff : List Change) (change : Change) 
 apply_diff-push clock [] change = refl
 apply_diff-push clock (first ∷ rest) change = apply_diff-push (with_entry clock first.instance first.entry) rest change
 
--- what clock and base give where they meet, one more entry on
+-- the clock's first entries and the base's others, with one more entry of the clock
 seam_more : (base clock : List ℕ) (n : ℕ) → n < length clock → take (n + 1) clock ++ drop (n + 1) base ≡ take n clock ++ get_or clock n 0 ∷ drop (n + 1) base
 seam_more base clock n within = rw (take_more clock n 0 within) (append_assoc (take n clock) (get_or clock n 0 ∷ []) (drop (n + 1) base))
 
--- an instance past the first n is the next one, or past that
+-- an instance up to n + 1 is among the first n, or is the next one
 next_or_low : (n p : ℕ) → p ≤ n + 1 → (p ≤ n) ⊎ (p ≡ suc n)
 next_or_low n p low = elim (cases_lt n p) [ inl above ↦ inr (omega arith) | inr within ↦ inl within ]
 
@@ -78,7 +78,7 @@ up_to_four base clock n diff within same first second third fourth h =
     let at_3 : IsDiffUpTo base clock (n + 3) diff = subst (λ m. IsDiffUpTo base clock m diff) three (up_to_same base clock (n + 2) diff (omega arith) same third at_2) in
     subst (λ m. IsDiffUpTo base clock m diff) four (up_to_same base clock (n + 3) diff (omega arith) same fourth at_3)
 
--- a number above the others is put last
+-- a number above the others goes last
 rising_push : (xs : List ℕ) (x : ℕ) → IsStrictlyIncreasing xs → All (λ y. y < x) xs → IsStrictlyIncreasing (xs ++ x ∷ [])
 rising_push xs x rising above k within = elim (cases_lt (k + 1) (length xs)) [
   | inl inside ↦ rw (get_or_append_left xs (x ∷ []) 0 k (omega arith), get_or_append_left xs (x ∷ []) 0 (k + 1) inside) (rising k inside)
@@ -92,7 +92,7 @@ same_change : (change : Change) (p x : ℕ) → p ≡ change.instance → x ≡ 
 same_change change p x same_instance same_entry =
     ap (λ i. record { instance = i; entry = x }) same_instance ∙ ap (λ e. record { instance = change.instance; entry = e }) same_entry
 
--- what the changes up to now and the next one make of base
+-- the base after the changes so far and the next one
 applied_more : (base clock : List ℕ) (n x : ℕ) (clock' : List ℕ) → n < length clock → length clock ≡ length base → x ≡ get_or clock n 0
     → clock' ≡ take n clock ++ drop n base → set clock' n x ≡ take (n + 1) clock ++ drop (n + 1) base
 applied_more base clock n x clock' within same entry applied =
@@ -102,7 +102,7 @@ applied_more base clock n x clock' within same entry applied =
     ∙ ap (λ e. take n clock ++ e ∷ drop (n + 1) base) entry
     ∙ sym (seam_more base clock n within)
 
--- the next instance has another entry
+-- the next instance has different entries
 pub up_to_change : (base clock : List ℕ) (n x : ℕ) (diff : List Change) → n < length clock → length clock ≡ length base
     → x ≡ get_or clock n 0 → x ≢ get_or base n 0 → IsDiffUpTo base clock n diff
     → IsDiffUpTo base clock (n + 1) (diff ++ record { instance = suc n; entry = x } ∷ [])
@@ -135,20 +135,20 @@ up_to_all base clock n diff same all h = record {
   exact = λ change. (h.sound change, λ is. h.complete change is (omega (arith, is.last)));
 }
 
--- they make base the clock
+-- the changes turn the base into the clock
 pub restored : (base clock : List ℕ) (n : ℕ) (diff : List Change) → length clock ≡ length base → n ≡ length clock
     → IsDiffUpTo base clock n diff → apply_diff base diff ≡ clock
 restored base clock n diff same all h =
     h.applied ∙ ap (λ rest. take n clock ++ rest) (drop_all n base (omega arith)) ∙ append-nil (take n clock) ∙ take_all n clock (omega arith)
 
--- where no entry differs but that of one instance, each change is of it
+-- if only the entry of one instance differs, each change is of this instance
 of_one : (p : ℕ) (base clock : List ℕ) (change : Change) → AgreeBut p base clock → IsChange base clock change → change.instance ≡ p
 of_one p base clock change agree is = elim (cases_eq change.instance p) [
   | inl same ↦ same
   | inr other ↦ absurd (is.differs (is.entry ∙ agree change.instance other))
 ]
 
--- and so there is one change at most
+-- so there is at most one change
 pub one_change : (p n : ℕ) (base clock : List ℕ) (diff : List Change) → AgreeBut p base clock → IsDiffUpTo base clock n diff → length diff ≤ 1
 one_change p n base clock [] agree h = omega arith
 one_change p n base clock (a ∷ []) agree h = omega arith

@@ -12,13 +12,13 @@ pub entry_of-with_entry : (clock : List ℕ) (p i : ℕ) → 1 ≤ p → p ≤ l
 entry_of-with_entry clock zero i low high = absurd (omega arith)
 entry_of-with_entry clock (suc k) i low high = get_or-set_same clock k i 0 (omega arith)
 
--- the others stay
+-- the other entries stay
 pub entry_of-with_entry_other : (clock : List ℕ) (p q i : ℕ) → (q ≡ p → ⊥) → entry_of (with_entry clock p i) q ≡ entry_of clock q
 entry_of-with_entry_other clock p zero i other = refl
 entry_of-with_entry_other clock zero (suc k) i other = refl
 entry_of-with_entry_other clock (suc j) (suc k) i other = get_or-set_other clock j k i 0 (λ e. other (ap suc e))
 
--- and so a stamp leaves the entries that agreed
+-- so a stamp leaves the entries that agreed
 pub agree_stamped : (base clock : List ℕ) (p i : ℕ) → AgreeBut p base clock → AgreeBut p base (with_entry clock p i)
 agree_stamped base clock p i agree q other = entry_of-with_entry_other clock p q i other ∙ agree q other
 
@@ -26,17 +26,17 @@ pub length-with_entry : (clock : List ℕ) (p i : ℕ) → length (with_entry cl
 length-with_entry clock zero i = refl
 length-with_entry clock (suc k) i = length-set clock k i
 
--- an entry that is set again is what it is set to last
+-- an entry that is set twice has the second value
 pub with_entry-with_entry : (clock : List ℕ) (p a b : ℕ) → with_entry (with_entry clock p a) p b ≡ with_entry clock p b
 with_entry-with_entry clock zero a b = refl
 with_entry-with_entry clock (suc k) a b = set-set clock k a b
 
--- stamped and stamped back
+-- an entry that is stamped and set back
 pub stamped_back : (clock : List ℕ) (p i entry : ℕ) → entry ≡ entry_of clock p → with_entry (with_entry clock p i) p entry ≡ clock
 stamped_back clock zero i entry same = refl
 stamped_back clock (suc k) i entry same = set-set clock k i entry ∙ ap (λ (x : ℕ). with_entry clock (suc k) x) same ∙ set-get_or clock k 0
 
--- of merged clocks each entry is the greater
+-- each entry of a merge is the greater one
 pub entry_of-merged : (ours theirs : List ℕ) (q : ℕ) → length ours ≡ length theirs → q ≤ length ours → entry_of (merged ours theirs) q ≡ max (entry_of ours q) (entry_of theirs q)
 entry_of-merged ours theirs zero same within = omega arith
 entry_of-merged ours theirs (suc k) same within = get_or-merged ours theirs k same (omega arith)
@@ -46,17 +46,17 @@ pub entry_of-zeros : (n q : ℕ) → q ≤ length {A = ℕ} (replicate n 0) → 
 entry_of-zeros n zero within = refl
 entry_of-zeros n (suc k) within = get_or-replicate n k 0 0 (omega (arith, length-replicate {A = ℕ} n 0))
 
--- changes leave the length
+-- changes don't change the length
 pub length-apply_diff : (clock : List ℕ) (diff : List Change) → length (apply_diff clock diff) ≡ length clock
 length-apply_diff clock [] = refl
 length-apply_diff clock (change ∷ rest) = length-apply_diff (with_entry clock change.instance change.entry) rest ∙ length-with_entry clock change.instance change.entry
 
--- one change more
+-- one more change
 apply_diff-more : (clock : List ℕ) (diff : List Change) (n : ℕ) (d : Change) → n < length diff
     → apply_diff clock (take (n + 1) diff) ≡ with_entry (apply_diff clock (take n diff)) (get_or diff n d).instance (get_or diff n d).entry
 apply_diff-more clock diff n d within = ap (apply_diff clock) (take_more diff n d within) ∙ apply_diff-push clock (take n diff) (get_or diff n d)
 
--- the next change is of the entry
+-- the next change is of this entry
 pub entry-changed : (clock : List ℕ) (diff : List Change) (n p : ℕ) (change d : Change) → n < length diff → change ≡ get_or diff n d → 1 ≤ p → p ≤ length clock
     → change.instance ≡ p → change.entry ≡ entry_of (apply_diff clock (take (n + 1) diff)) p
 entry-changed clock diff n p change d within same low high its =
@@ -65,7 +65,7 @@ entry-changed clock diff n p change d within same low high its =
     sym (ap (λ (x : List ℕ). entry_of x p) (apply_diff-more clock diff n d within ∙ ap (λ (c : Change). with_entry now c.instance c.entry) (sym same) ∙ ap (λ (i : ℕ). with_entry now i change.entry) its)
     ∙ entry_of-with_entry now p change.entry low (omega (arith, long)))
 
--- the next change is of another one
+-- the next change is of another entry
 pub entry-kept : (clock : List ℕ) (diff : List Change) (n p : ℕ) (change d : Change) → n < length diff → change ≡ get_or diff n d
     → change.instance ≢ p → entry_of (apply_diff clock (take n diff)) p ≡ entry_of (apply_diff clock (take (n + 1) diff)) p
 entry-kept clock diff n p change d within same other =

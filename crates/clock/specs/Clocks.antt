@@ -1,4 +1,4 @@
--- Vector time: one entry for each instance (Fidge 1988, Mattern 1989); that of instance p stands at index p - 1 (this
+-- Vector time: one entry for each instance (Fidge 1988, Mattern 1989). The entry of instance p is at index p - 1 (this
 -- project's profile).
 use Rattle.std.specs.Prelude.{ℕ, zero, suc, max, map, slice_index, slice_set}
 use Rattle.std.specs.List.{zip}
@@ -14,6 +14,6 @@ abbrev pub with_entry : Clock → Instance → ℕ → Clock
 with_entry clock zero entry = clock
 with_entry clock (suc place) entry = slice_set clock place entry
 
--- the greater of each two entries
+-- the greater of each pair of entries
 abbrev pub merged : Clock → Clock → Clock
 merged ours theirs = map (λ both. max both.0 both.1) (zip ours theirs)

@@ -12,16 +12,16 @@ use chart::{InstanceNo, MAX_INSTANCES};
 use std::alloc::{AllocError, Global};
 use std::marker::Model;
 
-/// The most changes that a [`Diff`] holds in place. With more it takes memory. So up to so many instances nothing takes
-/// memory here, and on more of them differences of more changes alone do.
+/// The most changes that a [`Diff`] has in place. With more changes it takes memory. So nothing takes memory here for
+/// up to this many instances. For more instances, only differences of more changes do.
 pub const INLINE_ENTRIES: usize = 8;
 
 const _: () = prove!(INLINE_ENTRIES == 8);
 
-/// A vector time: one entry for each of 2 to [`MAX_INSTANCES`] instances (Fidge 1988, Mattern 1989). All of them are
-/// held in place.
+/// A vector time: one entry for each of 2 to [`MAX_INSTANCES`] instances (Fidge 1988, Mattern 1989). All entries are in
+/// place.
 ///
-/// A contract sees the list of the entries, that of instance `p` at index `p - 1`.
+/// A contract sees the list of the entries. The entry of instance `p` is at index `p - 1`.
 #[derive(Debug, Drop)]
 pub struct Clock {
     entries: ArrayVec<u32, MAX_INSTANCES>,
@@ -39,9 +39,9 @@ impl Model for Clock {
 }
 
 impl Clock {
-    /// The clock of `n` instances of which no event is known.
+    /// The clock of `n` instances, none of whose events are known.
     ///
-    /// It takes no memory, however many instances there are. So F6, which its type has room for, never comes.
+    /// It takes no memory, for any number of instances. So it never returns F6, although its type allows this.
     pub fn zero(_alloc: Global, n: usize) -> Result<Clock, AllocError>
         requires at_least_two { 2 ≤ n }
         requires at_most { n ≤ MAX_INSTANCES }
@@ -54,7 +54,7 @@ impl Clock {
         Ok(Clock { entries })
     }
 
-    /// How many instances it has an entry for.
+    /// How many instances have an entry.
     #[inline(always)]
     pub fn len(&self) -> usize
         ensures value { result ≡ length self.now }
@@ -73,7 +73,7 @@ impl Clock {
         self.entries.as_slice()[p.place()]
     }
 
-    /// The entry of instance `p` that the clock would have with the difference applied. Nothing is changed.
+    /// The entry of instance `p` after the difference, if it were applied. Nothing is changed.
     #[inline(always)]
     pub fn entry_after(&self, diff: &Diff, p: InstanceNo) -> u32
         requires entry { p ≤ length self.now }
@@ -83,7 +83,7 @@ impl Clock {
         entry_after(self.entries.as_slice(), diff.changes(), p)
     }
 
-    /// Takes the greater of each two entries. It takes no memory.
+    /// Raises each entry to the other clock's, if that is greater. It takes no memory.
     #[inline(always)]
     pub fn merge(&mut self, other: &Clock)
         requires { length self.old ≡ length other.now }
@@ -95,7 +95,7 @@ impl Clock {
 
     /// A copy.
     ///
-    /// It takes no memory, however many instances there are. So F6, which its type has room for, never comes.
+    /// It takes no memory, for any number of instances. So it never returns F6, although its type allows this.
     #[inline(always)]
     pub fn copied(&self, _alloc: Global) -> Result<Clock, AllocError>
         ensures value { IfOk result (λ clock. clock ≡ self.now) }
@@ -109,9 +109,9 @@ impl Clock {
         }
     }
 
-    /// A copy whose entry for `p` is `index`, as the clock of the event of `p` with this number.
+    /// A copy whose entry for `p` is `index`: the clock of the event of `p` with this number.
     ///
-    /// It takes no memory, as [`Clock::copied`].
+    /// It takes no memory, like [`Clock::copied`].
     #[inline(always)]
     pub fn stamped(&self, alloc: Global, p: InstanceNo, index: u32) -> Result<Clock, AllocError>
         requires { p ≤ length self.now }
@@ -124,7 +124,7 @@ impl Clock {
         Ok(stamped)
     }
 
-    /// Makes the entry for `p` this one, as a stamp does, in place. It takes no memory.
+    /// Sets the entry for `p` to `index` in place. It takes no memory.
     #[inline(always)]
     pub fn stamp(&mut self, p: InstanceNo, index: u32)
         requires { p ≤ length self.old }
@@ -134,9 +134,10 @@ impl Clock {
         self.entries.as_mut_slice()[p.place()] = index;
     }
 
-    /// The entries that differ from `base`'s, rising by instance. Applied to `base` they give this clock.
+    /// The entries that differ from those of `base`, in rising order of instances. Applied to `base` they give this
+    /// clock.
     ///
-    /// F6: it fails only where there is no memory for more than [`INLINE_ENTRIES`] changes. With fewer it takes none.
+    /// F6: it fails only if there is no memory for more than [`INLINE_ENTRIES`] changes. With fewer it takes none.
     #[inline(always)]
     pub fn diff_from(&self, alloc: Global, base: &Clock) -> Result<Diff, AllocError>
         requires { length self.now ≡ length base.now }
@@ -151,11 +152,11 @@ impl Clock {
         Ok(diff)
     }
 
-    /// Makes the difference that of the entries that differ from `base`'s, as [`Clock::diff_from`] answers it, in
-    /// place. What it had is dropped, also where it is refused.
+    /// Makes `diff` the difference that [`Clock::diff_from`] returns, in place. Its old changes are dropped, even if it
+    /// is refused.
     ///
-    /// F6: it fails only where there is no memory for more than [`INLINE_ENTRIES`] changes. With fewer it takes none:
-    /// up to so many instances, and where one entry alone differs.
+    /// F6: it fails only if there is no memory for more than [`INLINE_ENTRIES`] changes. With fewer it takes none: for
+    /// up to this many instances, and if only one entry differs.
     #[inline(always)]
     pub fn diff_into(&self, base: &Clock, diff: &mut Diff) -> Result<(), AllocError>
         requires { length self.now ≡ length base.now }

@@ -11,14 +11,14 @@ use std::marker::Model;
 /// A changed entry of a clock.
 #[derive(Clone, Copy, Debug, PartialEq, Eq)]
 pub struct Change {
-    /// Whose entry it is.
+    /// The instance whose entry it is.
     pub instance: InstanceNo,
     /// The entry after the change.
     pub entry: u32,
 }
 
-/// What the unused places of a [`Diff`] hold. As a constant they are written by a few wide stores. A value that is made
-/// is written field by field, also what lies between its fields: three stores for each place.
+/// The unused places of a [`Diff`]. As a constant they are written by a few wide stores. A value made at run time would
+/// be written field by field, with the padding between its fields: three stores for each place.
 const BLANKS: [Change; INLINE_ENTRIES] = [Change {
     instance: InstanceNo::FIRST,
     entry: 0,
@@ -26,14 +26,14 @@ const BLANKS: [Change; INLINE_ENTRIES] = [Change {
 
 /// The entries of a clock that differ from another clock's. A contract sees the list of the changes.
 ///
-/// Up to [`INLINE_ENTRIES`] changes are held in place.
+/// Up to [`INLINE_ENTRIES`] changes are in place.
 #[derive(Debug, Drop)]
 pub struct Diff {
-    /// All changes, where none lies in place. Else it may have those of before.
+    /// All changes, if none is in place. Otherwise it may have old changes.
     more: Vec<Change>,
-    /// How many changes lie in place.
+    /// How many changes are in place.
     count: usize,
-    /// The changes that lie in place. Behind them are blanks, and changes of before.
+    /// The changes in place. After them come blanks, and old changes.
     few: [Change; INLINE_ENTRIES],
 }
 
@@ -63,7 +63,7 @@ impl Diff {
         }
     }
 
-    /// The changes, rising by instance.
+    /// The changes, in rising order of instances.
     #[inline(always)]
     #[tactic(auto, using(crate::proofs::PlaceLemmas::in_place))]
     pub fn changes(&self) -> &[Change]
@@ -91,7 +91,7 @@ impl Diff {
         self.len() == 0
     }
 
-    /// Makes it this change alone. What it had is dropped.
+    /// Replaces all changes by this one.
     #[inline(always)]
     pub(crate) fn become_one(&mut self, change: Change)
         ensures { self.new ≡ change ∷ [] }
@@ -100,7 +100,7 @@ impl Diff {
         self.count = 1;
     }
 
-    /// Makes it that of the entries that differ from the base's, each with its instance. What it had is dropped.
+    /// Replaces all changes by the entries that differ from the base's, each with its instance.
     #[inline(always)]
     #[tactic(auto, using(crate::proofs::PlaceLemmas::in_place))]
     pub(crate) fn find(&mut self, entries: &[u32], base: &[u32]) -> Result<(), AllocError>
@@ -125,7 +125,7 @@ impl Diff {
     }
 }
 
-/// The list's changes. Few differences have none, or more than lie in place.
+/// The changes in the list. It is cold, because few differences have no change, or more than can be in place.
 #[cold]
 #[inline(never)]
 fn all_of(more: &Vec<Change>) -> &[Change]

@@ -1,4 +1,4 @@
-//! What clocks do to their entries, as slices.
+//! Operations of clocks on their entries, as slices.
 ghost use Rattle.std.specs.Prelude.{◌≡◌, ◌≤◌, ◌+◌, ℕ, true, length, take, slice_index, All, IsSome, IfSome, OnOk};
 ghost use Rattle.clock.specs.Clocks.{entry_of, merged};
 ghost use Rattle.clock.specs.Diffs.{IsDiff, apply_diff, AgreeBut};
@@ -7,7 +7,7 @@ use crate::{Change, INLINE_ENTRIES};
 use chart::{InstanceNo, MAX_INSTANCES};
 use std::alloc::AllocError;
 
-/// Raises each entry to the other's, where that is greater.
+/// Raises each entry to the other's, if that is greater.
 #[inline(always)]
 pub(crate) fn raise(entries: &mut [u32], others: &[u32])
     requires { length entries.old ≡ length others.now }
@@ -18,8 +18,8 @@ pub(crate) fn raise(entries: &mut [u32], others: &[u32])
     }
 }
 
-/// Writes the entries that differ from the base's over the first places, each with its instance, and answers how many
-/// there are: none where they are more than the places.
+/// Writes the entries that differ from the base's into the first places, each with its instance. It returns how many
+/// there are, or `None` if there are more than places.
 #[inline(always)]
 pub(crate) fn find_few(
     entries: &[u32],
@@ -57,7 +57,7 @@ pub(crate) fn find_few(
     Some(count)
 }
 
-/// The same on larger boards: four entries at a time are passed by where none of them differs.
+/// The same for larger boards: four entries at a time are skipped if none of them differs.
 #[inline(never)]
 fn find_by_fours(entries: &[u32], base: &[u32], few: &mut [Change; INLINE_ENTRIES]) -> Option<usize>
     requires same_length { length entries.now ≡ length base.now }
@@ -93,7 +93,7 @@ fn find_by_fours(entries: &[u32], base: &[u32], few: &mut [Change; INLINE_ENTRIE
     Some(found)
 }
 
-/// Whether these four entries are the base's. All are compared, so that the compiler can do it at once.
+/// Whether these four entries are the base's. All four are compared, so that the compiler can do it in one step.
 #[inline(always)]
 fn are_four_same(entries: &[u32], base: &[u32], first: usize) -> bool
     requires same_length { length entries.now ≡ length base.now }
@@ -109,9 +109,9 @@ fn are_four_same(entries: &[u32], base: &[u32], first: usize) -> bool
         & (entries[first + 3] == base[first + 3])
 }
 
-/// Makes the list that of the entries that differ from the base's, each with its instance. What it had is dropped.
+/// Replaces the list by the entries that differ from the base's, each with its instance.
 ///
-/// F6: it fails only where there is no memory.
+/// F6: it fails only if there is no memory.
 #[cold]
 #[inline(never)]
 pub(crate) fn find_many(
@@ -150,7 +150,7 @@ pub(crate) fn set_changes(entries: &mut [u32], changes: &[Change])
     }
 }
 
-/// The entry of an instance as the changes would make it.
+/// The entry of an instance after the changes.
 #[inline(always)]
 pub(crate) fn entry_after(entries: &[u32], changes: &[Change], p: InstanceNo) -> u32
     requires entry { p ≤ length entries.now }

@@ -1,4 +1,4 @@
-//! The next clock of the same instance, as what it changes.
+//! The next clock of the same instance, as a difference.
 ghost use Rattle.std.specs.Prelude.{◌≡◌, ◌≢◌, ◌≤◌, length, All};
 ghost use Rattle.clock.specs.Clocks.{entry_of, with_entry};
 ghost use Rattle.clock.specs.Diffs.{IsDiff, apply_diff};
@@ -7,8 +7,8 @@ use crate::{Change, Clock, Diff};
 use chart::InstanceNo;
 
 impl Clock {
-    /// Makes the entry for `p` this one, which it wasn't, as [`Clock::stamp`] does, and makes the difference what this
-    /// changes: the one entry. Nothing is compared. What the difference had is dropped. It takes no memory.
+    /// Sets the entry for `p` to `index`, which it wasn't, as [`Clock::stamp`] does, and makes `diff` the difference of
+    /// this one entry. Nothing is compared. The old changes of `diff` are dropped. It takes no memory.
     #[inline(always)]
     pub fn stamp_over(&mut self, p: InstanceNo, index: u32, diff: &mut Diff)
         requires entry { p ≤ length self.old }

@@ -1,4 +1,4 @@
--- Where each of some finitely many numbers comes after another of them, one comes after itself.
+-- If each of finitely many numbers comes after another of them, one comes after itself.
 use Rattle.std.proofs.Common.{ℕ, zero, suc, ◌<◌, ◌⊎◌, inl, inr, sym, ◌∙◌, subst, arith}
 use Rattle.std.proofs.lemmas.Bool.{cases_eq}
 
@@ -6,16 +6,16 @@ use Rattle.std.proofs.lemmas.Bool.{cases_eq}
 abbrev pub HasCycle : (ℕ → ℕ → Type 0) → Type 0
 HasCycle R = (x : ℕ) × R x x
 
--- the numbers below n that are left
+-- the numbers of U below n
 abbrev Below : (ℕ → Type 0) → ℕ → ℕ → Type 0
 Below U n x = U x × (x < n)
 
--- one that is in U comes before x, or there is a cycle
+-- a number of U comes before x, or there is a cycle
 abbrev IsAfter : (ℕ → Type 0) → (ℕ → ℕ → Type 0) → ℕ → Type 0
 IsAfter U R x = ((y : ℕ) × U y × R y x) ⊎ HasCycle R
 
 module _ (R : ℕ → ℕ → Type 0) (trans : (a b d : ℕ) → R a b → R b d → R a d) where
-  -- without the last number, by a way round it
+  -- the same without the last number, by a way around it
   round_last : (U : ℕ → Type 0) (n : ℕ) → ((x : ℕ) → U x → x < suc n) → ((x : ℕ) → U x → IsAfter U R x) → (x : ℕ) → U x → IsAfter (Below U n) R x
   round_last U n bound after x u =
       elim (after x u) [
@@ -35,7 +35,7 @@ module _ (R : ℕ → ℕ → Type 0) (trans : (a b d : ℕ) → R a b → R b d
             ]
       ]
 
-  -- where each number of U comes after one of U, there is a cycle
+  -- if each number of U comes after one of U, there is a cycle
   pub cycle : (n : ℕ) (U : ℕ → Type 0) → ((x : ℕ) → U x → x < n) → ((x : ℕ) → U x → IsAfter U R x) → (x : ℕ) → U x → HasCycle R
   cycle zero U bound after x u = let b = bound x u in absurd (omega arith)
   cycle (suc n) U bound after x u =

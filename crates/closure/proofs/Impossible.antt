@@ -1,4 +1,4 @@
--- What is refused is not possible.
+-- A refused chart is not possible.
 use Rattle.std.proofs.Common.{◌≡◌, ℕ, ◌⊎◌, inl, inr, refl, sym, subst}
 use Rattle.std.proofs.Math.Path.{fun_ext}
 use Rattle.chart.specs.Charts.{Chart, Place, HasNoSend, HasOtherName, IsPossible}
@@ -19,7 +19,7 @@ module _ (n : ℕ) (c : Chart) (possible : IsPossible n c) where
   has_names : (r : Place) → HasOtherName c r → ⊥
   has_names r other = none_of_other_name n possible.1 possible.0 possible.2 r (subst (λ d. HasOtherName d r) (sym (fun_ext possible.3)) other)
 
--- a refusal but that of memory says that the chart is not possible
+-- any refusal except that of memory states that the chart is not possible
 pub impossible : (n : ℕ) (c : Chart) (e : ChartError) → Refuses c e → (e ≡ Memory) ⊎ (IsPossible n c → ⊥)
 impossible n c (ReceiveWithoutSend r) (none, first) = inr (λ possible. has_sends n c possible _ none)
 impossible n c (NameMismatch r) (other, first) = inr (λ possible. has_names n c possible _ other)

@@ -19,7 +19,7 @@ IsSearchAfter-none c n p k i le sends = IsSearch-none c n (at (suc p) (suc i))
 pub IsSearchAfter-reached : (c : Chart) (n p k : ℕ) (fronts seen : List ℕ) → IsSearch c n (at (suc p) (suc k)) fronts seen → IsSearchAfter c n p (suc k) fronts seen
 IsSearchAfter-reached c n p k fronts seen search i le sends = IsSearch-later c n (at (suc p) (suc k)) (at (suc p) (suc i)) fronts seen (record { line = refl; begun = omega arith; less = omega arith }) sends search
 
--- one for the sends from here on serves those further on
+-- a search for the sends from here on serves those further on
 pub IsSearchAfter-more : (c : Chart) (n p k : ℕ) (fronts seen : List ℕ) → IsSearchAfter c n p k fronts seen → IsSearchAfter c n p (suc k) fronts seen
 IsSearchAfter-more c n p k fronts seen search i le sends = search i (omega arith) sends
 
@@ -32,7 +32,7 @@ pub IsKnowledge-from_reached : (c : Chart) (n : ℕ) (s : Place) (fronts seen : 
 IsKnowledge-from_reached c n s fronts seen q k sends search reached is x to_x =
     subst (λ y. IsKnown c s y k) (one_receiver c (suc q) x s sends to_x) (subst (λ y. IsKnown c s (suc q) y) (sym is) (IsKnown-from_reached c n s fronts seen (suc q) search reached))
 
--- a receive knows anything
+-- any number is right for a receive
 pub IsKnowledge-receive : (c : Chart) (s r : Place) (k : ℕ) → BelongsTo c s r → IsKnowledge c r k
 IsKnowledge-receive c s r k belongs q sends = absurd (not_both c q s.instance r sends belongs.received)
 

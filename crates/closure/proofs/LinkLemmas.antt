@@ -1,4 +1,4 @@
--- How the sends of a lane are passed, and what events with partners are.
+-- How the sends of a lane are passed, and what holds of events with partners.
 use Rattle.std.proofs.Common.{◌≡◌, ◌≢◌, ℕ, zero, suc, ◌+◌, ◌<◌, ◌≤◌, inl, inr, Bool, true, false, List, [], length, get_or, set, count_by, Some, refl, sym, ap, ◌∙◌, subst, arith, add-one, eq-eqb, ne_eqb, ◌==◌}
 use Rattle.std.proofs.lemmas.Bool.{cases_eq, false≢true}
 use Rattle.std.proofs.lemmas.Option.{same_Some, slice_get_read}
@@ -35,7 +35,7 @@ tally_pass test xs i passes =
       | inr w ↦ w.1
     ]
 
--- another leaves it as it is
+-- any other event leaves it as it is
 pub tally_skip : (test : Event → Bool) (xs : List Event) (i : ℕ) (m : Event) → ith xs (suc i) ≡ Some m → test m ≡ false → tally test xs (suc i) ≡ tally test xs i
 tally_skip test xs i m at_i fails =
     elim (tally_cases test xs i) [
@@ -43,7 +43,7 @@ tally_skip test xs i m at_i fails =
       | inr w ↦ absurd (false≢true (sym fails ∙ subst (λ x. test x ≡ true) (same_Some w.0.0 m (sym w.0.1 ∙ at_i)) w.0.2))
     ]
 
--- the next send is found where the first one after those that were passed stands
+-- the first send after the passed events is the next send
 pub IsNextSend-at : (line : List Event) (q passed i : ℕ) (m : Event) → i < length line → m ≡ get_or line i m → is_send_to q m ≡ true → tally (is_send_to q) line i ≡ tally (is_send_to q) line passed → IsNextSend line q passed (i + 1)
 IsNextSend-at line q passed i m within is sends turn =
     let at_i = slice_get_read line (length line) i m refl within is in
@@ -55,7 +55,7 @@ IsNextSend-at line q passed i m within is sends turn =
     })
 
 module _ (c : Chart) (n p k : ℕ) (passed : List ℕ) (has : HasPassed c n p k passed) where
-  -- a send leaves what is passed as it is
+  -- a send leaves the passed events as they are
   pub HasPassed-send : (to : ℕ) (name : List ℕ) → chart_event c (at (suc p) (suc k)) ≡ Some (Send to name) → HasPassed c n p (suc k) passed
   HasPassed-send to name is = record {
     same = has.same;
@@ -68,7 +68,7 @@ module _ (c : Chart) (n p k : ℕ) (passed : List ℕ) (has : HasPassed c n p k 
     pub received : IsReceiveFrom c (suc q) (at (suc p) (suc k))
     received = (Receive from name region, is, eq-eqb from (suc q) by)
 
-    -- where no send is left, it has none
+    -- if no send is left, it has none
     pub none_left : count_by (is_send_to (suc p)) (c (suc q)) ≡ tally (is_send_to (suc p)) (c (suc q)) (slice_index passed q) → HasNoSend c (at (suc p) (suc k))
     none_left none =
         let turn = has.turn q sender in
@@ -83,7 +83,7 @@ module _ (c : Chart) (n p k : ℕ) (passed : List ℕ) (has : HasPassed c n p k 
       turn = next.turn ∙ ap (λ x. x + 1) (has.turn q sender) ∙ sym (tally_pass (is_receive_from (suc q)) (c (suc p)) k received);
     }
 
-    -- which is passed then
+    -- the next send is then passed
     pub HasPassed-receive : (j : ℕ) → IsNextSend (c (suc q)) (suc p) (slice_index passed q) j → HasPassed c n p (suc k) (set passed q j)
     HasPassed-receive j next =
         let inside : q < length passed = rw has.same sender in
@@ -108,7 +108,7 @@ module _ (c : Chart) (n p k : ℕ) (passed : List ℕ) (has : HasPassed c n p k 
 pub HasSameName-from_events : (c : Chart) (s r : Place) (a b : Event) → chart_event c s ≡ Some a → chart_event c r ≡ Some b → name_of a ≡ name_of b → HasSameName c s r
 HasSameName-from_events c s r a b at_s at_r same v w at_v at_w = ap name_of (same_Some v a (sym at_v ∙ at_s)) ∙ same ∙ ap name_of (same_Some b w (sym at_r ∙ at_w))
 
--- what has a partner is not faulty
+-- an event with a partner is not faulty
 pub not_faulty : (lines : List LineView) (r : Place) (partner : Partner) → IsPartner lines r partner → IsFaulty (chart_lines lines) r → ⊥
 not_faulty lines r (Receiver line) (within, sends) (inl (q, from, fewer)) = not_both (chart_lines lines) (suc line) q r sends from
 not_faulty lines r (Receiver line) (within, sends) (inr (s, a, b, belongs, at_s, at_r, differs)) = not_both (chart_lines lines) (suc line) s.instance r sends belongs.received
@@ -122,7 +122,7 @@ not_faulty lines r (Sender line index) (within, belongs, named) (inr (s, a, b, i
     let same = same_send (chart_lines lines) (at (suc line) index) s r belongs its in
     differs (named a b (subst (λ x. chart_event (chart_lines lines) x ≡ Some a) (sym same) at_s) at_r)
 
--- what is faulty is an event
+-- a faulty receive is an event
 pub faulty_event : (c : Chart) (r : Place) → IsFaulty c r → IsEvent c r
 faulty_event c r (inl (q, from, fewer)) = IsEvent-from_passes c (is_receive_from q) r from
 faulty_event c r (inr (s, a, b, belongs, at_s, at_r, differs)) = IsEvent-from_passes c (is_receive_from s.instance) r belongs.received
@@ -171,7 +171,7 @@ IsNextSend-same line other q r passed gone j a b d next = subst (λ x. IsNextSen
 pub no_more : (line other : List Event) (q r passed gone : ℕ) → line ≡ other → q ≡ r → passed ≡ gone → count_by (is_send_to q) line ≡ tally (is_send_to q) line passed → count_by (is_send_to r) other ≡ tally (is_send_to r) other gone
 no_more line other q r passed gone a b d e = subst (λ x. count_by (is_send_to r) x ≡ tally (is_send_to r) x gone) a (subst (λ x. count_by (is_send_to x) line ≡ tally (is_send_to x) line gone) b (subst (λ x. count_by (is_send_to q) line ≡ tally (is_send_to q) line x) d e))
 
--- where all events have partners, none is faulty
+-- if all events have partners, none is faulty
 pub none_faulty : (lines : List LineView) (rows : List (List Partner)) → AreRows (IsPartner lines) (chart_lines lines) (length lines) rows → (r : Place) → IsFaulty (chart_lines lines) r → ⊥
 none_faulty lines rows are r faulty =
     let w = instance_within lines r (faulty_event (chart_lines lines) r faulty) in

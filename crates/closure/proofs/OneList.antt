@@ -1,4 +1,4 @@
--- A chart has one list of reports.
+-- A chart has only one list of reports.
 use Rattle.std.proofs.Common.{◌≡◌, ◌⊎◌, inl, inr, List, length, sym, ap, ◌∙◌}
 use Rattle.std.specs.Prelude.{slice_get}
 use Rattle.chart.specs.Charts.{LineView, IsPossible, chart_lines}
@@ -10,11 +10,11 @@ use Rattle.closure.specs.declared.error.AuditError.TheVariants.{Chart as OfChart
 use Rattle.closure.specs.Audits.{RefusesReports}
 use Rattle.closure.proofs.Impossible.{impossible}
 
--- a chart has one list of reports
+-- a chart has only one list of reports
 pub one_list : (lines : List LineView) (xs ys : List ReportView) → AreReports lines xs → AreReports lines ys → xs ≡ ys
 one_list lines xs ys a b = same_reports (chart_lines lines) xs ys (a.are.receives ∙ sym b.are.receives) a.are.each b.are.each
 
--- so what is refused, but for memory, is not the list of a possible chart
+-- so a list that is refused, except for memory, is not the list of a possible chart
 pub refused_rightly : (lines : List LineView) (given : List ReportView) (e : AuditError) → RefusesReports lines given e → (e ≡ OfChart Memory) ⊎ (IsPossible (length lines) (chart_lines lines) → AreReports lines given → ⊥)
 refused_rightly lines given (OfChart e) refuses =
     elim (impossible (length lines) (chart_lines lines) e refuses) [

@@ -1,4 +1,4 @@
--- Reads of lines, and what stands at their places.
+-- Reads of lines, and the events at their places.
 use Rattle.std.proofs.Common.{◌≡◌, ◌≢◌, ℕ, zero, suc, ◌+◌, ◌-◌, ◌<◌, ◌≤◌, inl, inr, List, [], ◌∷◌, ◌++◌, length, take, get_or, Some, refl, sym, ap, ◌∙◌, subst, arith}
 use Rattle.std.proofs.lemmas.Bool.{cases_lt}
 use Rattle.std.specs.Prelude.{slice_get}
@@ -11,7 +11,7 @@ use Rattle.chart.specs.Charts.{Place, at, chart_event, LineView, IsLine, IsChart
 use Rattle.chart.specs.Places.{IsEvent}
 use Rattle.chart.proofs.Tally.{ith_within}
 
--- what was read before an index stands at it
+-- the element that was read at an index less one is at this index
 pub ith_read : {X : Type 0} (xs : List X) (j : ℕ) (x : X) → 1 ≤ j → j ≤ length xs → x ≡ get_or xs (j - 1) x → ith xs j ≡ Some x
 ith_read xs zero x low high is = absurd (omega arith)
 ith_read xs (suc i) x low high is =
@@ -49,7 +49,7 @@ partner_within lines p k m chart within at_k =
     let bound = (ith_within l.events (suc k) m at_k).1 in
     subst (λ x. partner_of x ≤ length lines) (get_or_from_slice_get l.events k m m at_k) (chart.partners p (record { instance = suc p; events = [] }) within k m (omega arith))
 
--- and it is another one
+-- and it is another instance
 pub partner_other : (lines : List LineView) (p k : ℕ) (m : Event) → IsChart lines → p < length lines → chart_event (chart_lines lines) (at (suc p) (suc k)) ≡ Some m → partner_of m ≢ suc p
 partner_other lines p k m chart within at_k same =
     let d : LineView = record { instance = suc p; events = [] } in

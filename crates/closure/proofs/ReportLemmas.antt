@@ -31,7 +31,7 @@ module _ (lines : List LineView) where
   abbrev c : Chart
   c = chart_lines lines
 
-  -- the receives of the first lines and of a further one
+  -- the receives of the first lines, and of one more
   receives_with : (p : ℕ) (l : LineView) → flat_map receives_of (take p lines ++ l ∷ []) ≡ flat_map receives_of (take p lines) ++ receives_of l
   receives_with p l = sym (flat_map_more receives_of [] (take p lines) l)
 
@@ -84,7 +84,7 @@ module _ (lines : List LineView) where
       whole : line_front c (suc p) k ≡ get_or lines p none
       whole = ap₂ (λ (i : ℕ) (xs : List Event). record { instance = i; events = xs }) (sym (numbered p (get_or lines p none) (slice_get-get_or lines p none within))) (take_all k (c (suc p)) (omega (arith, e)))
 
-  -- after the last line all are there
+  -- after the last line there are all reports
   pub AreReports-from_lines : (p : ℕ) (reports : List ReportView) → p ≡ length lines → HaveReported lines p 0 reports → AreReports lines reports
   AreReports-from_lines p reports e old = record {
     are = record {

@@ -30,6 +30,6 @@ AreRows-push IsRight c n rows row old new = record {
     row_before : (p : ℕ) → p < length rows → get_or (rows ++ row ∷ []) p [] ≡ get_or rows p []
     row_before p h = get_or_from_slice_get (rows ++ row ∷ []) p (get_or rows p []) [] (slice_get-append rows (row ∷ []) p h ∙ slice_get-get_or rows p [] h)
 
--- what was read of a table is right
+-- a value that was read from a table is right
 pub AreRows-at : {X : Type 0} → (IsRight : Place → X → Type 0) (c : Chart) (n : ℕ) (rows : List (List X)) (p k : ℕ) (x : X) → AreRows IsRight c n rows → p < n → value_at rows p k ≡ Some x → IsRight (at (suc p) (suc k)) x
 AreRows-at IsRight c n rows p k x are within is = (are.each p within).right k x is

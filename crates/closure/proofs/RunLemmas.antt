@@ -1,4 +1,4 @@
--- The events that were made are those of a legal history; where no more can be made, the order has a cycle.
+-- The events that were made are those of a legal history; if no more can be made, the order has a cycle.
 use Rattle.std.proofs.Common.{◌≡◌, ◌≢◌, ℕ, zero, suc, ◌+◌, ◌-◌, ◌<◌, ◌≤◌, ◌⊎◌, inl, inr, Bool, true, false, List, [], ◌∷◌, ◌++◌, length, set, take, drop, count_by, Some, refl, sym, ap, ap₂, ◌∙◌, subst, arith, eqb-true, take_all, take-append-drop, length-take, replicate}
 use Rattle.std.specs.Prelude.{slice_index, MatchBool}
 use Rattle.std.proofs.lemmas.Bool.{cases_lt, cases_eq, false≢true}
@@ -28,7 +28,7 @@ use Rattle.closure.proofs.ReadLemmas.{empty_line, front_next, line_short, partne
 use Rattle.closure.proofs.LinkLemmas.{tally_pass}
 use Rattle.closure.proofs.Cycles.{cycle, HasCycle}
 
--- a legal history with no close has made so many events of each line
+-- a legal history without closes made these events of each line
 pub record IsMade (n : ℕ) (c : Chart) (made : List ℕ) : Type 0 where
   pub history : List Occurrence
   pub legal : IsLegal n MAX_EVENTS history
@@ -49,7 +49,7 @@ left-other c (suc n) p m made h =
     let same = get_or-set_other made p n m 0 differs in
     omega (arith, same, before)
 
--- some events more leave fewer
+-- making some more events leaves fewer
 pub left-raised : (c : Chart) (n p m : ℕ) (made : List ℕ) → p < n → p < length made → slice_index made p < m → m ≤ length (c (suc p)) → left c n (set made p m) < left c n made
 left-raised c zero p m made h inside more most = absurd (omega arith)
 left-raised c (suc n) p m made h inside more most =
@@ -67,7 +67,7 @@ left-raised c (suc n) p m made h inside more most =
           omega (arith, same, fewer)
     ]
 
--- one event more leaves fewer
+-- making one more event leaves fewer
 pub left-less : (c : Chart) (n p : ℕ) (made : List ℕ) → p < n → p < length made → slice_index made p < length (c (suc p)) → left c n (set made p (slice_index made p + 1)) < left c n made
 left-less c n p made h inside more = left-raised c n p (slice_index made p + 1) made h inside (omega arith) (omega arith)
 
@@ -75,7 +75,7 @@ left-less c n p made h inside more = left-raised c n p (slice_index made p + 1) 
 tally_front : (test : Event → Bool) (m : ℕ) (xs : List Event) (i : ℕ) → i ≤ length (take m xs) → tally test (take m xs) i ≡ tally test xs i
 tally_front test m xs i h = sym (tally-append test (take m xs) (drop m xs) i h) ∙ ap (λ ys. tally test ys i) (take-append-drop m xs)
 
--- the numbers that lines have after one of them was raised
+-- the numbers of the other lines after one number was raised
 pub entry-raised : (made : List ℕ) (p m r : ℕ) → r ≢ suc p → entry (set made p m) r ≡ entry made r
 entry-raised made p m zero differs = refl
 entry-raised made p m (suc r) differs = get_or-set_other made p r m 0 (λ e. differs (ap suc e))
@@ -108,7 +108,7 @@ module _ (lines : List LineView) (made : List ℕ) (p : ℕ) (chart : IsChart li
   abbrev k : ℕ
   k = slice_index made p
 
-  -- what is on the line so far is short
+  -- the line so far is short
   room : length (chart_of old.history (suc p)) < MAX_EVENTS
   room = let most = line_short lines p chart inside in omega (arith, ap length (old.chart (suc p)), length-take k (c (suc p)))
 
@@ -145,7 +145,7 @@ module _ (lines : List LineView) (made : List ℕ) (p : ℕ) (chart : IsChart li
   IsMade-receive : (q j : ℕ) → q < n → BelongsTo c (at (suc q) j) (next_of made p) → HasSameName c (at (suc q) j) (next_of made p) → j ≤ slice_index made q → IsMade n c (set made p (k + 1))
   IsMade-receive q j q_in belongs names was_made = go belongs.received.0 belongs.received.1 belongs.received.2
     where
-      -- so many were received, and more were sent
+      -- the number of received messages, which is less than that of the sent ones
       got : received old.history (suc q) (suc p) ≡ tally (is_receive_from (suc q)) (c (suc p)) k
       got = sym (received_count n MAX_EVENTS old.history old.legal (suc q) (suc p)) ∙ ap (count_by (is_receive_from (suc q))) (old.chart (suc p))
 
@@ -190,7 +190,7 @@ module _ (lines : List LineView) (made : List ℕ) (p : ℕ) (chart : IsChart li
               old.never_closed
               (line_after_receive old.history (suc p) (suc q) region x rest first ∙ ap₂ (λ a b. chart_of old.history (suc p) ++ receive_event a b region ∷ []) (sym comes) name_is)
 
--- the next event is made where it can be
+-- the next event is made if it can be
 pub IsMade-next : (lines : List LineView) (made : List ℕ) (p : ℕ) → IsChart lines → length made ≡ length lines → IsMade (length lines) (chart_lines lines) made → p < length lines → IsReady (chart_lines lines) (length lines) made p → IsMade (length lines) (chart_lines lines) (set made p (slice_index made p + 1))
 IsMade-next lines made p chart same old inside ready = go ready.partner
   where
@@ -198,7 +198,7 @@ IsMade-next lines made p chart same old inside ready = go ready.partner
     go (inl (q, q_in, sends)) = IsMade-send lines made p chart same old inside ready.within q q_in sends
     go (inr (q, j, q_in, belongs, names, was_made)) = IsMade-receive lines made p chart same old inside ready.within q j q_in belongs names was_made
 
--- where all were made, the chart is possible
+-- if all events were made, the chart is possible
 pub IsPossible-from_made : (lines : List LineView) (made : List ℕ) → IsMade (length lines) (chart_lines lines) made → ((p : ℕ) → p < length lines → length (chart_lines lines (suc p)) ≤ slice_index made p) → IsPossible (length lines) (chart_lines lines)
 IsPossible-from_made lines made is all = (is.history, MAX_EVENTS, is.legal, λ p. is.chart p ∙ whole p)
   where
@@ -210,7 +210,7 @@ IsPossible-from_made lines made is all = (is.history, MAX_EVENTS, is.legal, λ p
           | inr past ↦ take_all (slice_index made p) (chart_lines lines (suc p)) (let e = ap length (empty_line lines p past) in omega arith)
         ]
 
--- where lines are left and no event can be made, an event is before itself
+-- if lines are unfinished and no event can be made, an event is before itself
 pub IsCyclic-from_stopped : (c : Chart) (n : ℕ) (made : List ℕ) → AreStopped c n made → (p : ℕ) → p < n → slice_index made p < length (c (suc p)) → IsCyclic c
 IsCyclic-from_stopped c n made stopped p inside more =
     let found = cycle (λ a b. Before c (next_of made a) (next_of made b)) (λ a b d x y. through x y) n (λ x. (x < n) × (slice_index made x < length (c (suc x)))) (λ x h. h.0) waits p (inside, more) in
@@ -232,7 +232,7 @@ IsCyclic-from_stopped c n made stopped p inside more =
               ],
             )
 
--- so running tells whether the chart is possible
+-- so a run shows whether the chart is possible
 pub runs_out : (lines : List LineView) (made : List ℕ) (all : Bool) → IsMade (length lines) (chart_lines lines) made → AreStopped (chart_lines lines) (length lines) made
     → MatchBool all ((p : ℕ) → p < length lines → length (chart_lines lines (suc p)) ≤ slice_index made p) ((p : ℕ) × (p < length lines) × (slice_index made p < length (chart_lines lines (suc p)))) → MatchBool all (IsPossible (length lines) (chart_lines lines)) (IsCyclic (chart_lines lines))
 runs_out lines made true is stopped all = IsPossible-from_made lines made is all

@@ -1,4 +1,4 @@
--- What a search keeps, and what it has found where all was seen.
+-- What a search keeps, and what it has found when all events were seen.
 use Rattle.std.proofs.Common.{◌≡◌, ℕ, zero, suc, ◌+◌, ◌<◌, ◌≤◌, ◌⊎◌, inl, inr, max, List, length, set, replicate, refl, sym, ap, ◌∙◌, subst, arith}
 use Rattle.std.specs.Prelude.{slice_index}
 use Rattle.std.proofs.lemmas.Bool.{cases_lt, cases_eq}
@@ -40,7 +40,7 @@ IsSearch-none c n s = record {
   followed = λ t r belongs seen. let event = IsEvent-from_passes c (is_receive_from t.instance) r belongs.received in absurd (omega (arith, event.0, seen, entry-zeros n r.instance));
 }
 
--- it goes on for a later send of the line
+-- it can go on for a later send of the line
 pub IsSearch-later : (c : Chart) (n : ℕ) (t s : Place) (fronts seen : List ℕ) → IsEarlier t s → IsSend c s → IsSearch c n t fronts seen → IsSearch c n s fronts seen
 IsSearch-later c n t s fronts seen earlier sends old = record {
   fronts_whole = old.fronts_whole;
@@ -53,7 +53,7 @@ IsSearch-later c n t s fronts seen earlier sends old = record {
   followed = old.followed;
 }
 
--- what a line's front is after it was raised
+-- a line's front after it was raised
 pub raised-same : (xs : List ℕ) (q j : ℕ) → q < length xs → entry (set xs q (max (slice_index xs q) j)) (suc q) ≡ max (slice_index xs q) j
 raised-same xs q j within = get_or-set_same xs q (max (slice_index xs q) j) 0 within
 
@@ -105,7 +105,7 @@ module _ (c : Chart) (n : ℕ) (s : Place) (fronts seen : List ℕ) (p : ℕ) (p
   seen-next : (r : ℕ) → r ≡ suc p → entry (set seen p (k + 1)) r ≡ k + 1
   seen-next r e = ap (entry (set seen p (k + 1))) e ∙ get_or-set_same seen p (k + 1) 0 (rw old.seen_whole p_in)
 
-  -- where its send is within the fronts
+  -- if the event's send is within the fronts
   IsSearch-seen : ((t : Place) → BelongsTo c t (at (suc p) (suc k)) → t.index ≤ entry fronts t.instance) → IsSearch c n s fronts (set seen p (k + 1))
   IsSearch-seen its_send = record {
     fronts_whole = old.fronts_whole;
@@ -126,7 +126,7 @@ module _ (c : Chart) (n : ℕ) (s : Place) (fronts seen : List ℕ) (p : ℕ) (p
     ];
   }
 
-  -- a send has none
+  -- a send has no send of its own
   pub IsSearch-send : (q : ℕ) → IsSendTo c q (at (suc p) (suc k)) → IsSearch c n s fronts (set seen p (k + 1))
   IsSearch-send q sends = IsSearch-seen (λ t belongs. absurd (not_both c q t.instance (at (suc p) (suc k)) sends belongs.received))
 
@@ -155,8 +155,8 @@ IsSearch-receive c n s fronts seen p q j p_in q_in pending belongs old =
     (λ t is. let same = same_send c (at (suc q) j) t (at (suc p) (suc (slice_index seen p))) belongs is in
     subst (λ (x : Place). x.index ≤ entry (set fronts q (max (slice_index fronts q) j)) x.instance) same (let new = raised-same fronts q j within in omega (arith, new)))
 
--- events of the line at p were followed: no front went back, the others' seen events are the same, and the search goes on
--- for whatever send it was for
+-- events of the line at p were followed: no front became smaller, and the seen events of the other lines are the same;
+-- the search can go on for any send that it was for
 pub record IsFollowed (lines : List LineView) (p : ℕ) (fronts seen after now : List ℕ) : Type 0 where
   pub whole : length after ≡ length lines
   pub others : now ≡ set seen p (slice_index now p)
@@ -171,7 +171,7 @@ IsFollowed-none lines p fronts seen whole = record {
   kept = λ s old. old;
 }
 
--- one event more
+-- one more event
 pub IsFollowed-next : (lines : List LineView) (p : ℕ) (fronts seen after now later new : List ℕ) → p < length seen → IsFollowed lines p fronts seen after now
     → length later ≡ length lines → new ≡ set now p (slice_index now p + 1) → HaveGrown after later
     → ((s : Place) → IsSearch (chart_lines lines) (length lines) s after now → IsSearch (chart_lines lines) (length lines) s later new)
@@ -189,7 +189,7 @@ IsFollowed-next lines p fronts seen after now later new within old whole is grow
       one,
     )
 
--- what was reached of a line is on it
+-- the front of a line is on it
 pub front_within : (c : Chart) (n : ℕ) (s : Place) (fronts seen : List ℕ) (p : ℕ) → IsSearch c n s fronts seen → entry fronts p ≤ length (c p)
 front_within c n s fronts seen p old =
     elim (old.sound p) [
@@ -197,7 +197,7 @@ front_within c n s fronts seen p old =
       | inr w ↦ (IsEvent-from_passes c (is_send_to w.0.0) (at p (entry fronts p)) w.0.1).1
     ]
 
--- where all was seen, what is before an event within the fronts is within them
+-- if all events were seen, an event before one within the fronts is within them
 module _ (c : Chart) (fronts : List ℕ) (closed : (t r : Place) → BelongsTo c t r → r.index ≤ entry fronts r.instance → t.index ≤ entry fronts t.instance) where
   direct_within : (e f : Place) → Direct c e f → f.index ≤ entry fronts f.instance → e.index ≤ entry fronts e.instance
   direct_within e f (message belongs) f_in = closed e f belongs f_in
@@ -208,7 +208,7 @@ module _ (c : Chart) (fronts : List ℕ) (closed : (t r : Place) → BelongsTo c
   before_within {e = e} {f = f} (direct x) f_in = direct_within e f x f_in
   before_within (through x y) f_in = before_within x (before_within y f_in)
 
--- where all was seen and the send was reached, the fronts are what is up to it
+-- if all events were seen and the send was reached, the fronts are the send and what is before it
 pub IsReached-from_seen : (lines : List LineView) (s : Place) (fronts seen : List ℕ) → IsSearch (chart_lines lines) (length lines) s fronts seen → AreSeen fronts seen → s.index ≤ entry fronts s.instance → IsReached (chart_lines lines) s fronts
 IsReached-from_seen lines s fronts seen search all reached e begun = (inside, upto)
   where
@@ -254,7 +254,7 @@ IsReached-from_seen lines s fronts seen search all reached e begun = (inside, up
         before_front sends (inl same) l = subst (Before (chart_lines lines) e) same (direct (to_send sends.0 l sends.1))
         before_front sends (inr before) l = through (direct (to_send sends.0 l sends.1)) before
 
--- what is up to a send is on a line of the chart
+-- an event that is a send or before it is on a line of the chart
 pub up_to_within : (lines : List LineView) (s e : Place) (p : ℕ) → IsSend (chart_lines lines) s → IsUpTo (chart_lines lines) s e → e.instance ≡ suc p → (1 ≤ e.index) × (p < length lines)
 up_to_within lines s e p sends up is =
     let event = up_to_event (chart_lines lines) s e (IsEvent-from_passes (chart_lines lines) (is_send_to sends.0) s sends.1) up in

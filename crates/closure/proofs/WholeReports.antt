@@ -1,4 +1,4 @@
--- In a possible chart the reports so far go on to those of all receives.
+-- In a possible chart the reports so far can be continued to those of all receives.
 use Rattle.std.proofs.Common.{◌≡◌, ℕ, zero, suc, ◌+◌, ◌-◌, ◌<◌, ◌≤◌, List, [], ◌∷◌, ◌++◌, length, map, get_or, All, Some, refl, sym, ap, subst, arith, append_assoc, append-nil}
 use Rattle.std.proofs.Math.Path.{fun_ext}
 use Rattle.std.proofs.lemmas.Bool.{eq-eqb}
@@ -40,7 +40,7 @@ module _ (lines : List LineView) (numbered : IsNumbered lines) (possible : IsPos
         ((q, from), refl, record { exact = subst (IsReport c r) (sym (indices_of r.instance w.0)) (subst (λ d. IsReport d r w.0) same w.1); line = instances_of r.instance w.0 }),
       )
 
-  -- the reports go on to the end of a line
+  -- the reports can be continued to the end of a line
   line_goes_on : (n p k : ℕ) (reports : List ReportView) → p < length lines → k + n ≡ length (c (suc p)) → HaveReported lines p k reports → (more : List ReportView) × HaveReported lines (suc p) 0 (reports ++ more)
   line_goes_on zero p k reports within e had =
       ([], subst (HaveReported lines (suc p) 0) (sym (append-nil reports)) (HaveReported-line lines p k reports numbered within (omega (arith, e)) had))

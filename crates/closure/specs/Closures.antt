@@ -1,4 +1,4 @@
--- What the checker keeps of a chart beside its lines (this project's own).
+-- What the checker keeps of a chart besides its lines (this project's own).
 use Rattle.std.specs.Prelude.{List, length}
 use Rattle.chart.specs.Charts.{LineView, IsPossible, IsChart, chart_lines}
 use Rattle.closure.specs.declared.partner.Partner.{Partner}

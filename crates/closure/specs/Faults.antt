@@ -10,7 +10,7 @@ use Rattle.closure.specs.declared.error.ChartError.TheVariants.{ReceiveWithoutSe
 abbrev pub place_of : EventNo → Place
 place_of e = at e.instance e.index
 
--- by instance and index, d comes sooner than r
+-- d comes sooner than r by instance and index
 abbrev pub IsSooner : Place → Place → Type 0
 IsSooner d r = (d.instance < r.instance) ⊎ ((d.instance ≡ r.instance) × (d.index < r.index))
 
@@ -22,7 +22,8 @@ IsFaulty c r = HasNoSend c r ⊎ HasOtherName c r
 abbrev pub IsFirst : Chart → Place → Type 0
 IsFirst c r = (d : Place) → IsSooner d r → IsFaulty c d → ⊥
 
--- what a refusal says of the chart: of the faulty receives it names the first, and only a chart without any is cyclic
+-- what a refusal states of the chart: it names the first of the faulty receives, and only a chart without any is
+-- refused as cyclic
 abbrev pub Refuses : Chart → ChartError → Type 0
 Refuses c (ReceiveWithoutSend r) = HasNoSend c (place_of r) × IsFirst c (place_of r)
 Refuses c (NameMismatch r) = HasOtherName c (place_of r) × IsFirst c (place_of r)

@@ -1,5 +1,5 @@
--- The other end of each event's message, and how the sends of a lane are passed along the sender's line (lanes are
--- first in, first out, as Alur, Holzmann and Peled 1996 have them).
+-- The other end of each event's message, and how the sends of a lane are passed along the sender's line. Lanes are
+-- first in, first out, as Alur, Holzmann and Peled 1996 have them.
 use Rattle.std.specs.Prelude.{◌≡◌, ℕ, suc, ◌+◌, ◌<◌, ◌≤◌, true, List, length, slice_index, Some}
 use Rattle.chart.specs.Words.{Counts}
 use Rattle.chart.specs.declared.event.Event.{Event}
@@ -14,26 +14,26 @@ use Rattle.closure.specs.declared.partner.Partner.{Partner}
 use Rattle.closure.specs.declared.partner.Partner.TheVariants.{Receiver, Sender}
 use Rattle.closure.specs.Faults.{place_of, IsFaulty}
 
--- the events at s and at r have one name
+-- the events at s and at r have the same name
 abbrev pub HasSameName : Chart → Place → Place → Type 0
 HasSameName c s r = (a b : Event) → chart_event c s ≡ Some a → chart_event c r ≡ Some b → name_of a ≡ name_of b
 
--- the event at r is a send to this line, or a receive that belongs to the send at this index of that line, with its
--- name
+-- the event at r is a send to this line; or it is a receive that belongs to the send at this index of that line, with
+-- its name
 abbrev pub IsPartner : List LineView → Place → Partner → Type 0
 IsPartner lines r (Receiver line) = (line < length lines) × IsSendTo (chart_lines lines) (suc line) r
 IsPartner lines r (Sender line index) = (line < length lines) × BelongsTo (chart_lines lines) (at (suc line) index) r
     × HasSameName (chart_lines lines) (at (suc line) index) r
 
--- at j is the next send to q after the first `passed` events
+-- the event at j is the next send to q after the first `passed` events
 pub record IsNextSend (line : List Event) (q passed j : ℕ) : Type 0 where
   pub begun : 1 ≤ j
   pub within : j ≤ length line
   pub send : (m : Event) × (ith line j ≡ Some m) × (is_send_to q m ≡ true)
   pub turn : tally (is_send_to q) line j ≡ tally (is_send_to q) line passed + 1
 
--- for the first k events of the line at p: of each sender's line so many events are passed that they have as many
--- sends to this line as there are receives from this sender
+-- for the first k events of the line at p: the passed events of each sender's line have as many sends to this line as
+-- there are receives from this sender
 pub record HasPassed (c : Chart) (n p k : ℕ) (passed : Counts) : Type 0 where
   pub same : length passed ≡ n
   pub within : (q : ℕ) → q < n → slice_index passed q ≤ length (c (suc q))

@@ -1,4 +1,4 @@
--- The reports of a chart's receives so far, while they are made: by instance and index (this project's own).
+-- The reports of a chart's receives so far, while they are made by instance and index (this project's own).
 use Rattle.std.specs.Prelude.{◌≡◌, ℕ, suc, ◌+◌, ◌-◌, ◌*◌, ◌<◌, ◌≤◌, List, [], ◌∷◌, ◌++◌, length, take}
 use Rattle.chart.specs.Words.{Counts}
 use Rattle.chart.specs.declared.instance.EventNo.{EventNo}
@@ -11,7 +11,7 @@ use Rattle.closure.specs.Closures.{IsPossibleChart}
 use Rattle.closure.specs.Links.{IsPartner}
 use Rattle.closure.specs.Searches.{HasKnowledge}
 
--- the line of p with its first k events alone
+-- the line of p with only its first k events
 abbrev pub line_front : Chart → ℕ → ℕ → LineView
 line_front c p k = record { instance = p; events = take k (c p) }
 
@@ -19,7 +19,7 @@ line_front c p k = record { instance = p; events = take k (c p) }
 pub record HaveReported (lines : List LineView) (p k : ℕ) (reports : List ReportView) : Type 0 where
   pub are : AreReportsOf (chart_lines lines) (take p lines ++ line_front (chart_lines lines) (suc p) k ∷ []) reports
 
--- a receive that was found: an event of a line, which is of the send that it says
+-- a receive that was found: an event of a line, which belongs to the send that the record names
 abbrev pub IsFound : List LineView → Receive → Type 0
 IsFound lines r = (r.line < length lines) × (r.place < length (chart_lines lines (suc r.line)))
     × IsPartner lines (at (suc r.line) (suc r.place)) (Sender r.sender r.index)
@@ -41,7 +41,7 @@ pub record ReporterView : Type 0 where
 abbrev pub reports_left : ReporterView → ℕ
 reports_left r = (length r.lines - r.line) * (MAX_EVENTS + 1) - r.place
 
--- what a reporter keeps: that the chart is possible, what its sends know, and that it is at an event or the end of a
+-- what holds of a reporter: the chart is possible, it has what the sends know, and it is at an event or the end of a
 -- line
 pub record IsReporting (lines : List LineView) (known : List Counts) (line place : ℕ) : Type 0 where
   pub chart : IsPossibleChart lines

@@ -3,7 +3,7 @@ use Rattle.std.specs.Prelude.{◌≡◌, ℕ, zero, suc, ◌<◌, List, [], leng
 use Rattle.chart.specs.Words.{Counts}
 use Rattle.chart.specs.Charts.{Chart, Place, at}
 
--- the number that a list has for an instance, 0 where it has none
+-- the number that a list has for an instance, 0 if it has none
 abbrev pub entry : Counts → ℕ → ℕ
 entry xs zero = 0
 entry xs (suc p) = slice_index xs p

@@ -1,11 +1,11 @@
--- Running a chart: the first events of each line were made, and each next one comes where it can (ITU-T Z.120: a
+-- Running a chart: the first events of each line were made, and each next one comes as soon as it can (ITU-T Z.120: a
 -- message's input comes after its output).
 use Rattle.std.specs.Prelude.{ℕ, suc, ◌<◌, ◌≤◌, ◌⊎◌, length, slice_index}
 use Rattle.chart.specs.Words.{Counts}
 use Rattle.chart.specs.Charts.{Chart, Place, at, IsSendTo, BelongsTo}
 use Rattle.closure.specs.Links.{HasSameName}
 
--- the next event of the line at p, after as many as were made
+-- the next event of the line at p, after those that were made
 abbrev pub next_of : Counts → ℕ → Place
 next_of made p = at (suc p) (suc (slice_index made p))
 

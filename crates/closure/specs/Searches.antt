@@ -1,5 +1,5 @@
--- Searching backwards from a send: for each line the greatest send that is this send or before it (over the order of
--- Alur, Holzmann and Peled 1996, in this project's profile).
+-- Searching backwards from a send: for each line the last send that is this send or before it. The order is that of
+-- Alur, Holzmann and Peled 1996, in this project's profile.
 use Rattle.std.specs.Prelude.{◌≡◌, ℕ, suc, ◌+◌, ◌<◌, ◌≤◌, ◌↔◌, ◌⊎◌, List, length, slice_index}
 use Rattle.chart.specs.Words.{Counts}
 use Rattle.chart.specs.Charts.{Chart, Place, at, LineView, IsSendTo, IsReceiveFrom, BelongsTo, chart_lines}
@@ -7,15 +7,15 @@ use Rattle.chart.specs.Order.{IsEarlier}
 use Rattle.chart.specs.Knowing.{IsUpTo, IsKnown}
 use Rattle.closure.specs.Rows.{entry, AreRows}
 
--- there is a send
+-- the event at s is a send
 abbrev pub IsSend : Chart → Place → Type 0
 IsSend c s = (q : ℕ) × IsSendTo c q s
 
--- of each line the first events, up to its front, are the send s or before it
+-- the first events of each line, up to its front, are the send s or before it
 abbrev pub IsReached : Chart → Place → Counts → Type 0
 IsReached c s fronts = (e : Place) → 1 ≤ e.index → IsUpTo c s e ↔ (e.index ≤ entry fronts e.instance)
 
--- each front is 0, or a send that is s or before it; of each line so many events were seen, and the sends of the
+-- each front is 0, or a send that is s or before it; this many events of each line were seen, and the sends of the
 -- receives among these are within the fronts
 pub record IsSearch (c : Chart) (n : ℕ) (s : Place) (fronts seen : Counts) : Type 0 where
   pub fronts_whole : length fronts ≡ n
@@ -24,11 +24,11 @@ pub record IsSearch (c : Chart) (n : ℕ) (s : Place) (fronts seen : Counts) : T
   pub behind : (p : ℕ) → entry seen p ≤ entry fronts p
   pub followed : (t r : Place) → BelongsTo c t r → r.index ≤ entry seen r.instance → t.index ≤ entry fronts t.instance
 
--- all before the fronts was seen; the fronts themselves are sends
+-- all events before the fronts were seen; the fronts themselves are sends
 abbrev pub AreSeen : Counts → Counts → Type 0
 AreSeen fronts seen = (p : ℕ) → p < length fronts → slice_index fronts p ≤ slice_index seen p + 1
 
--- no front went back
+-- no front became smaller
 abbrev pub HaveGrown : Counts → Counts → Type 0
 HaveGrown fronts after = (p : ℕ) → entry fronts p ≤ entry after p
 
@@ -36,12 +36,12 @@ HaveGrown fronts after = (p : ℕ) → entry fronts p ≤ entry after p
 abbrev pub IsEarlierReceive : Chart → ℕ → Place → Place → Type 0
 IsEarlierReceive c q e r = IsEarlier e r × IsReceiveFrom c q e
 
--- for each send of the line at p, after its first k events, the search goes on
+-- the search can go on for each send of the line at p after its first k events
 abbrev pub IsSearchAfter : Chart → ℕ → ℕ → ℕ → Counts → Counts → Type 0
 IsSearchAfter c n p k fronts seen = (i : ℕ) → k ≤ i → IsSend c (at (suc p) (suc i))
     → IsSearch c n (at (suc p) (suc i)) fronts seen
 
--- where s is a send, it knows so many events of its receiver's line
+-- if s is a send, it knows k events of its receiver's line
 abbrev pub IsKnowledge : Chart → Place → ℕ → Type 0
 IsKnowledge c s k = (q : ℕ) → IsSendTo c q s → IsKnown c s q k
 

@@ -1,12 +1,12 @@
-//! Why an event of a chart comes before a receive, and what else does.
+//! Why an event of a chart comes before a receive, and which other events do.
 //!
 //! What is promised, unless an allocation is refused:
 //!
-//! - Of an event and a receive: a shortest chain of direct steps that leads from the one to the other, each with its
-//!   rule. There is none exactly where the event isn't before the receive ([`shortest_chain`]).
-//! - Of a receive: of each line how many first events are its send or come before this send. All that comes before
-//!   the receive is among these, but for receives of its own line from the same sender ([`past`]). These numbers
-//!   are the only ones ([`one_past_law`]).
+//! - For an event and a receive: a shortest chain of direct steps from the event to the receive, each with its rule.
+//!   There is none exactly if the event isn't before the receive ([`shortest_chain`]).
+//! - For a receive: how many first events of each line are its send or come before this send. All events before the
+//!   receive are among these, except for receives of its own line from the same sender ([`past`]). These numbers are
+//!   the only ones ([`one_past_law`]).
 
 mod chaining;
 mod link;

@@ -9,7 +9,7 @@ use crate::error::{AuditError, ChartError};
 use chart::{Chart, EventNo, Report};
 use std::alloc::Global;
 
-/// The receive that names the first place where the reports given aren't the right ones.
+/// The receive that names the first place where the given reports aren't the right ones.
 fn first_wrong(right: &[Report], given: &[Report]) -> Option<EventNo>
     ensures { MatchOption result (given.now ≡ right.now) (IsFirstWrong right.now given.now) }
 {
@@ -30,8 +30,8 @@ fn first_wrong(right: &[Report], given: &[Report]) -> Option<EventNo>
 /// Whether the reports are exactly those of the chart's receives, by instance and index.
 ///
 /// A chart that is not possible is refused as by [`Closure::of`], by F16, F17 or F18. F19: the first place where the
-/// list isn't that of [`Closure::races`]; it names the receive that belongs in this place or, past the end, that of the
-/// surplus report. F6 may come at any point.
+/// list isn't that of [`Closure::races`]. It names the receive that belongs in this place or, past the end, the receive
+/// of the surplus report. F6 may come at any point.
 pub fn audit(alloc: Global, chart: &Chart, reports: &[Report]) -> Result<(), AuditError>
     ensures possible { OnOk result (IsPossible (length chart.now) (chart_lines chart.now)) }
     ensures right { OnOk result (AreReports chart.now reports.now) }

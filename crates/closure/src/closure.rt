@@ -21,8 +21,8 @@ use chart::{Chart, EventNo, Line, Report};
 use std::alloc::{AllocError, Global};
 use std::marker::Model;
 
-/// A possible chart, with the partner of each event: it answers what the enforced order puts before what. A contract
-/// sees the chart's lines.
+/// A possible chart, with the partner of each event. It answers which events the enforced order puts before others. A
+/// contract sees the chart's lines.
 #[derive(Drop)]
 pub struct Closure<'a> {
     alloc: Global,
@@ -43,9 +43,9 @@ impl<'a> Model for Closure<'a> {
 }
 
 impl<'a> Closure<'a> {
-    /// The closure of a possible chart, and of no other: one that is the chart of a history which is legal with no
-    /// bound on waiting messages. Any other is refused, by the first of F16, F17 and F18 that applies. The receives
-    /// are looked at by instance and index, and of F16 and F17 the first one's counts.
+    /// The closure of a possible chart: one that is the chart of a history that is legal for some number of slots. Any
+    /// other chart is refused, by the first of F16, F17 and F18 that applies. Of F16 and F17, that of the first receive
+    /// counts, by instance and index.
     ///
     /// F6 may come at any point.
     pub fn of(alloc: Global, chart: &'a Chart) -> Result<Closure<'a>, ChartError>
@@ -78,7 +78,7 @@ impl<'a> Closure<'a> {
         Linked::new(self.lines, self.partners.as_slice())
     }
 
-    /// How many lines there are.
+    /// The number of lines.
     pub fn len(&self) -> usize
         ensures value { result ≡ length self.now }
         ensures possible { IsPossibleChart self.now }
@@ -86,10 +86,10 @@ impl<'a> Closure<'a> {
         self.lines.len()
     }
 
-    /// Whether the enforced order puts the one event before the other. It doesn't where either is no event of the
-    /// chart.
+    /// Whether the enforced order puts one event before the other. The answer is false if one of them is no event of
+    /// the chart.
     ///
-    /// F6: it fails only where there is no memory.
+    /// F6: it fails only if there is no memory.
     pub fn before(&self, earlier: EventNo, later: EventNo) -> Result<bool, AllocError>
         ensures { IfOk result (λ before. IsTrue before
             ↔ Before (chart_lines self.now) (place_of earlier) (place_of later)) }
@@ -111,7 +111,7 @@ impl<'a> Closure<'a> {
         self.lines
     }
 
-    /// The send that a receive belongs to. There is none exactly where the event is no receive of the chart.
+    /// The send that a receive belongs to. There is none exactly if the event is no receive of the chart.
     pub fn send_of(&self, receive: &EventNo) -> Option<EventNo>
         ensures { MatchOption result
             ((q : ℕ) → IsReceiveFrom (chart_lines self.now) q (place_of receive.now) → ⊥)
@@ -121,9 +121,9 @@ impl<'a> Closure<'a> {
         send_of(&linked, receive.instance.place(), receive.index as usize)
     }
 
-    /// Of each line, by instance, how many of its first events are the send or before it. They are all that is.
+    /// For each line, by instance, how many of its first events are the send or before it. No other event is.
     ///
-    /// F6: it fails only where there is no memory.
+    /// F6: it fails only if there is no memory.
     pub fn up_to(&self, send: &EventNo) -> Result<Numbers, AllocError>
         requires { IsSend (chart_lines self.now) (place_of send.now) }
         ensures whole { IfOk result (λ fronts. length fronts ≡ length self.now) }
@@ -138,9 +138,9 @@ impl<'a> Closure<'a> {
         )
     }
 
-    /// Goes over the receives, by instance and index, and finds the report of each without memory.
+    /// A reporter, which visits the receives, by instance and index, and finds the report of each without memory.
     ///
-    /// One search a line serves all its sends. F6: it fails only where there is no memory.
+    /// One search for each line serves all its sends. F6: it fails only if there is no memory.
     pub fn reporter(&self) -> Result<Reporter<'_>, AllocError>
         ensures { IfOk result (λ reporter. reporter ≡ record { lines = self.now; line = 0; place = 0; earlier = [] }) }
     {
@@ -149,8 +149,8 @@ impl<'a> Closure<'a> {
 
     /// The report of each receive, by instance and index.
     ///
-    /// One search a line serves all its sends, and a report costs the runs of events that it passes and finds, or in a
-    /// coregion the events. F6: it fails only where there is no memory.
+    /// One search for each line serves all its sends. The time of a report grows with the runs of events that it passes
+    /// and finds, or in a coregion with the events. F6: it fails only if there is no memory.
     pub fn races(&self) -> Result<Vec<Report>, AllocError>
         ensures { IfOk result (λ reports. AreReports self.now reports.items) }
     {

@@ -6,10 +6,10 @@ use chart::EventNo;
 use std::alloc::{AllocError, AllocFailed};
 use thiserror::Error;
 
-/// Why a chart is not possible: the first of these that applies, but for F6, which may come at any point.
+/// Why a chart is not possible: the first of these that applies, except for F6, which may come at any point.
 #[derive(Clone, Copy, Debug, PartialEq, Eq, Error)]
 pub enum ChartError {
-    /// F16: on the lane of this receive fewer messages were sent than were received up to it.
+    /// F16: the lane of this receive has fewer sends than receives up to it.
     #[error("a message is received that was not sent")]
     ReceiveWithoutSend(EventNo),
     /// F17: the send of this receive has another name.
@@ -45,8 +45,8 @@ pub enum AuditError {
     /// F16, F17 or F18: the chart is not possible. Or F6.
     #[error(transparent)]
     Chart(ChartError),
-    /// F19: at the first place where the lists differ, the receive that belongs there or, past the end, that of the
-    /// surplus report.
+    /// F19: at the first place where the lists differ, the receive that belongs there or, past the end, the receive of
+    /// the surplus report.
     #[error("a report is not that of its receive")]
     WrongReport(EventNo),
 }

@@ -1,4 +1,4 @@
-//! What each send knows of its receiver's line: how many events of it are before the send.
+//! What each send knows of its receiver's line: how many of its events are before the send.
 ghost use Rattle.std.specs.Prelude.{ℕ, ◌<◌, suc, length, IfOk};
 ghost use Rattle.chart.specs.Charts.{at, chart_lines};
 ghost use Rattle.closure.specs.Rows.{IsRow};
@@ -10,7 +10,7 @@ use crate::row::Row;
 use crate::search::{Search, reach};
 use std::alloc::{AllocError, Global};
 
-/// What the event at a place knows of its receiver's line, if it is a send. The search was for earlier sends of the
+/// What the event at a place knows of its receiver's line, if it is a send. The search has covered earlier sends of the
 /// line.
 fn known_at(linked: &Linked<'_>, search: &mut Search, line: usize, place: usize) -> u32
     requires line { line < length linked.now }
@@ -30,7 +30,7 @@ fn known_at(linked: &Linked<'_>, search: &mut Search, line: usize, place: usize)
     }
 }
 
-/// What each send of a line knows of its receiver's line, by one search.
+/// What each send of a line knows of its receiver's line, found by one search.
 fn known_on(alloc: Global, linked: &Linked<'_>, line: usize) -> Result<Row<u32>, AllocError>
     requires line { line < length linked.now }
     ensures { IfOk result
@@ -45,7 +45,8 @@ fn known_on(alloc: Global, linked: &Linked<'_>, line: usize) -> Result<Row<u32>,
     Ok(row)
 }
 
-/// What each send knows of its receiver's line: for each line a row with a number for each of its sends.
+/// What each send knows of its receiver's line: for each line a row with a number for each event. The number of a
+/// receive means nothing.
 pub fn knowledge(alloc: Global, linked: &Linked<'_>) -> Result<Vec<Row<u32>>, AllocError>
     ensures { IfOk result (λ known. HasKnowledge linked.now known.items) }
 {

@@ -38,7 +38,7 @@ impl<'a> Linked<'a> {
         Linked { lines, partners }
     }
 
-    /// How many lines there are.
+    /// The number of lines.
     pub fn len(&self) -> usize
         ensures value { result ≡ length self.now }
         ensures chart { IsChart self.now }
@@ -56,7 +56,7 @@ impl<'a> Linked<'a> {
         line_of(self.lines, line)
     }
 
-    /// How many events a line has.
+    /// The number of events of a line.
     pub fn len_of(&self, line: usize) -> usize
         requires { line < length self.now }
         ensures value { result ≡ length (chart_lines self.now (suc line)) }
@@ -75,7 +75,7 @@ impl<'a> Linked<'a> {
         event_at(self.lines, line, place)
     }
 
-    /// The other end of the message of the event at a place of a line. It reads the table alone.
+    /// The other end of the message of the event at a place of a line. It reads only the table.
     #[inline(always)]
     pub fn partner_of(&self, line: usize, place: usize) -> Partner
         requires line { line < length self.now }

@@ -1,4 +1,4 @@
-//! The partner of each event: the n-th receive on a lane is of the n-th send.
+//! The partner of each event: the n-th receive on a lane belongs to the n-th send.
 ghost use Rattle.std.specs.Prelude.{◌≡◌, ◌<◌, ◌≤◌, ◌↔◌, suc, length, count_by, IsTrue, MatchOption, IfOk, OnOk, IfErr};
 ghost use Rattle.chart.specs.Events.{is_send_to, tally};
 ghost use Rattle.chart.specs.Charts.{at, chart_lines, IsChart};
@@ -54,7 +54,7 @@ fn next_send(events: &[Event], passed: usize, receiver: InstanceNo) -> Option<us
     None
 }
 
-/// The other end of the message of the event at this place. Of each sender's line `passed` tells how many events were
+/// The other end of the message of the event at this place. For each sender's line, `passed` is the number of events
 /// looked at, up to the send of the last receive.
 fn link_event(
     lines: &[Line],
@@ -92,7 +92,7 @@ fn link_event(
     })
 }
 
-/// The refusal of a chart whose receive of this number has the fault.
+/// The refusal of a chart in which this receive has the fault.
 fn refusal(fault: Fault, receive: EventNo) -> ChartError
     ensures { result ≡ refusal_of fault receive }
 {

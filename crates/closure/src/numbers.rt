@@ -19,7 +19,7 @@ impl Model for Numbers {
 }
 
 impl Numbers {
-    /// So many zeros.
+    /// A list of this number of zeros.
     pub fn zeros(alloc: Global, count: usize) -> Result<Numbers, AllocError>
         ensures { IfOk result (λ zeros. zeros ≡ replicate count 0) }
     {
@@ -44,7 +44,7 @@ impl Numbers {
         self.numbers[place]
     }
 
-    /// Puts the number at a place in place of the one there.
+    /// Replaces the number at a place.
     #[inline(always)]
     pub fn set(&mut self, place: usize, number: usize)
         requires { place < length self.old }

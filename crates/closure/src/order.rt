@@ -1,4 +1,4 @@
-//! What the enforced order puts before what.
+//! Whether the enforced order puts one event before another.
 ghost use Rattle.std.specs.Prelude.{◌≡◌, ◌<◌, ◌≤◌, ◌↔◌, suc, length, IsTrue, IfOk};
 ghost use Rattle.chart.specs.Charts.{at, chart_lines};
 ghost use Rattle.chart.specs.Order.{Before};
@@ -12,14 +12,14 @@ use crate::search::is_up_to;
 use chart::{EventNo, InstanceNo};
 use std::alloc::{AllocError, Global};
 
-/// Whether an event is that of this index of a line.
+/// Whether an event is the one with this index of a line.
 fn is_at(event: &EventNo, line: usize, index: usize) -> bool
     ensures { IsTrue result ↔ (place_of event.now ≡ at (suc line) index) }
 {
     event.instance.place() == line && event.index as usize == index
 }
 
-/// Whether an event is earlier on a line than this index and is a receive from this sender.
+/// Whether an event is earlier on a line than this index, and is a receive from this sender.
 fn is_earlier_receive(
     linked: &Linked<'_>,
     event: &EventNo,
@@ -45,10 +45,10 @@ fn is_earlier_receive(
     linked.event_at(line, earlier - 1).is_receive_from(sender)
 }
 
-/// Whether the enforced order puts an event before that of this index of a line.
+/// Whether the enforced order puts an event before the one with this index of a line.
 ///
-/// Before a send is what it is or is after. Before a receive are the earlier receives from its sender, and its send
-/// with all before that.
+/// The events before a send are those that it knows, except for itself. The events before a receive are the earlier
+/// receives from its sender, its send, and all events before this send.
 pub fn is_before(
     alloc: Global,
     linked: &Linked<'_>,

@@ -1,4 +1,4 @@
-//! What is before a receive: its send, and of each line the first events.
+//! What is before a receive: its send, and the first events of each line.
 ghost use Rattle.std.specs.Prelude.{ℕ, ◌≡◌, ◌<◌, suc, length, IfOk, MatchOption};
 ghost use Rattle.chart.specs.Charts.{at, chart_lines, IsReceiveFrom, BelongsTo};
 ghost use Rattle.closure.specs.Faults.{place_of};
@@ -11,7 +11,7 @@ use crate::search::{Search, reach};
 use chart::{EventNo, InstanceNo};
 use std::alloc::{AllocError, Global};
 
-/// The send that the event of this index of a line belongs to, if it is a receive.
+/// The send of the event with this index of a line, if it is a receive.
 pub fn send_of(linked: &Linked<'_>, line: usize, index: usize) -> Option<EventNo>
     ensures { MatchOption result
         ((q : ℕ) → IsReceiveFrom (chart_lines linked.now) q (at (suc line) index) → ⊥)
@@ -38,7 +38,7 @@ pub fn send_of(linked: &Linked<'_>, line: usize, index: usize) -> Option<EventNo
     }
 }
 
-/// Of each line how many of its first events are the send of this index of a line, or before it.
+/// For each line, how many of its first events are the send with this index of a line, or before it.
 pub fn up_to(
     alloc: Global,
     linked: &Linked<'_>,

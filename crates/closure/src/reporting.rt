@@ -18,14 +18,14 @@ use online_races::find_races;
 use std::alloc::{AllocError, Global};
 use std::marker::Model;
 
-/// Where a receive stands, and the send that it is of.
+/// The place of a receive, and the send that it belongs to.
 #[derive(Clone, Copy)]
 pub struct Receive {
     line: usize,
     place: usize,
     /// The place of the sender's line.
     sender: u8,
-    /// The send's index on it, from 1.
+    /// The send's index on this line, from 1.
     index: u16,
 }
 
@@ -78,8 +78,8 @@ fn next_receive(linked: &Linked<'_>, line: usize, place: usize) -> Option<Receiv
     None
 }
 
-/// Puts the ranges of a receive's races in place of those in the list: of the races of its line before it, past what
-/// its send knows of the line. It answers the receive.
+/// Replaces the ranges in the list by those of a receive's races: the races of its line before it, later than what its
+/// send knows of the line. It returns the receive.
 fn find_report(
     linked: &Linked<'_>,
     known: &[Row<u32>],
@@ -111,9 +111,9 @@ fn find_report(
     }
 }
 
-/// Goes over the receives of a chart, by instance and index, and finds the races of each. It keeps those of the last
-/// one alone, so no receive needs memory. A contract sees the chart's lines, how far it has come, and the races that
-/// it found last.
+/// Visits the receives of a chart, by instance and index, and finds the races of each. It keeps only those of the last
+/// one, so no receive needs memory. A contract sees the chart's lines, how far the reporter has come, and the races
+/// that it found last.
 #[derive(Drop)]
 pub struct Reporter<'a> {
     linked: Linked<'a>,
@@ -121,7 +121,7 @@ pub struct Reporter<'a> {
     /// The line of the next event, and its place.
     line: usize,
     place: usize,
-    /// It has places for the races of any receive.
+    /// The list has places for the races of any receive.
     found: Vec<EventRange>,
 }
 
@@ -161,7 +161,7 @@ pub fn reporter_of<'a>(alloc: Global, linked: Linked<'a>) -> Result<Reporter<'a>
 }
 
 impl<'a> Reporter<'a> {
-    /// Goes on to the next receive and finds its races, or answers that there is none left. It takes no memory.
+    /// Goes on to the next receive and finds its races, or answers that none is left. It takes no memory.
     pub fn next(&mut self) -> Option<EventNo>
         ensures lines { self.new.lines ≡ self.old.lines }
         ensures reported { (reports : List ReportView)
@@ -189,8 +189,8 @@ impl<'a> Reporter<'a> {
         Some(event)
     }
 
-    /// The races of the receive that [`Reporter::next`] answered last: ranges of earlier events, the first of the
-    /// line first.
+    /// The races of the receive that [`Reporter::next`] returned last: ranges of earlier events, in the order of the
+    /// line.
     pub fn earlier(&self) -> &[EventRange]
         ensures events { events_in result.now ≡ self.now.earlier }
         ensures each { All IsRange result.now }

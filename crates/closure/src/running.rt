@@ -1,4 +1,4 @@
-//! Whether a chart can be run: each send is made as it comes, and each receive once its send was made.
+//! Whether a chart can be run: a send can always be made, and a receive once its send was made.
 ghost use Rattle.std.specs.Prelude.{◌≡◌, ◌<◌, ◌≤◌, ℕ, suc, true, false, length, slice_index, MatchBool, MatchOption};
 ghost use Rattle.std.specs.Prelude.{IfSome, IfOk};
 ghost use Rattle.chart.specs.Charts.{chart_lines, IsPossible};
@@ -10,7 +10,7 @@ use crate::numbers::Numbers;
 use crate::partner::Partner;
 use std::alloc::{AllocError, Global};
 
-/// Whether the next event of a line can be made, where so many of each line were.
+/// Whether the next event of a line can be made, after this number of events of each line.
 fn is_ready(linked: &Linked<'_>, made: &Numbers, line: usize) -> bool
     requires made { length made.now ≡ length linked.now }
     requires line { line < length linked.now }
@@ -27,7 +27,7 @@ fn is_ready(linked: &Linked<'_>, made: &Numbers, line: usize) -> bool
     }
 }
 
-/// A line whose next event can be made: the hint, or else the first.
+/// A line whose next event can be made: the hint, or else the first one.
 fn ready_line(linked: &Linked<'_>, made: &Numbers, hint: usize) -> Option<usize>
     requires made { length made.now ≡ length linked.now }
     requires hint { hint < length linked.now }
@@ -63,8 +63,8 @@ fn are_made(linked: &Linked<'_>, made: &Numbers) -> bool
 
 /// Whether the chart is possible. If it isn't, the enforced order puts an event before itself.
 ///
-/// Only what can come is made, so where all was made the chart is that of a history. Where no line can go on, each
-/// waits for a later send of a line that waits too.
+/// Only events that can come are made. So if all were made, the chart is that of a history. If no line can go on, each
+/// unfinished line waits for a later send of a line that waits too.
 pub fn runs(alloc: Global, linked: &Linked<'_>) -> Result<bool, AllocError>
     ensures { IfOk result (λ runs. MatchBool runs
         (IsPossible (length linked.now) (chart_lines linked.now)) (IsCyclic (chart_lines linked.now))) }

@@ -1,8 +1,9 @@
 //! Searching backwards over the pairs that are enforced directly.
 //!
-//! What is a send or before it is, of each line, the events up to some send, its front: all that is earlier than a
-//! send on its line is before it. So the pairs to be followed are those from a receive to its send, and each event is
-//! seen once. Of a later send of the same line the fronts are no smaller, and the search goes on from where it is.
+//! The events that are a send or before it are, on each line, the events up to some send, the line's front: all events
+//! earlier than a send on its line are before it. So only the pairs from a receive to its send have to be followed, and
+//! each event is visited once. For a later send of the same line the fronts are no smaller, and the search goes on from
+//! where it is.
 ghost use Rattle.std.specs.Prelude.{ℕ, ◌≡◌, ◌<◌, ◌≤◌, ◌+◌, ◌-◌, ◌↔◌, suc, max, length, replicate, slice_index, slice_set};
 ghost use Rattle.std.specs.Prelude.{IsTrue, IfOk, IfSome, MatchBool, MatchOption};
 ghost use Rattle.chart.specs.declared.line.TheConstants.{MAX_EVENTS};
@@ -20,14 +21,14 @@ use std::alloc::{AllocError, Global};
 /// How far a search has come.
 #[derive(Drop)]
 pub struct Search {
-    /// For each line, the greatest send that was reached, or 0.
+    /// For each line, the last send that was reached, or 0.
     pub fronts: Numbers,
-    /// For each line, how many of its events were followed to their sends.
+    /// For each line, the number of its events that were followed to their sends.
     pub seen: Numbers,
 }
 
 impl Search {
-    /// A search that reached nothing yet.
+    /// A search that has reached nothing yet.
     pub fn new(alloc: Global, lines: usize) -> Result<Search, AllocError>
         ensures { IfOk result (λ search. search ≡ record { fronts = replicate lines 0; seen = replicate lines 0 }) }
     {
@@ -37,7 +38,7 @@ impl Search {
         })
     }
 
-    /// Whether events of the line are to be followed. The front itself is a send, and needs not be.
+    /// Whether events of the line have to be followed. The front itself is a send, and needn't be.
     #[inline(always)]
     fn is_pending(&self, line: usize) -> bool
         requires fronts { line < length self.now.fronts }
@@ -49,7 +50,7 @@ impl Search {
         front > 0 && self.seen.at(line) < front - 1
     }
 
-    /// A line with events to be followed: the hint, or else the first.
+    /// A line with events that have to be followed: the hint, or else the first one.
     fn pending(&self, hint: usize) -> Option<usize>
         requires seen { length self.now.seen ≡ length self.now.fronts }
         requires hint { hint < length self.now.fronts }
@@ -68,7 +69,7 @@ impl Search {
         None
     }
 
-    /// Reaches the send of this index of a line.
+    /// Reaches the send with this index of a line.
     #[inline(always)]
     fn raise(&mut self, line: usize, index: usize)
         requires { line < length self.old.fronts }
@@ -81,8 +82,8 @@ impl Search {
     }
 }
 
-/// Follows the next event of a line that was reached, and answers the line where the search may go on behind this one:
-/// that of a receive's send, or else the one given.
+/// Follows the next event of a line that was reached. It returns the line on which the search may go on after this
+/// event: that of a receive's send, or else the given one.
 #[inline(always)]
 fn follow(linked: &Linked<'_>, search: &mut Search, line: usize, next: usize) -> usize
     requires line { line < length linked.now }
@@ -115,8 +116,8 @@ fn follow(linked: &Linked<'_>, search: &mut Search, line: usize, next: usize) ->
     }
 }
 
-/// Follows all events of a line that are before its front, and answers a line where the search may go on: the sender's
-/// of the last receive among them.
+/// Follows all events of a line that are before its front. It returns a line on which the search may go on: that of the
+/// sender of the last receive among them.
 fn follow_line(linked: &Linked<'_>, search: &mut Search, line: usize) -> usize
     requires line { line < length linked.now }
     requires fronts { length search.old.fronts ≡ length linked.now }
@@ -139,8 +140,8 @@ fn follow_line(linked: &Linked<'_>, search: &mut Search, line: usize) -> usize
     next
 }
 
-/// Goes on to the send of this index of a line, and all that is before it. What was reached before is it or before
-/// it, as where it was searched for earlier sends of this line.
+/// Extends the search to the send with this index of a line, and all events before it. All events that were reached
+/// already have to be this send or before it, as after a search for earlier sends of this line.
 pub fn reach(linked: &Linked<'_>, search: &mut Search, line: usize, index: usize)
     requires line { line < length linked.now }
     requires send { IsSend (chart_lines linked.now) (at (suc line) index) }
@@ -158,7 +159,7 @@ pub fn reach(linked: &Linked<'_>, search: &mut Search, line: usize, index: usize
     }
 }
 
-/// Whether an event is the send of this index of a line, or before it.
+/// Whether an event is the send with this index of a line, or before it.
 pub fn is_up_to(
     alloc: Global,
     linked: &Linked<'_>,

@@ -5,6 +5,6 @@ use Rattle.std.specs.List.{list_all}
 use Rattle.std.proofs.lemmas.Str.Parse.{IsNumeralModel, numerals_by_fold}
 use Rattle.schedule.specs.FirstLines.{number_from}
 
--- digits, and the number that they say
+-- digits, and their number
 pub numerals : IsNumeralModel (λ ds. list_all is_ascii_digit ds ≡ true) (number_from 0)
 numerals = numerals_by_fold _ (search rules) number_from (search rules)

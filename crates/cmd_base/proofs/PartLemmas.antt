@@ -1,4 +1,4 @@
--- Lines that were passed on the way to the one that ends a chart.
+-- The lines above the one that ends a chart.
 use Rattle.std.proofs.Common.{◌≡◌, ℕ, ◌+◌, ◌-◌, Bool, true, false, cond, List, [], ◌∷◌, ◌++◌, length, take, refl, sym, ap, ◌∙◌, append_assoc, arith}
 use Rattle.std.proofs.Math.Seq.{take-append_seam}
 use Rattle.std.proofs.lemmas.List.{length-append}
@@ -12,7 +12,7 @@ use Rattle.cmd_base.specs.Files.{ends_chart, through_end, chart_part}
 abbrev pub NoneEnds : List (List ℕ) → Type 0
 NoneEnds lines = AllByRecursion (λ line. ends_chart line ≡ false) lines
 
--- the lines of the text are those that were passed, and those of the rest
+-- the lines of the text are those that were passed and those of the rest
 pub record HasPassed (bytes rest : List ℕ) (lines : List (List ℕ)) : Type 0 where
   pub lines_are : lines_of bytes ≡ lines ++ lines_of rest
   pub same_end : end_of bytes ≡ end_of rest

@@ -1,4 +1,4 @@
--- What a file says: a schedule's run, or a chart, told by its first word; and which charts are refused.
+-- The contents of a file: a schedule or a chart, distinguished by the first word; and which charts are refused.
 use Rattle.std.specs.Prelude.{◌≡◌, ℕ, Bool, true, false, List, [], ◌∷◌, bytes_eq, codes, Result, Ok, Err, if◌then◌else◌}
 use Rattle.std.specs.List.{list_any, flat_map}
 use Rattle.chart.specs.Charts.{LineView, chart_lines}
@@ -17,7 +17,7 @@ use Rattle.cmd_base.specs.declared.error.ProgramError.TheVariants as errors
 abbrev pub Named : Type 0
 Named = List (List ℕ) × List LineView
 
--- what was read is what the text says, or the error is what is wrong with the text, memory aside
+-- the value is what the text says, or the error is the text's fault, or memory ran out
 abbrev pub Reads : {A : Type 0} → Result A ProgramError → Result A Fault → Type 0
 Reads (Ok read) exit = exit ≡ Ok read
 Reads (Err errors.Memory) exit = Unit {0}
@@ -42,17 +42,17 @@ is_schedule bytes = begins_so (lines_of bytes)
 abbrev pub ends_chart : List ℕ → Bool
 ends_chart line = bytes_eq line (codes "endmsc;")
 
--- some lines, up to the first that ends a chart, and with it
+-- some lines, up to and including the first that ends a chart
 abbrev pub through_end : List (List ℕ) → List (List ℕ)
 through_end [] = []
 through_end (line ∷ lines) = line ∷ (if ends_chart line then [] else through_end lines)
 
--- What of a file is a chart's text: all through the line that ends it. Behind it a file may have more, as what `mscrun`
--- prints does. Where no line ends a chart, all of it is.
+-- The part of a file that is a chart's text: all lines through the one that ends the chart. A file may have more after
+-- it, as the output of `mscrun` does. If no line ends a chart, the part is the whole file.
 abbrev pub chart_part : List ℕ → List ℕ
 chart_part bytes = if list_any ends_chart (lines_of bytes) then flat_map ended (through_end (lines_of bytes)) else bytes
 
--- a text of this kind has the fault
+-- a text of this kind (a schedule or not) has the fault
 abbrev pub HasFaultSo : Bool → List ℕ → Fault → Type 0
 HasFaultSo true bytes fault = schedule_of bytes ≡ Err fault
 HasFaultSo false bytes fault = chart_of (chart_part bytes) ≡ Err fault
@@ -60,7 +60,7 @@ HasFaultSo false bytes fault = chart_of (chart_part bytes) ≡ Err fault
 abbrev pub HasFault : List ℕ → Fault → Type 0
 HasFault bytes fault = HasFaultSo (is_schedule bytes) bytes fault
 
--- the chart that the text says, refused so: the receive is named by its instance's name and its number
+-- the refusal of the chart: a receive is given by its instance's name and its number
 abbrev pub IsRefused : ProgramError → Named → Type 0
 IsRefused (errors.ReceiveWithoutSend instance index) (names, lines) =
     (p : ℕ) × (instance ≡ name_at names p) × Refuses (chart_lines lines)

@@ -1,4 +1,4 @@
--- The line that a refusal prints.
+-- The text of a refusal's line.
 use Rattle.std.specs.Prelude.{ℕ, List, [], ◌++◌, ◌⊎◌, Option, None, Some, codes, decimal}
 use Rattle.chart.specs.declared.name.NameError.{NameError}
 use Rattle.chart.specs.declared.name.NameError.TheVariants.{Empty, TooLong, BadByte, Reserved}
@@ -40,12 +40,12 @@ label (NameMismatch instance index) = codes "F17 NameMismatch"
 label Cyclic = codes "F18 Cyclic"
 label Write = codes "F24 Write"
 
--- a number behind a space
+-- a number after a space
 unfoldable pub behind_space : ℕ → List ℕ
 behind_space n = codes " " ++ decimal n
 
--- where a line's fault is: its line, and in it the place of a byte that doesn't belong; the counts of instances and
--- of a lane's slots have no line
+-- the position of a line's fault: its line, and in it the position of an invalid byte; a wrong number of instances or
+-- of a lane's slots has no line
 unfoldable pub cause_detail : ℕ → Cause → List ℕ
 cause_detail n (Name Empty) = behind_space n
 cause_detail n (Name TooLong) = behind_space n
@@ -59,11 +59,11 @@ cause_detail n Syntax = behind_space n
 cause_detail n Duplicate = behind_space n
 cause_detail n UnknownInstance = behind_space n
 
--- an event behind a space: its instance's name and its number
+-- an event after a space: its instance's name and its number
 unfoldable pub event_detail : List ℕ → ℕ → List ℕ
 event_detail instance index = codes " " ++ (instance ++ behind_space index)
 
--- where a refusal's cause is, if it is in a line of the text or at an event of the chart
+-- the position of a refusal's cause, if it is in a line of the text or at an event of the chart
 unfoldable pub detail : ProgramError → List ℕ
 detail Usage = []
 detail File = []
@@ -85,15 +85,15 @@ end_text = codes "\n"
 unfoldable pub refusal_text : ProgramError → List ℕ
 refusal_text error = start_text ++ (label error ++ (detail error ++ end_text))
 
--- a number behind a space, if there is one
+-- a number after a space, if there is one
 abbrev pub number_detail : Option ℕ → List ℕ
 number_detail None = []
 number_detail (Some n) = behind_space n
 
--- the line of a refusal with this number and name, and with a number behind them where it has one
+-- the line of a refusal with this number and name, and with a number after them, if there is one
 unfoldable pub labelled_text : List ℕ → Option ℕ → List ℕ
 labelled_text name number = start_text ++ (name ++ (number_detail number ++ end_text))
 
--- a text was written, or a beginning of it where a put failed
+-- the text was written, or a beginning of it if a put failed
 abbrev pub Tried : {S : Type 0} → (S → Sink) → S → S → List ℕ → Type 0
 Tried sink old new text = Puts sink old new text ⊎ Breaks sink old new text

@@ -1,4 +1,5 @@
--- What `--strict` refuses of a file (this project's own): a schedule of which a command did nothing, by the line of the first.
+-- What `--strict` refuses of a file (this project's own): a schedule with a command that did nothing, by the line of
+-- the first.
 use Rattle.std.specs.Prelude.{◌≡◌, ℕ, Bool, true, false, List, codes, Option, None, Some, Result, Ok, Err}
 use Rattle.texts.specs.Outs.{Sink}
 use Rattle.cmd_base.specs.Files.{is_schedule}
@@ -8,7 +9,8 @@ use Rattle.cmd_base.specs.Texts.{OfFile}
 use Rattle.cmd_base.specs.declared.error.ProgramError.{ProgramError}
 use Rattle.cmd_base.specs.declared.not_done.NotDone.{NotDone}
 
--- by whether the bytes of a file are a schedule's: which of its commands did nothing; or memory ran out, or it has a fault
+-- the commands of the file that did nothing, if the file is a schedule (`true`); or memory ran out, or the schedule has
+-- a fault
 abbrev pub FindsBy : Bool → List ℕ → Result (Option NotDone) ProgramError → Type 0
 FindsBy true bytes found = OfFile (λ error. error) (λ source done. done ≡ Ok (not_done_of source)) (tt {0}) (tt {0}) bytes found
 FindsBy false bytes found = found ≡ Ok None
@@ -16,17 +18,17 @@ FindsBy false bytes found = found ≡ Ok None
 abbrev pub Finds : List ℕ → Result (Option NotDone) ProgramError → Type 0
 Finds bytes found = FindsBy (is_schedule bytes) bytes found
 
--- the line of the refusal, with the line of the first command that did nothing
+-- the line of the refusal, with the line number of the first command that did nothing
 unfoldable pub strict_text : ℕ → List ℕ
 strict_text line = labelled_text (codes "F53 NotDone") (Some line)
 
--- by what was found: nothing is refused, or the refusal is told, with status 2
+-- by what was found: nothing is refused, or the refusal is printed, with status 2
 abbrev pub RefusesFound : {V : Type 0} → Result (Option NotDone) ProgramError → (V → Sink) → V → V → Option ℕ → Type 0
 RefusesFound (Ok None) sink old new refused = (refused ≡ None) × (new ≡ old)
 RefusesFound (Ok (Some them)) sink old new refused = (refused ≡ Some 2) × Tried sink old new (strict_text them.line)
 RefusesFound (Err error) sink old new refused = (refused ≡ Some 2) × Tried sink old new (refusal_text error)
 
--- with `--strict` a file was refused, with this status, or not; without it nothing is
+-- with `--strict` a file was refused with this status, or wasn't refused; without `--strict` nothing is refused
 abbrev pub Refuses : {V : Type 0} → Bool → List ℕ → (V → Sink) → V → V → Option ℕ → Type 0
 Refuses false bytes sink old new refused = (refused ≡ None) × (new ≡ old)
 Refuses true bytes sink old new refused =

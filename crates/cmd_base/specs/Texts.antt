@@ -1,4 +1,5 @@
--- What a file's bytes say, a schedule or a chart; where the chart comes from that they say; and what is done with it.
+-- The contents of a file, a schedule or a chart; where its chart comes from; and the result of an operation on the
+-- chart.
 use Rattle.std.specs.Prelude.{◌≡◌, ◌⊎◌, ℕ, true, false, List, Result, Ok, Err}
 use Rattle.msc_text.specs.Reader.Reading.{chart_of}
 use Rattle.texts.specs.declared.fault.Fault.{Fault}
@@ -13,16 +14,16 @@ use Rattle.cmd_base.specs.declared.source.Source.{Source}
 use Rattle.cmd_base.specs.declared.source.Source.TheVariants.{Run, Written}
 use Rattle.cmd_base.specs.Files.{Named, is_schedule, chart_part, Reads, HasFault}
 
--- the chart is what the bytes say, or they have the fault, memory aside
+-- the value is the chart in the bytes, or the error is their fault, or memory ran out
 abbrev pub ReadsChart : Result Named ProgramError → List ℕ → Type 0
 ReadsChart result bytes = Reads result (chart_of (chart_part bytes))
 
--- the bytes say this: a schedule, if their first word is a schedule's, or a chart
+-- the contents of the bytes: a schedule, if their first word is a schedule's, and otherwise a chart
 abbrev pub IsText : List ℕ → Text → Type 0
 IsText bytes (Schedule plan) = (is_schedule bytes ≡ true) × (schedule_of bytes ≡ Ok plan)
 IsText bytes (Chart named) = (is_schedule bytes ≡ false) × (chart_of (chart_part bytes) ≡ Ok named)
 
--- what was read is what the bytes say, or they have the fault, memory aside
+-- the value is the contents of the bytes, or the error is their fault, or memory ran out
 abbrev pub ReadsText : Result Text ProgramError → List ℕ → Type 0
 ReadsText (Ok text) bytes = IsText bytes text
 ReadsText (Err errors.Memory) bytes = Unit {0}
@@ -34,28 +35,28 @@ abbrev pub named_of : Source → Named
 named_of (Run schedule outcome) = (outcome.names, outcome.chart)
 named_of (Written named) = named.now
 
--- a run is what its schedule comes to
+-- a run is its schedule's outcome
 abbrev pub ComesFrom : Source → Type 0
 ComesFrom (Run schedule outcome) = IsOutcome schedule.now outcome
 ComesFrom (Written named) = Unit {0}
 
--- the text is the source's
+-- the source belongs to the text
 abbrev pub IsOf : Text → Source → Type 0
 IsOf (Schedule plan) (Run schedule outcome) = schedule.now ≡ plan
 IsOf (Schedule plan) (Written named) = ⊥
 IsOf (Chart named) (Run schedule outcome) = ⊥
 IsOf (Chart named) (Written written) = written.now ≡ named
 
--- the chart comes from the text: it is the text's own, or what its schedule comes to
+-- the chart comes from the text: it is the text's own chart, or the outcome of its schedule
 abbrev pub IsSourceOf : Text → Source → Type 0
 IsSourceOf text source = IsOf text source × ComesFrom source
 
--- the bytes say the chart
+-- the source belongs to the contents of the bytes
 abbrev pub IsReadAs : List ℕ → Source → Type 0
 IsReadAs bytes source = (text : Text) × IsText bytes text × IsSourceOf text source
 
--- What came of the chart that the bytes say, by what may come of each; or memory ran out, or the bytes have a fault,
--- and nothing was written. A program's own refusals have those of its files among them, by `program`.
+-- The result of an operation on the chart in the bytes, by `Does`; or memory ran out, or the bytes have a fault, and
+-- nothing was written. `program` converts a refusal of the file to one of the operation.
 abbrev pub OfFile : {S T E : Type 0} → (ProgramError → E) → (Source → Result T E → Type 0) → S → S → List ℕ → Result T E
     → Type 0
 OfFile program Does old new bytes done = ((done ≡ Err (program errors.Memory)) × (new ≡ old))

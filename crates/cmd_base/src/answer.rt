@@ -1,4 +1,4 @@
-//! What is told of what was done: the exit status, and a text on standard error.
+//! The diagnostics of a result: the exit status, and a text on standard error.
 ghost use Rattle.std.specs.Prelude.{◌≡◌, None};
 ghost use Rattle.cmd_base.specs.Answers.{Exit, program_exit, exit_of, Prints};
 ghost use Rattle.cmd_base.specs.Refusals.{Tried};
@@ -8,17 +8,16 @@ use crate::error::ProgramError;
 use crate::refusal::refused;
 use texts::{Out, TextBuffer, WriteError};
 
-/// What something came to, done or refused, as a program tells it.
+/// A result, or a refusal, that a program reports by its exit status and on standard error.
 pub trait Answer {
-    /// The exit status, and what is told on standard error.
+    /// The exit status, and the text for standard error.
     ghost exit: { Self → Exit };
 
-    /// The exit status: 0, or 1 where what was asked about is so, or 3 where that isn't known; 2 after a refusal.
+    /// The exit status: 0, or 1 if the answer is yes, or 3 if the answer isn't known. It is 2 after a refusal.
     fn status(&self) -> u8
         ensures { result ≡ (exit self.now).status };
 
-    /// Writes what is told to standard error, or a beginning of it where a write fails. Where there is nothing to tell,
-    /// it does nothing.
+    /// Writes the text to standard error, or a beginning of it if a write fails. Without a text it does nothing.
     fn print_diagnostics<V: Out>(&self, err: &mut V)
         ensures { Prints V.sink err.old err.new (exit self.now).diagnostics };
 }
@@ -32,14 +31,14 @@ fn write_diagnostics<V: Out>(diagnostics: &[u8], err: &mut V) -> Result<(), Writ
     text.finish()
 }
 
-/// Writes what is told, or a beginning of it where that fails.
+/// Writes the text, or a beginning of it if a write fails.
 pub fn print_diagnostics<V: Out>(diagnostics: &[u8], err: &mut V)
     ensures { Tried V.sink err.old err.new diagnostics.now }
 {
     let _ = write_diagnostics(diagnostics, err);
 }
 
-/// Nothing to tell: status 0.
+/// No text: status 0.
 impl Answer for () {
     ghost exit = { λ _. record { status = 0; diagnostics = None } };
 
@@ -81,7 +80,7 @@ impl<T: Answer, E: Answer> Answer for Result<T, E> {
     }
 }
 
-/// Tells what something came to, and answers the exit status. A failed write to `err` changes nothing.
+/// Prints the text of the result, and returns the exit status. A failed write to `err` changes nothing.
 pub fn answered<A: Answer, V: Out>(answer: &A, err: &mut V) -> u8
     ensures status { result ≡ (A.exit answer.now).status }
     ensures diagnostics { Prints V.sink err.old err.new (A.exit answer.now).diagnostics }

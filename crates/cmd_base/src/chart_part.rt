@@ -1,11 +1,11 @@
-//! What of a file is a chart's text.
+//! The part of a file that is a chart's text.
 ghost use Rattle.std.specs.Prelude.{◌≡◌};
 ghost use Rattle.cmd_base.specs.Files.{chart_part};
 
 use texts::next_line;
 
-/// The text through the first line that ends a chart, or all of it where none does. So what `mscrun` printed says its
-/// chart: the races and notes behind it are no part of it.
+/// The text up to and including the first line that ends a chart, or the whole text if no line does. So the output of
+/// `mscrun` can be read as a chart: the races and notes below the chart are no part of it.
 pub(crate) fn chart_part(bytes: &[u8]) -> &[u8]
     ensures { result.now ≡ chart_part bytes.now }
 {

@@ -1,4 +1,4 @@
-//! Charts that texts say, and whether some run has them.
+//! Charts in texts, and whether some run has them.
 ghost use Rattle.std.specs.Prelude.{◌≡◌, ◌⊎◌, List, length, OnOk, IfErr, IfOk};
 ghost use Rattle.chart.specs.Charts.{LineView, chart_lines, IsPossible};
 ghost use Rattle.closure.specs.Faults.{Refuses};
@@ -12,7 +12,7 @@ use msc_text::reader::read;
 use std::alloc::Global;
 use texts::{TextError, named};
 
-/// The names and the chart that the text says. A refusal is the first fault of the text, or F6.
+/// The names and the chart in the text. A refusal is the first fault of the text, or F6.
 pub fn chart_in(alloc: Global, text: &[u8]) -> Result<(Names, Chart), ProgramError>
     ensures read { Reads result (chart_of text.now) }
     ensures named { IfOk result (λ read. length read.0 ≡ length read.1) }
@@ -24,7 +24,7 @@ pub fn chart_in(alloc: Global, text: &[u8]) -> Result<(Names, Chart), ProgramErr
     }
 }
 
-/// The refusal of the chart, by the names of its instances.
+/// The refusal of the chart, with the name of the instance if it is about an event.
 fn refusal(names: &Names, error: ChartError) -> ProgramError
     requires { (lines : List LineView) × (length names.now ≡ length lines) × Refuses (chart_lines lines) error }
     ensures { (lines : List LineView) → Refuses (chart_lines lines) error
@@ -44,7 +44,8 @@ fn refusal(names: &Names, error: ChartError) -> ProgramError
     }
 }
 
-/// The closure of the chart, if it is possible. Any other is refused by F16, F17 or F18, or F6.
+/// The closure of the chart, if the chart is possible. Any other chart is refused by F16, F17 or F18. F6: a growth was
+/// refused.
 pub fn closure_of<'a>(
     alloc: Global,
     names: &Names,

@@ -1,8 +1,8 @@
-//! Which instances have a column, by what a command line names, and what refuses that.
+//! Which instances have a column, by the names on a command line, and the refusals.
 //!
-//! What is promised ([`columns_in`]): the columns are those of the instances whose names the bytes are, or all of
-//! them where there are no bytes. A name that is none of the chart's, or is there twice, is refused (F34), and
-//! memory at a growth alone.
+//! What is promised ([`columns_in`]): the columns are those of the named instances. Without names, all instances have a
+//! column. A name that the chart doesn't have, or that is given twice, is refused (F34). F6 means that a growth was
+//! refused.
 
 mod answering;
 mod columns;

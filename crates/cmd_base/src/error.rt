@@ -1,25 +1,25 @@
-//! What the program refuses.
+//! The refusals of the program.
 
 use chart::Name;
 use texts::Fault;
 use thiserror::Error;
 
-/// Why the program did not do what it was asked to.
+/// Why the program did not do what was asked.
 #[derive(Clone, Copy, Debug, PartialEq, Eq, Error)]
 pub enum ProgramError {
     /// G1: the command line doesn't parse, or asks for help.
     #[error("the command line doesn't parse")]
     Usage,
-    /// G2: the file can't be opened or read, for another cause than memory.
+    /// G2: the file can't be opened or read, for a cause other than memory.
     #[error("the file can't be read")]
     File,
     /// F6: a growth was refused.
     #[error("out of memory")]
     Memory,
-    /// F1 to F4, F7 to F9, F13, F20 to F23: what is wrong with the text.
+    /// F1 to F4, F7 to F9, F13, F20 to F23: the fault of the text.
     #[error("{0}")]
     Text(Fault),
-    /// F16: on the lane of this receive fewer messages were sent than were received up to it.
+    /// F16: on the lane of this receive fewer messages were sent than were received up to and including it.
     #[error("a message is received that was not sent")]
     ReceiveWithoutSend {
         /// The name of the receive's instance.

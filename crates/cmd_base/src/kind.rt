@@ -1,10 +1,11 @@
-//! Which kind of text a file has.
+//! Whether a text is a schedule or a chart.
 ghost use Rattle.std.specs.Prelude.{◌≡◌};
 ghost use Rattle.cmd_base.specs.Files.{is_schedule};
 
 use texts::{next_line, next_word};
 
-/// Whether the first word of the text's first line is a schedule's. It is else read as a chart's text.
+/// Whether the first word of the text's first line is `instances`, with which a schedule begins. Any other text is read
+/// as a chart.
 pub fn is_schedule(text: &[u8]) -> bool
     ensures { result ≡ is_schedule text.now }
 {

@@ -1,17 +1,17 @@
-//! What the programs have in common: what the bytes of a file say, and how a refusal is written.
+//! What the programs have in common: how the bytes of a file are read, and how a refusal is written.
 //!
 //! What is promised:
 //!
-//! - [`schedule_in`] and [`chart_in`] answer what the text says, or its first fault. [`is_schedule`] tells which of
-//!   the two a file is by its first word.
-//! - [`closure_of`] takes exactly the charts that some run has, and refuses any other by its first fault.
-//! - [`refused`] and [`refused_by`] write a refusal's line, or a beginning of it, and answer the exit status 2.
-//! - [`Source::not_done`] has of a schedule how many commands did nothing, and the line of the first, which the line of
-//!   [`print_not_done`] tells. [`refused_strictly`] refuses a schedule that has some.
-//! - [`number_in`] reads exactly the words of digits alone whose number has 64 bits.
+//! - [`schedule_in`] and [`chart_in`] return the contents of the text, or its first fault. [`is_schedule`]
+//!   distinguishes a schedule from a chart by the first word.
+//! - [`closure_of`] accepts exactly the charts that some run has. It refuses any other chart by its first fault.
+//! - [`refused`] and [`refused_by`] write a refusal's line, or a beginning of it, and return the exit status 2.
+//! - [`Source::not_done`] returns how many commands of a schedule did nothing, and the line of the first one.
+//!   [`print_not_done`] prints both. [`refused_strictly`] refuses a schedule with such commands.
+//! - [`number_in`] accepts exactly the words that consist of digits only and whose number fits in 64 bits.
 //!
-//! [`named`] writes refusals that name an instance, [`columns`] reads which instances are shown, and [`pairs`]
-//! which two events are asked about.
+//! [`named`] writes refusals that name an instance, [`columns`] reads which instances are shown, and [`pairs`] reads a
+//! pair of events that a command line names.
 #![tactic(auto)]
 
 mod answer;

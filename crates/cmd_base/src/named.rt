@@ -1,11 +1,11 @@
-//! Refusals that name an instance of the chart: what is asked for, what is missing, and the line.
+//! Refusals that name an instance of the chart: the event that was asked for, what is missing, and the line.
 //!
-//! What is asked for is an instance by the bytes of its name ([`instance_named`]), and an event by its number on the
-//! instance's line ([`has_event`]).
+//! [`instance_named`] finds an instance by the bytes of its name. [`has_event`] finds out whether the instance's line
+//! has an event of a number.
 //!
 //! What is promised ([`refused_at`], [`refused_missing`]): the line has the refusal's number and name, then the
-//! name of the instance, and then a number where there is one. It was written, or a beginning of it where a put
-//! failed. Nothing here takes memory.
+//! instance's name, then a number, if there is one. The line was written, or a beginning of it if a put failed. Nothing
+//! here takes memory.
 
 mod asked;
 mod line;

@@ -1,5 +1,4 @@
-//! What is told of a schedule's commands that did nothing: its chart lacks them, so a race with one of them is not
-//! shown.
+//! The line about a schedule's commands that did nothing. The chart lacks them, so races with them are not shown.
 ghost use Rattle.std.specs.Prelude.{◌≡◌, ◌<◌};
 ghost use Rattle.cmd_base.specs.Answers.{Prints};
 ghost use Rattle.cmd_base.specs.NotDone.{first_of, one_text, several_text, not_done_text, not_done_exit, told_of};
@@ -11,8 +10,7 @@ use schedule::Note;
 use texts::pieces::{Piece, add_pieces};
 use texts::{Out, TextBuffer, WriteError};
 
-/// The commands of a schedule that did nothing, of which there is at least one: how many they are, and the line of the
-/// first, from 1.
+/// The commands of a schedule that did nothing, at least one: how many there are, and the line of the first, from 1.
 #[derive(Clone, Copy, Debug, PartialEq, Eq)]
 pub struct NotDone {
     pub count: u64,
@@ -20,7 +18,7 @@ pub struct NotDone {
 }
 
 impl NotDone {
-    /// Those that the notes of a schedule's outcome are of, or none.
+    /// The commands to which these notes of a schedule's outcome belong. Without notes there is no value.
     pub fn of(notes: &[Note]) -> Option<NotDone>
         ensures { result ≡ first_of notes.now }
     {
@@ -31,7 +29,7 @@ impl NotDone {
         })
     }
 
-    /// Adds what is told of them: a line. F24: a put failed.
+    /// Adds the line about them. F24: a put failed.
     pub fn add_to<V: Out>(&self, text: &mut TextBuffer<'_, V>) -> Result<(), WriteError>
         ensures { Adds V.sink text.old text.new result (not_done_text self.now) }
     {
@@ -58,7 +56,7 @@ fn add_one<V: Out>(text: &mut TextBuffer<'_, V>, line: u64) -> Result<(), WriteE
     )
 }
 
-/// Adds that so many did.
+/// Adds that several commands did nothing.
 #[tactic(auto, unfolding(crate::specs::NotDone::several_text))]
 fn add_several<V: Out>(
     text: &mut TextBuffer<'_, V>,
@@ -87,8 +85,8 @@ fn write_not_done<V: Out>(not_done: &NotDone, err: &mut V) -> Result<(), WriteEr
     text.finish()
 }
 
-/// Writes what is told of a schedule's commands that did nothing, or a beginning of it where that fails; of none
-/// nothing.
+/// Writes the line about a schedule's commands that did nothing, or a beginning of it if a write fails. Without such
+/// commands it writes nothing.
 pub fn print_not_done<V: Out>(not_done: &Option<NotDone>, err: &mut V)
     ensures { Prints V.sink err.old err.new (told_of not_done.now) }
 {
@@ -97,7 +95,8 @@ pub fn print_not_done<V: Out>(not_done: &Option<NotDone>, err: &mut V)
     }
 }
 
-/// A chart was written that may be a schedule's: status 0, and which of its commands did nothing.
+/// A chart was written, perhaps that of a schedule. The status is 0, and the text is the line about the commands that
+/// did nothing.
 impl Answer for Option<NotDone> {
     ghost exit = { not_done_exit };
 

@@ -1,4 +1,4 @@
-//! Numbers, as a word of a command line says them.
+//! Numbers in words of a command line.
 ghost use Rattle.std.specs.Prelude.{◌≡◌};
 ghost use Rattle.std.specs.Char.{is_ascii_digit};
 ghost use Rattle.std.specs.List.{list_all};
@@ -12,7 +12,8 @@ fn are_digits(word: &str) -> bool
     word.as_bytes().iter().all(|byte| byte.is_ascii_digit())
 }
 
-/// The number that the word says: any one of 64 bits, in decimal digits alone. Zeros may stand before it, and no sign.
+/// The number in the word, if it fits in 64 bits. The word consists of decimal digits only. It may have leading zeros,
+/// but no sign.
 pub fn number_in(word: &str) -> Option<u64>
     ensures { SomeIff result (IsNumber word.now) (number_of word.now) }
 {

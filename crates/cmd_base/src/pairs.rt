@@ -1,11 +1,11 @@
-//! Two events that are asked about, what refuses them, and the lines that explain them.
+//! A pair of events that a command line names, its refusals, and the lines that explain it.
 //!
 //! What is promised:
 //!
-//! - [`pair_in`] finds exactly the receive and the earlier event of its line that the words name, or refuses them
+//! - [`pair_in`] finds exactly the receive and the earlier event of its line that the words name, or refuses the words
 //!   (F31, F32).
-//! - [`refused`] prints the refusal's line, or a beginning of it where standard error failed.
-//! - [`write_sayings`] and [`write_chain`] write exactly their lines, unless a write failed (F24). Nothing here takes
+//! - [`refused`] prints the refusal's line, or a beginning of it if standard error fails.
+//! - [`write_sayings`] and [`write_chain`] write exactly their lines, unless a write fails (F24). Nothing here takes
 //!   memory.
 
 mod answering;

@@ -1,4 +1,4 @@
-//! Refusals as text.
+//! The text of refusals.
 ghost use Rattle.std.specs.Prelude.{◌≡◌};
 ghost use Rattle.texts.specs.Writing.{Wrote, Adds};
 ghost use Rattle.cmd_base.specs.Refusals.{name_label, cause_label, label, behind_space, cause_detail, event_detail};
@@ -139,7 +139,7 @@ fn write_refusal<W: Out>(error: &ProgramError, out: &mut W) -> Result<(), WriteE
     text.finish()
 }
 
-/// Prints the line of a refusal, and answers the exit status, which is 2 whether or not the line could be written.
+/// Prints the line of a refusal. Returns the exit status, which is 2 even if the line could not be written.
 pub fn refused<V: Out>(error: &ProgramError, err: &mut V) -> u8
     ensures status { result ≡ 2 }
     ensures line { Tried V.sink err.old err.new (refusal_text error.now) }
@@ -183,8 +183,8 @@ fn write_labelled<W: Out>(label: &[u8], number: Option<u64>, out: &mut W) -> Res
     text.finish()
 }
 
-/// Prints the line of a refusal that is another program's own, by its number and name, with a number behind them
-/// where it has one, and answers the exit status, which is 2 whether or not the line could be written.
+/// Prints the line of a refusal that only another program has: its number and name, and a number after them, if there
+/// is one. Returns the exit status, which is 2 even if the line could not be written.
 pub fn refused_by<V: Out>(label: &[u8], number: Option<u64>, err: &mut V) -> u8
     ensures status { result ≡ 2 }
     ensures line { Tried V.sink err.old err.new (labelled_text label.now number) }

@@ -1,4 +1,4 @@
-//! Schedules that texts say.
+//! Schedules in texts.
 ghost use Rattle.cmd_base.specs.Files.{Reads};
 ghost use Rattle.schedule.specs.Reading.{schedule_of};
 
@@ -7,7 +7,7 @@ use schedule::Schedule;
 use std::alloc::Global;
 use texts::TextError;
 
-/// The schedule that a file's bytes say. A refusal is the text's first fault, or F6.
+/// The schedule in the bytes of a file. A refusal is the text's first fault, or F6.
 pub fn schedule_in(alloc: Global, text: &[u8]) -> Result<Schedule, ProgramError>
     ensures { Reads result (schedule_of text.now) }
 {

@@ -1,4 +1,4 @@
-//! Where a chart comes from that a file says: its own text, or the run of a schedule.
+//! The source of a file's chart: a text of its own, or the run of a schedule.
 ghost use Rattle.std.specs.Prelude.{◌≡◌, length, IfOk, IfErr};
 ghost use Rattle.cmd_base.specs.NotDone.{not_done_of};
 ghost use Rattle.cmd_base.specs.Texts.{IsSourceOf, named_of};
@@ -12,17 +12,17 @@ use schedule::outcomes::{Outcome, ReplayError};
 use schedule_replay::replay;
 use std::alloc::Global;
 
-/// Where a chart comes from.
+/// The source of a chart.
 #[derive(Debug, Drop)]
 pub enum Source<'a> {
-    /// A schedule, with what it came to.
+    /// A schedule, with its outcome.
     Run(&'a Schedule, Outcome<'a>),
     /// The chart's own text.
     Written(&'a NamedChart),
 }
 
 impl<'a> Source<'a> {
-    /// The chart that a text says, or that its schedule comes to. F6: a growth was refused.
+    /// The chart in a text, or the chart of the text's schedule. F6: a growth was refused.
     pub fn of(alloc: Global, text: &'a Text) -> Result<Source<'a>, ProgramError>
         ensures source { IfOk result (IsSourceOf text.now) }
         ensures memory { IfErr result (λ error. error ≡ ProgramError.Memory) }
@@ -46,7 +46,7 @@ impl<'a> Source<'a> {
         }
     }
 
-    /// Of a schedule the commands that did nothing, which its chart lacks; of a chart's own text none.
+    /// The commands of a schedule that did nothing, which its chart lacks. A chart with a text of its own has none.
     pub fn not_done(&self) -> Option<NotDone>
         ensures { result ≡ not_done_of self.now }
     {

@@ -1,23 +1,23 @@
-//! The exit status by whether there are races, where that is known.
+//! The exit status that reports whether there are races, if that is known.
 ghost use Rattle.std.specs.Prelude.{◌≡◌};
 ghost use Rattle.cmd_base.specs.Statuses.{status_in, code_of, status_exit};
 
 use crate::answer::Answer;
 use texts::Out;
 
-/// Whether there are races, or some race is shown, where that is known.
+/// Whether there are races, or some race is shown, if that is known.
 #[derive(Clone, Copy, Debug, PartialEq, Eq)]
 pub enum Status {
     /// No receive has a race, or none is shown.
     NoRaces,
-    /// Some receive has one, which is shown.
+    /// Some receive has a race, which is shown.
     Races,
-    /// None is shown, and whether there is one that would be isn't known.
+    /// No race is shown, and whether there is one to show isn't known.
     NotKnown,
 }
 
 impl Status {
-    /// By whether there are races, or some race is shown.
+    /// The status for whether there are races, or some race is shown.
     pub fn of(has_races: bool) -> Status
         ensures { result ≡ status_in has_races }
     {
@@ -40,7 +40,7 @@ impl Status {
     }
 }
 
-/// Nothing is told beside the status.
+/// No text, only the status.
 impl Answer for Status {
     ghost exit = { status_exit };
 

@@ -1,4 +1,4 @@
-//! What `--strict` refuses of a file: a schedule of which a command did nothing, since its chart lacks that.
+//! What `--strict` refuses: a schedule with a command that did nothing, because the chart lacks it.
 ghost use Rattle.std.specs.Prelude.{◌≡◌, true};
 ghost use Rattle.cmd_base.specs.Refusals.{Tried};
 ghost use Rattle.cmd_base.specs.Strict.{FindsBy, Finds, RefusesFound, Refuses, strict_text};
@@ -12,7 +12,8 @@ use crate::text::Text;
 use std::alloc::Global;
 use texts::Out;
 
-/// The commands that did nothing of what the bytes of a file say. A refusal is the text's first fault, or F6.
+/// The commands that did nothing in the schedule or chart of a file's bytes. A refusal is the text's first fault, or
+/// F6.
 fn not_done_of(alloc: Global, bytes: &[u8]) -> Result<Option<NotDone>, ProgramError>
     ensures { FindsBy true bytes.now result }
 {
@@ -21,7 +22,7 @@ fn not_done_of(alloc: Global, bytes: &[u8]) -> Result<Option<NotDone>, ProgramEr
     Ok(source.not_done())
 }
 
-/// Those of a schedule; of any other file none.
+/// The commands of a schedule that did nothing. Any other file has none.
 fn not_done_in(alloc: Global, bytes: &[u8]) -> Result<Option<NotDone>, ProgramError>
     ensures { Finds bytes.now result }
 {
@@ -32,7 +33,7 @@ fn not_done_in(alloc: Global, bytes: &[u8]) -> Result<Option<NotDone>, ProgramEr
     }
 }
 
-/// Tells that a command did nothing, the first that did, and answers the exit status.
+/// Prints the refusal with the line of the first command that did nothing, and returns the exit status.
 #[tactic(auto, unfolding(crate::specs::Strict::strict_text))]
 fn refused_at_line<V: Out>(line: u64, err: &mut V) -> u8
     ensures status { result ≡ 2 }
@@ -41,7 +42,7 @@ fn refused_at_line<V: Out>(line: u64, err: &mut V) -> u8
     refused_by(b"F53 NotDone", Some(line), err)
 }
 
-/// Refuses what was found, if there is something to refuse.
+/// Prints the refusal for what was found, if there is one.
 fn refused_for<V: Out>(found: &Result<Option<NotDone>, ProgramError>, err: &mut V) -> Option<u8>
     ensures { RefusesFound found.now V.sink err.old err.new result }
 {
@@ -52,9 +53,9 @@ fn refused_for<V: Out>(found: &Result<Option<NotDone>, ProgramError>, err: &mut 
     }
 }
 
-/// With `--strict` refuses a file that is a schedule of which a command did nothing (F53), and writes the refusal's
-/// line to `err`. The schedule's own faults and F6 are refused before. Answers the exit status of the refusal, which is
-/// 2, or none where nothing is refused. A failed write to `err` changes nothing.
+/// With `--strict`, refuses a schedule with a command that did nothing (F53), and writes the refusal's line to `err`.
+/// The schedule's own faults and F6 are refused first. Returns the exit status of the refusal, which is 2, or no status
+/// if nothing is refused. A failed write to `err` changes nothing.
 pub fn refused_strictly<V: Out>(
     alloc: Global,
     is_strict: bool,

@@ -1,4 +1,4 @@
-//! What a file's bytes say: a schedule, or a chart.
+//! The contents of a file: a schedule, or a chart.
 ghost use Rattle.std.specs.Prelude.{◌≡◌, length};
 ghost use Rattle.cmd_base.specs.Texts.{ReadsChart, ReadsText};
 
@@ -12,7 +12,7 @@ use schedule::Schedule;
 use std::alloc::Global;
 use std::marker::Model;
 
-/// A chart with a name for each of its lines. A contract sees the names and the lines.
+/// A chart with a name for each of its lines. Contracts see the names and the lines.
 #[derive(Debug, Drop)]
 pub struct NamedChart {
     names: Names,
@@ -31,8 +31,8 @@ impl Model for NamedChart {
 }
 
 impl NamedChart {
-    /// The chart that the bytes say, with or without what `mscrun` prints behind it. A refusal is the first fault of
-    /// the text, or F6.
+    /// The chart in the bytes, which may have more output of `mscrun` after it. A refusal is the first fault of the
+    /// text, or F6.
     fn read(alloc: Global, bytes: &[u8]) -> Result<NamedChart, ProgramError>
         ensures { ReadsChart result bytes.now }
     {
@@ -56,7 +56,7 @@ impl NamedChart {
     }
 }
 
-/// What a file's bytes say.
+/// The contents of a file.
 #[derive(Debug, Drop)]
 pub enum Text {
     Schedule(Schedule),
@@ -64,8 +64,8 @@ pub enum Text {
 }
 
 impl Text {
-    /// What the bytes say: a schedule, if their first word is a schedule's, and else a chart. What stands behind a
-    /// chart's last line is left alone. A refusal is the first fault of the text, or F6.
+    /// The contents of the bytes: a schedule, if their first word is a schedule's, and otherwise a chart. The lines
+    /// after a chart's last line are ignored. A refusal is the first fault of the text, or F6.
     pub fn read(alloc: Global, bytes: &[u8]) -> Result<Text, ProgramError>
         ensures { ReadsText result bytes.now }
     {

@@ -1,4 +1,4 @@
--- What is told of two charts, by what was found for them.
+-- The text of two charts, by the differences that were found.
 use Rattle.std.proofs.Common.{◌≡◌, ℕ, List, length, refl, ap, ◌∙◌, subst}
 use Rattle.std.specs.List.{flat_map, list_any}
 use Rattle.chart.specs.Charts.{LineView, chart_lines}
@@ -26,7 +26,7 @@ compared_so form a b others back o1 b1 here there lines l1 found forth_is back_i
   found_is = is ∙ ap (λ (l : List LineComparison). found_in (list_any has_difference l)) le;
 }
 
--- the same text by equal parts
+-- equal parts have the same text
 pub text_so : (form : Form) (na nb : List (List ℕ)) (la lb la1 lb1 : List LineView) (ls ls1 : List LineComparison) → la1 ≡ la → lb1 ≡ lb → ls1 ≡ ls → flat_map (line_text form (na, la1) (nb, lb1)) ls1 ≡ flat_map (line_text form (na, la) (nb, lb)) ls
 text_so form na nb la lb la1 lb1 ls ls1 ae be le =
     ap (λ (l : List LineView). flat_map (line_text form (na, l) (nb, lb1)) ls1) ae

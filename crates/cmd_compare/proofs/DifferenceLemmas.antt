@@ -1,4 +1,4 @@
--- That what is found for a line is exactly what the recordings differ in there.
+-- The result for a line has exactly the differences of the recordings there.
 use Rattle.std.proofs.Common.{◌≡◌, ℕ, zero, suc, ◌+◌, ◌<◌, ◌↔◌, List, [], ◌∷◌, ◌++◌, length, map, Option, None, Some, refl, sym, ap, ◌∙◌, subst, arith, add-one}
 use Rattle.std.specs.Prelude.{Contains}
 use Rattle.std.proofs.lemmas.Option.{same_Some, slice_get-get_or}
@@ -21,7 +21,7 @@ use Rattle.cmd_compare.proofs.PairLemmas.{pair_by-has, has-pair_by, pairs_to-has
 use Rattle.cmd_compare.proofs.VerdictLemmas.{verdict_right, one_verdict}
 
 module _ (others : List ℕ) (a b : List Event) where
-  -- an event is one event there
+  -- an event has at most one match
   one_there : (i j k : ℕ) → AreOne others a b i j → AreOne others a b i k → j ≡ k
   one_there i j k (m, at_m, its) (n, at_n, also) =
       let e = same_Some n m (sym at_n ∙ at_m) in
@@ -29,7 +29,7 @@ module _ (others : List ℕ) (a b : List Event) where
       same_from_tally (is_at (end_there others (end_of m))) b j k its.0.there one.0.there (sym its.0.turn ∙ one.0.turn)
 
   module _ (found : List (Option ℕ)) (are : AreMatches others a b found) (whole : length found ≡ length a) where
-    -- what was found is what it is there
+    -- what was found is a match
     pub found_there : (i j : ℕ) → i < length found → found_at found i ≡ Some j → AreOne others a b (i + 1) j
     found_there i j within is =
         subst (λ x. AreOne others a b x j) (sym (add-one i)) (are i (Some j) (slice_get-get_or found i None within ∙ ap (λ x. Some x) is))
@@ -38,7 +38,7 @@ module _ (others : List ℕ) (a b : List Event) where
     found_none i within is j one =
         are i None (slice_get-get_or found i None within ∙ ap (λ x. Some x) is) j (subst (λ x. AreOne others a b x j) (add-one i) one)
 
-    -- and what it is there was found
+    -- and each match was found
     pub there_found : (i j : ℕ) → AreOne others a b i j → (k : ℕ) × (i ≡ k + 1) × (k < length found) × (found_at found k ≡ Some j)
     there_found zero j one = absurd (let w = ith_within a zero one.0 one.1 in omega (arith, w.0))
     there_found (suc k) j one =
@@ -51,7 +51,7 @@ module _ (others : List ℕ) (a b : List Event) where
         by_value (Some l) is within =
             is ∙ ap (λ x. Some x) (one_there (suc k) l j (subst (λ x. AreOne others a b x l) (add-one k) (found_there k l within is)) one)
 
-    -- the events that aren't there are those for which nothing was found
+    -- the events that the other line lacks are those without a match
     pub only_here : (i : ℕ) → Contains (unmatched_to found (length found)) i ↔ IsOnlyHere others a b i
     only_here i = (
       λ has.
@@ -75,7 +75,7 @@ module _ (others : List ℕ) (a b : List Event) where
             subst (λ x. Contains (unmatched_to found (length found)) x) (add-one k)
             (has-unmatched_to found (length found) k within (none_at k within (λ j one. is.only j (subst (λ x. AreOne others a b x j) (add-one k) one)) (found_at found k) refl))
 
--- a difference by its parts
+-- equal parts make the same difference
 same_difference : (p : ℕ) (pair : Pair) (v w : Verdict) (x : Difference) → p ≡ x.instance → pair ≡ x.pair → v ≡ x.here → w ≡ x.there → record { instance = p; pair = pair; here = v; there = w } ≡ x
 same_difference p pair v w x a b c d =
     ap (λ q. record { instance = q; pair = pair; here = v; there = w }) a
@@ -127,7 +127,7 @@ module _ (others : List ℕ) (c d : Chart) (p : ℕ) (found : List (Option ℕ))
       subst (λ (y : Difference). Contains (map judged_so (pairs_to found (length found))) y) all
       (has-map judged_so (pairs_to found (length found)) x.pair (subst (λ (y : Pair). Contains (pairs_to found (length found)) y) same in_list))
 
-  -- the pairs that are found, with their verdicts, are the differences
+  -- the pairs that were found, with their verdicts, are the differences
   pub are_differences : AreDifferences others c d p (map judged_so (pairs_to found (length found)))
   are_differences = record {
     rising = map-rises judged_so (pairs_to found (length found)) (λ x. refl) (pairs_to-rises found (length found));
@@ -139,7 +139,7 @@ module _ (others : List ℕ) (c d : Chart) (p : ℕ) (found : List (Option ℕ))
     );
   }
 
--- where no pair is found there is no difference
+-- if no pair was found, there is no difference
 pub no_differences : (others : List ℕ) (c d : Chart) (p : ℕ) (found : List (Option ℕ)) → AreMatches others (c p) (d (other_of others p)) found → length found ≡ length (c p) → pairs_to found (length found) ≡ [] → AreDifferences others c d p []
 no_differences others c d p found are whole none = record {
   rising = λ i j e less within. absurd (omega (arith, within));
@@ -163,14 +163,14 @@ AreCompared-push others back c d n lines line old new = record {
   each = each-push (λ i x. IsCompared others back c d (suc i) x) lines line old.each (subst (λ i. IsCompared others back c d (suc i) line) (sym old.whole) new);
 }
 
--- what was made of a line's pairs
+-- the differences, from a line's pairs
 pub differences_so : (others : List ℕ) (c d : Chart) (p q : ℕ) (found : List (Option ℕ)) (a b : List Event) (f g : List ℕ) (pairs : List Pair) (xs : List Difference) → AreMatches others (c p) (d (other_of others p)) found → length found ≡ length (c p) → q ≡ other_of others p → a ≡ c p → b ≡ d q → IsSound c → IsSound d → AreFronts c p f → AreFronts d q g
     → pairs ≡ pairs_to found (length found) → xs ≡ map (judged p a f b g) pairs → AreDifferences others c d p xs
 differences_so others c d p q found a b f g pairs xs are whole qe ae be sc sd af bf pe made =
     let is = made ∙ ap (λ (l : List Event). map (judged p l f b g) pairs) ae ∙ ap (λ (l : List Event). map (judged p (c p) f l g) pairs) (be ∙ ap d qe) ∙ ap (map (judged p (c p) f (d (other_of others p)) g)) pe in
     subst (λ (l : List Difference). AreDifferences others c d p l) (sym is) (are_differences others c d p found f g are whole sc sd af (subst (λ x. AreFronts d x g) qe bf))
 
--- what was found of the events that the other line has not
+-- the numbers of the events that the other line lacks
 pub only_so : (others : List ℕ) (a b a1 b1 : List Event) (found f : List (Option ℕ)) (numbers : List ℕ) → AreMatches others a b found → length found ≡ length a → a ≡ a1 → b ≡ b1 → f ≡ found → numbers ≡ unmatched_to f (length f) → AreOnlyHere others a1 b1 numbers
 only_so others a b a1 b1 found f numbers are whole ae be fe made =
     subst (λ (l : List Event). AreOnlyHere others l b1 numbers) ae

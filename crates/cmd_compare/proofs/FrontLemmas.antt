@@ -1,4 +1,4 @@
--- How many first events of its line come before a receive, by its report.
+-- The front of a receive, by its report.
 use Rattle.std.proofs.Common.{◌≡◌, ℕ, zero, suc, ◌+◌, ◌-◌, ◌*◌, ◌<◌, ◌≤◌, inl, inr, Bool, true, false, cond, List, [], ◌∷◌, ◌++◌, length, drop, map, get_or, set, All, Some, refl, sym, ap, ◌∙◌, subst, arith}
 use Rattle.std.specs.Prelude.{Contains, AllPairs, nat_lt, slice_get}
 use Rattle.std.proofs.lemmas.Bool.{cases_lt, cases_eq, cases_Bool, lt-ltb, false≢true}
@@ -26,12 +26,12 @@ use Rattle.cmd_compare.specs.Verdicts.{IsFront, AreFronts}
 use Rattle.cmd_compare.proofs.PairLemmas.{has_none, has-map, map-has}
 use Rattle.cmd_compare.proofs.ReceiveLemmas.{is_receive, receive_is}
 
--- the first of a rising list is the least
+-- the first element of a rising list is the least
 first_least : (x : ℕ) (xs : List ℕ) → AllPairs (λ i j. i < j) (x ∷ xs) → (y : ℕ) → Contains (x ∷ xs) y → x ≤ y
 first_least x xs rising y (zero, within, is) = omega (arith, is)
 first_least x xs rising y (suc k, within, is) = omega (arith, rising 0 (suc k) y (omega arith) within, is)
 
--- the front of some ranges of races is that of the first one
+-- the front from some ranges of races is that of the first range
 pub front_of_range : (receive : EventNo) (r : EventRange) (ranges : List EventRange) → IsRange r → front_by receive (events_in (r ∷ ranges)) ≡ r.first.index - 1
 front_of_range receive r ranges is = by_count r.count refl
   where
@@ -39,7 +39,7 @@ front_of_range receive r ranges is = by_count r.count refl
     by_count zero none = absurd (omega (arith, is.some, none))
     by_count (suc n) some = ap (λ k. front_by receive (events_from r.first.instance r.first.index k ++ events_in ranges)) some
 
--- of some ranges, the first of which is read
+-- some ranges, of which the first was read
 pub front_of_first : (receive : EventNo) (ranges : List EventRange) (r : EventRange) → 1 ≤ length ranges → r ≡ get_or ranges 0 r → All IsRange ranges → front_by receive (events_in ranges) ≡ r.first.index - 1
 front_of_first receive [] r some is all = absurd (omega (arith, some))
 front_of_first receive (x ∷ ranges) r some is all = front_of_range receive x ranges (All-head IsRange x ranges all) ∙ ap (λ (y : EventRange). y.first.index - 1) (sym is)
@@ -47,7 +47,7 @@ front_of_first receive (x ∷ ranges) r some is all = front_of_range receive x r
 abbrev report_at : ℕ → ℕ → List EventNo → ReportView
 report_at p i races = record { receive = record { instance = p; index = i }; earlier = races }
 
--- by a receive's report it is its front
+-- the front from a receive's report is the receive's front
 front_is : (c : Chart) → IsSound c → (p i q : ℕ) → IsReceiveFrom c q (at p i) → (races : List EventNo) → IsReportIn c (record { receive = record { instance = p; index = i }; earlier = races })
     → IsFront c (at p i) (front_by (record { instance = p; index = i }) races)
 front_is c sound p i q received races report = λ e earlier outside.
@@ -96,7 +96,7 @@ front_is c sound p i q received races report = λ e earlier outside.
         let least = first_least x.index (map (λ (race : EventNo). race.index) xs) report.exact.rising j has in
         omega (arith, least, low, begun)
 
--- Fronts that are put down.
+-- Fronts that are stored.
 
 one_length : (fronts : List ℕ) (receive : EventNo) (front : ℕ) → length (with_front fronts receive front) ≡ length fronts
 one_length fronts receive front = by_test (nat_lt (number_of receive) (length fronts))
@@ -123,12 +123,12 @@ pub all_length : (reports : List ReportView) (fronts : List ℕ) → length (wit
 all_length [] fronts = refl
 all_length (r ∷ rs) fronts = all_length rs (with_front fronts r.receive (front_of r)) ∙ one_length fronts r.receive (front_of r)
 
--- one more
+-- one more report
 pub with_fronts-push : (reports : List ReportView) (report : ReportView) (fronts : List ℕ) → with_fronts fronts (reports ++ report ∷ []) ≡ with_front (with_fronts fronts reports) report.receive (front_of report)
 with_fronts-push [] report fronts = refl
 with_fronts-push (r ∷ rs) report fronts = with_fronts-push rs report (with_front fronts r.receive (front_of r))
 
--- what holds of each report's front holds of what is put down for it
+-- if Q holds of each report's front, it holds of the stored fronts
 module _ (Q : ℕ → ℕ → Type 0) where
   abbrev Its : ReportView → Type 0
   Its report = Q (number_of report.receive) (front_of report)
@@ -156,7 +156,7 @@ module _ (Q : ℕ → ℕ → Type 0) where
       let long = one_length fronts r.receive (front_of r) in
       put_down rs (with_front fronts r.receive (front_of r)) (All-tail Its r rs all) report (k, omega (arith, inside), is) (omega (arith, within, long))
 
--- events of a chart have numbers of their own
+-- different events of a chart have different numbers
 one_event : (a b i j : ℕ) → 1 ≤ i → i ≤ MAX_EVENTS → 1 ≤ j → j ≤ MAX_EVENTS → a * MAX_EVENTS + i ≡ b * MAX_EVENTS + j → (a ≡ b) × (i ≡ j)
 one_event a b i j low high begun within same =
     elim (cases_lt a b) [
@@ -174,7 +174,7 @@ module _ (lines : List LineView) (chart : IsPossibleChart lines) where
   sound : IsSound c
   sound = is_sound (length lines) c chart.possible
 
-  -- an event's number is within all lines
+  -- an event's number is within the list for all lines
   number_within : (q p i : ℕ) → IsReceiveFrom c q (at p i) → (1 ≤ p) × (1 ≤ i) × (i ≤ MAX_EVENTS) × ((p - 1) * MAX_EVENTS + i < length lines * MAX_EVENTS + 1)
   number_within q p i (m, is, from) =
       let event = IsEvent-from_event c (at p i) m is in
@@ -183,7 +183,7 @@ module _ (lines : List LineView) (chart : IsPossibleChart lines) where
       let high : i ≤ length (c (suc w.0)) = subst (λ x. i ≤ length (c x)) w.1 event.1 in
       (omega (arith, w.1), event.0, omega (arith, high, short), omega (arith, w.1, w.2, high, short))
 
-  -- a number has the front of the receive whose number it is
+  -- if the number is a receive's, it has the receive's front
   abbrev IsFrontAt : ℕ → ℕ → Type 0
   IsFrontAt x k = (q p i : ℕ) → IsReceiveFrom c q (at p i) → x ≡ (p - 1) * MAX_EVENTS + i → IsFront c (at p i) k
 

@@ -1,4 +1,4 @@
--- What the search for an instance's counterpart says.
+-- The result of the search for an instance's counterpart.
 use Rattle.std.proofs.Common.{◌≡◌, ◌⊎◌, ℕ, inl, inr, List, length, Option, None, Some, Result, Ok, Err, refl, sym, subst}
 use Rattle.std.specs.Prelude.{ok_or}
 use Rattle.cmd_base.specs.declared.error.ProgramError.TheVariants.{Usage, File, Memory, Text, ReceiveWithoutSend, NameMismatch, Cyclic, Write}
@@ -18,12 +18,12 @@ found_as p = Ok p
 abbrev missing_as : List ℕ → Result ℕ (List ℕ)
 missing_as name = Err name
 
--- it was found
+-- the counterpart was found
 pub found : (o : Option ℕ) (w : List ℕ) (p : ℕ) → found_as p ≡ ok_or o w → o ≡ Some p
 found (Some q) w p is = cc
 found None w p is = cc
 
--- it wasn't, and this is the name
+-- it wasn't, and this is the instance's name
 pub missing : (o : Option ℕ) (w name : List ℕ) → missing_as name ≡ ok_or o w → (o ≡ None) × (name ≡ w)
 missing None w name is = (refl, cc)
 missing (Some q) w name is = cc
@@ -32,7 +32,7 @@ never : {A P : Type 0} → ⊥ ⊎ (P × ⊥) → A
 never either = elim either [ inl none ↦ absurd none | inr both ↦ absurd both.1 ]
 
 module _ {S : Type 0} (sink : S → Sink) (old : S) (form : Form) (a b : Named) where
-  -- an instance of the first is none of the second, or memory ran out: nothing is written
+  -- the second recording lacks an instance of the first, or memory ran out: nothing is written
   pub none_forth : (error : CompareError) → FindsCounterparts a.0 b.0 (Err error) → Compares sink old old form a b (Err error)
   none_forth (OtherInstances name) is = (inl is, refl)
   none_forth (Program Memory) is = refl
@@ -44,7 +44,7 @@ module _ {S : Type 0} (sink : S → Sink) (old : S) (form : Form) (a b : Named) 
   none_forth (Program Cyclic) is = absurd is
   none_forth (Program Write) is = absurd is
 
-  -- the first has none such, but the second
+  -- the second has all instances of the first, but the first lacks one of the second
   pub none_back : (others : List ℕ) (error : CompareError) → AreCounterparts a.0 b.0 others → FindsCounterparts b.0 a.0 (Err error) → Compares sink old old form a b (Err error)
   none_back others (OtherInstances name) are is = (inr ((others, are), is), refl)
   none_back others (Program Memory) are is = refl
@@ -71,7 +71,7 @@ module _ {S : Type 0} (sink : S → Sink) (old : S) (form : Form) (a b : Named) 
   refused_first others back error forth back_is (inl memory) = subst (λ x. Compares sink old old form a b (Err (Program x))) (sym memory) refl
   refused_first others back error forth back_is (inr refused) = refused_by error ((others, forth), (back, back_is)) (inl refused)
 
-  -- the first is, and the second isn't
+  -- the first chart is possible, and the second isn't, or memory ran out
   pub refused_second : (others back : List ℕ) (error : ProgramError) → AreCounterparts a.0 b.0 others → AreCounterparts b.0 a.0 back → IsPossible (length a.1) (chart_lines a.1) → (error ≡ Memory) ⊎ IsRefused error b → Compares sink old old form a b (Err (Program error))
   refused_second others back error forth back_is possible (inl memory) = subst (λ x. Compares sink old old form a b (Err (Program x))) (sym memory) refl
   refused_second others back error forth back_is possible (inr refused) = refused_by error ((others, forth), (back, back_is)) (inr (possible, refused))

@@ -1,4 +1,4 @@
--- Of two receives of one coregion the earlier comes before the later only where both are from one instance.
+-- Of two receives of one coregion, the earlier comes before the later only if both are from one instance.
 use Rattle.std.proofs.Common.{◌≡◌, ℕ, ◌<◌, ◌≤◌, inl, inr, true, not, ◌==◌, Some, refl, sym, ap, ◌∙◌, subst, arith}
 use Rattle.std.specs.Cmp.{second_so}
 use Rattle.std.proofs.lemmas.Bool.{cases_lt, cases_eq, eq-eqb, false≢true}
@@ -16,7 +16,7 @@ use Rattle.reordering.proofs.CompletionLemmas.HandlingLemmas.{in_one_region}
 use Rattle.reordering.proofs.CompletionLemmas.Possible.{IsSound}
 use Rattle.cmd_compare.specs.Verdicts.{AreFromOne}
 
--- e is enforced before f, with the first direct step at hand
+-- e is before f, with the first direct step given
 data Led (c : Chart) : Place → Place → Type 0 where
   last : {e f : Place} → Direct c e f → Led c e f
   first : {e d f : Place} → Direct c e d → Led c d f → Led c e f
@@ -34,7 +34,7 @@ before (last s) = direct s
 before (first s x) = through (direct s) (before x)
 
 module _ (c : Chart) (p : ℕ) (f : Place) (line : f.instance ≡ p) (q0 : ℕ) (received : IsReceiveFrom c q0 f) (no_cycle : IsCyclic c → ⊥) where
-  -- a send below f doesn't come before it
+  -- a send below f isn't before f
   from_below : (q : ℕ) (d : Place) → d.instance ≡ p → 1 ≤ f.index → f.index < d.index → IsSendTo c q d → Before c d f → ⊥
   from_below q d own begun less sends comes =
       no_cycle (f, through (direct (to_send q (record { line = line ∙ sym own; begun = begun; less = less }) sends)) comes)
@@ -42,7 +42,7 @@ module _ (c : Chart) (p : ℕ) (f : Place) (line : f.instance ≡ p) (q0 : ℕ) 
   no_send : (q : ℕ) (d : Place) → d.instance ≡ p → d.index ≡ f.index → IsSendTo c q d → ⊥
   no_send q d own same sends = not_both c q q0 f (subst (IsSendTo c q) (same_place d f (own ∙ sym line) same) sends) received
 
-  -- what is f or stands below it doesn't come before it
+  -- neither f nor an event below it is before f
   below : (x : Place) → x.instance ≡ p → 1 ≤ f.index → f.index ≤ x.index → Led c x f → ⊥
   below x own begun past (last (message b)) = elim (cases_eq x.index f.index) [
     | inl same ↦ no_send f.instance x own same b.sent
@@ -57,7 +57,7 @@ module _ (c : Chart) (p : ℕ) (f : Place) (line : f.instance ≡ p) (q0 : ℕ) 
   below x own begun past (first {d = d} (to_send q l s) rest) = from_below q d (sym l.line ∙ own) begun (omega (arith, l.less)) s (before rest)
   below x own begun past (first {d = d} (same_sender q l a b) rest) = below d (sym l.line ∙ own) begun (omega (arith, l.less)) rest
 
-  -- above it, where no send stands from there on, what comes before it is from its sender
+  -- if no send stands above f from `low` on, an event there that is before f is a receive from f's sender
   above : (low : ℕ) → ((j q : ℕ) → low ≤ j → j < f.index → IsSendTo c q (at p j) → ⊥) → (x : Place) → x.instance ≡ p → 1 ≤ f.index → low ≤ x.index → x.index < f.index → Led c x f → AreFromOne c x f
   above low none x own begun within less (last (message b)) = absurd (none x.index f.instance within less (subst (λ i. IsSendTo c f.instance (at i x.index)) own b.sent))
   above low none x own begun within less (last (to_send q l s)) = absurd (not_both c q q0 f s received)
@@ -74,7 +74,7 @@ module _ (c : Chart) (p : ℕ) (f : Place) (line : f.instance ≡ p) (q0 : ℕ) 
     | inr under ↦ absurd (below d (sym l.line ∙ own) begun under rest)
   ]
 
--- so of one coregion's
+-- so two receives of one coregion, of which the earlier is before the later, are from one instance
 pub from_one_region : (c : Chart) → IsSound c → (e f : Place) (m n : Event) → chart_event c e ≡ Some m → chart_event c f ≡ Some n → (q : ℕ) → IsReceiveFrom c q f → is_in (region_of n) m ≡ true → IsEarlier e f → Before c e f → AreFromOne c e f
 from_one_region c sound e f m n at_m at_n q received together earlier comes =
     let p = e.instance in

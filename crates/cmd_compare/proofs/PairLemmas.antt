@@ -1,4 +1,4 @@
--- Which pairs are in the list of those that stand the other way round.
+-- The pairs in the list of those in opposite orders.
 use Rattle.std.proofs.Common.{◌≡◌, ℕ, zero, suc, ◌+◌, ◌<◌, ◌≤◌, inl, inr, Bool, true, false, cond, List, [], ◌∷◌, ◌++◌, length, map, get_or, Option, None, Some, refl, sym, ap, ap₂, ◌∙◌, subst, arith, append_assoc, append-nil}
 use Rattle.std.specs.Prelude.{nat_lt, AllPairs, Contains}
 use Rattle.std.proofs.lemmas.List.Quantifiers.{all_pairs_push}
@@ -11,19 +11,19 @@ use Rattle.cmd_compare.specs.declared.pairs.Difference.{Difference}
 use Rattle.cmd_compare.specs.declared.pairs.Pair.{Pair}
 use Rattle.cmd_compare.specs.Pairs.{IsSooner, found_at, pair_by, pairs_above, pairs_to, number_if, unmatched_to, greatest, AreAtMost, AreHighest}
 
--- an empty list has nothing
+-- an empty list has no element
 pub has_none : {X : Type 0} (x : X) → Contains [] x → ⊥
 has_none x (k, within, is) = omega (arith, within)
 
--- a list of one has that
+-- a list of one element has this element
 pub has_one : {X : Type 0} (y x : X) → Contains (y ∷ []) x → y ≡ x
 has_one y x has = elim (Contains-push_cases [] y x has) [ inl none ↦ absurd (has_none x none) | inr is ↦ is ]
 
--- the pair of four numbers
+-- the pair with these four numbers
 abbrev pub pair_so : ℕ → ℕ → ℕ → ℕ → Pair
 pair_so i j k l = record { earlier = i; later = j; earlier_there = k; later_there = l }
 
--- two numbers were found, and they stand the other way round
+-- both events have a match, and the matches are in the opposite order
 pub pair_by-has : (i j : ℕ) (a b : Option ℕ) (x : Pair) → Contains (pair_by i j a b) x → (k : ℕ) × (l : ℕ) × (a ≡ Some k) × (b ≡ Some l) × (l < k) × (pair_so i j k l ≡ x)
 pair_by-has i j None None x has = absurd (has_none x has)
 pair_by-has i j None (Some l) x has = absurd (has_none x has)
@@ -60,7 +60,7 @@ module _ (found : List (Option ℕ)) where
             (subst (λ k. Contains (pair_by (k + 1) (j + 1) (found_at found k) (found_at found j)) x) e has)
       ]
 
-  -- a pair of the list is of two events for which numbers were found
+  -- a pair in the list is of two events with matches in the opposite order
   pub pairs_to-has : (n : ℕ) (x : Pair) → Contains (pairs_to found n) x → (i : ℕ) × (j : ℕ) × (i < j) × (j < n) × Contains (pair_by (i + 1) (j + 1) (found_at found i) (found_at found j)) x
   pairs_to-has zero x has = absurd (has_none x has)
   pairs_to-has (suc n) x has =
@@ -69,7 +69,7 @@ module _ (found : List (Option ℕ)) where
         | inr last ↦ let w = above-has n n x last in (w.0, n, w.1, omega arith, w.2)
       ]
 
-  -- and the pair of any two such events is there
+  -- and the list has the pair of any two such events
   pub has-pairs_to : (n i j : ℕ) (x : Pair) → i < j → j < n → Contains (pair_by (i + 1) (j + 1) (found_at found i) (found_at found j)) x → Contains (pairs_to found n) x
   has-pairs_to zero i j x less within has = absurd (omega arith)
   has-pairs_to (suc n) i j x less within has =
@@ -81,7 +81,7 @@ module _ (found : List (Option ℕ)) where
             (has-above n n i x (omega arith) (subst (λ k. Contains (pair_by (i + 1) (k + 1) (found_at found i) (found_at found k)) x) e has))
       ]
 
-  -- the events for which nothing was found
+  -- the events without a match
   pub unmatched_to-has : (n i : ℕ) → Contains (unmatched_to found n) i → (k : ℕ) × (k < n) × (i ≡ k + 1) × (found_at found k ≡ None)
   unmatched_to-has zero i has = absurd (has_none i has)
   unmatched_to-has (suc n) i has =
@@ -106,7 +106,7 @@ module _ (found : List (Option ℕ)) where
             (subst (λ x. Contains (number_if (k + 1) x) (k + 1)) (sym none) (Contains-push [] (k + 1))))
       ]
 
--- what was made of an element
+-- elements that a function maps
 pub has-map : {X Y : Type 0} (f : X → Y) (xs : List X) (x : X) → Contains xs x → Contains (map f xs) (f x)
 has-map f [] x has = absurd (has_none x has)
 has-map f (y ∷ xs) x has =
@@ -123,11 +123,11 @@ map-has f (z ∷ xs) y has =
       | inr rest ↦ let w = map-has f xs y rest in (w.0, Contains-append_right (z ∷ []) xs w.0 w.1, w.2)
     ]
 
--- an element that all others are told before comes last
+-- an element that all others are listed before comes last
 rises-push : (xs : List Pair) (y : Pair) → AllPairs IsSooner xs → ((x : Pair) → Contains xs x → IsSooner x y) → AllPairs IsSooner (xs ++ y ∷ [])
 rises-push xs y rising before = all_pairs_push IsSooner xs y rising (λ k d within. before (get_or xs k d) (Contains-get_or xs k d within))
 
--- so do those of a list of one or none
+-- the same for a list of at most one element
 rises-by : (xs : List Pair) (i j : ℕ) (a b : Option ℕ) → AllPairs IsSooner xs → ((x : Pair) (k l : ℕ) → Contains xs x → IsSooner x (pair_so i j k l)) → AllPairs IsSooner (xs ++ pair_by i j a b)
 rises-by xs i j None None rising before = subst (λ (l : List Pair). AllPairs IsSooner l) (sym (append-nil xs)) rising
 rises-by xs i j None (Some l) rising before = subst (λ (l : List Pair). AllPairs IsSooner l) (sym (append-nil xs)) rising
@@ -139,7 +139,7 @@ rises-by xs i j (Some k) (Some l) rising before = by_test (nat_lt l k)
     by_test false = subst (λ (l : List Pair). AllPairs IsSooner l) (sym (append-nil xs)) rising
 
 module _ (found : List (Option ℕ)) where
-  -- a pair of the event at the place j has its number
+  -- the later event of a pair of the event at place j is this event
   above-later : (j n : ℕ) (x : Pair) → Contains (pairs_above found j n) x → (x.later ≡ j + 1) × (x.earlier ≤ n)
   above-later j n x has =
       let w = above-has found j n x has in
@@ -160,7 +160,7 @@ module _ (found : List (Option ℕ)) where
             | inr second ↦ let w = above-later j n x second in inr (w.0, omega (arith, w.1))
           ]
 
-  -- the pairs come by their later event, and then by their earlier one
+  -- the pairs are ordered by their later event, and then by their earlier one
   pub pairs_to-rises : (n : ℕ) → AllPairs IsSooner (pairs_to found n)
   pairs_to-rises zero = λ i j d less within. absurd (omega (arith, within))
   pairs_to-rises (suc n) = above-rises (pairs_to found n) n (pairs_to-rises n) low n
@@ -172,7 +172,7 @@ module _ (found : List (Option ℕ)) where
           let e : w.1 + 1 ≡ x.later = ap (λ (p : Pair). p.later) its.5 in
           omega (arith, e, w.3)
 
-  -- so do the numbers of the events for which nothing was found
+  -- the numbers of the events without a match are rising
   pub unmatched_to-rises : (n : ℕ) → AllPairs (λ i j. i < j) (unmatched_to found n)
   unmatched_to-rises zero = λ i j d less within. absurd (omega (arith, within))
   unmatched_to-rises (suc n) = by_value (unmatched_to-rises n) (found_at found n)
@@ -183,7 +183,7 @@ module _ (found : List (Option ℕ)) where
           (λ k d within. let w = unmatched_to-has found n (get_or (unmatched_to found n) k d) (Contains-get_or (unmatched_to found n) k d within) in omega (arith, w.1, w.2))
       by_value rises (Some j) = subst (λ (l : List ℕ). AllPairs (λ i j. i < j) l) (sym (append-nil (unmatched_to found n))) rises
 
--- what is made of pairs keeps their order
+-- a function that keeps the pairs keeps their order
 pub map-rises : (f : Pair → Difference) (xs : List Pair) → ((x : Pair) → (f x).pair ≡ x) → AllPairs IsSooner xs → AllPairs (λ (x : Difference) (y : Difference). IsSooner x.pair y.pair) (map f xs)
 map-rises f xs keeps rising i j d less within =
     let many : length (map f xs) ≡ length xs = length-map xs f in
@@ -195,9 +195,9 @@ map-rises f xs keeps rising i j d less within =
     (subst (λ (x : Pair). IsSooner x (f (get_or xs j d.pair)).pair) (sym (keeps (get_or xs i d.pair)))
     (subst (λ (y : Pair). IsSooner (get_or xs i d.pair) y) (sym (keeps (get_or xs j d.pair))) so)))
 
--- What may be passed over.
+-- Events that may be skipped.
 
--- where nothing was found for the later event there is no pair
+-- if the later event has no match, there is no pair
 pub none_found : (found : List (Option ℕ)) (j n : ℕ) → found_at found j ≡ None → pairs_above found j n ≡ []
 none_found found j zero is = refl
 none_found found j (suc n) is = ap₂ (λ (xs : List Pair) (ys : List Pair). xs ++ ys) (none_found found j n is) (no_pair (found_at found n) (found_at found j) is)
@@ -207,7 +207,7 @@ none_found found j (suc n) is = ap₂ (λ (xs : List Pair) (ys : List Pair). xs 
     no_pair (Some k) None none = refl
     no_pair (Some k) (Some l) none = absurd (none-some l (sym none))
 
--- nor with an event that isn't behind it there
+-- nor is there one with an event that doesn't follow it there
 pub none_behind : (found : List (Option ℕ)) (j n l : ℕ) → found_at found j ≡ Some l → AreAtMost l found n → pairs_above found j n ≡ []
 none_behind found j zero l is most = refl
 none_behind found j (suc n) l is most =
@@ -222,7 +222,7 @@ none_behind found j (suc n) l is most =
         by_test false past = refl
         by_test true less = absurd (omega (arith, ltb-true m k less, most n k (omega arith) here, same_Some m l its))
 
--- the greatest number so far
+-- the greatest number, with one more
 pub at_most-push : (found : List (Option ℕ)) (highest n : ℕ) → AreAtMost highest found n → AreAtMost (greatest highest (found_at found n)) found (n + 1)
 at_most-push found highest n most = λ i l less here. elim (cases_lt i n) [
   | inl before ↦ omega (arith, most i l before here, grows (found_at found n))
@@ -240,6 +240,6 @@ at_most-push found highest n most = λ i l less here. elim (cases_lt i n) [
 pub highest-push : (found : List (Option ℕ)) (highest : List ℕ) (n k : ℕ) → length highest ≡ n → AreHighest found highest → AreAtMost k found (n + 1) → AreHighest found (highest ++ k ∷ [])
 highest-push found highest n k whole are most = each-push (λ i x. AreAtMost x found (suc i)) highest k are (subst (λ m. AreAtMost k found m) (omega (arith, whole)) most)
 
--- what is at most a number is at most a greater one
+-- numbers that are at most k are at most any greater one
 pub at_most_more : (found : List (Option ℕ)) (k l n : ℕ) → k ≤ l → AreAtMost k found n → AreAtMost l found n
 at_most_more found k l n le most = λ i m less here. omega (arith, le, most i m less here)

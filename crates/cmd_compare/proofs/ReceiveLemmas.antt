@@ -1,4 +1,4 @@
--- That the receives of a chart's reports are its receives.
+-- The receives of a chart's reports are its receives.
 use Rattle.std.proofs.Common.{◌≡◌, ℕ, zero, suc, ◌+◌, inl, inr, true, List, [], ◌∷◌, get_or, Some, refl, sym, ap, ◌∙◌, subst, arith}
 use Rattle.std.specs.Prelude.{Contains, slice_get}
 use Rattle.std.specs.List.{flat_map}
@@ -18,7 +18,7 @@ use Rattle.cmd_compare.proofs.PairLemmas.{has_none, has_one}
 abbrev event : ℕ → ℕ → EventNo
 event p i = record { instance = p; index = i }
 
--- a receive of a line that begins with the i-th event
+-- a receive of a line whose first event is the i-th
 abbrev IsReceiveOn : ℕ → ℕ → List Event → EventNo → Type 0
 IsReceiveOn p i line e = (j : ℕ) × (e ≡ event p (i + j)) × (q : ℕ) × (m : Event) × (slice_get line j ≡ Some m) × (is_receive_from q m ≡ true)
 
@@ -48,7 +48,7 @@ line_has p i (suc j) q m (Receive a name region ∷ line) is from =
     Contains-append_right (event p i ∷ []) (receives_from p (i + 1) line) (event p (i + suc j))
     (subst (λ k. Contains (receives_from p (i + 1) line) (event p k)) same (line_has p (i + 1) j q m line is from))
 
--- of the lists of elements, one behind the other
+-- lists of elements, one after the other
 module _ {X Y : Type 0} (f : X → List Y) where
   in_lists : (xs : List X) (y : Y) → Contains (flat_map f xs) y → (k : ℕ) × (x : X) × (slice_get xs k ≡ Some x) × Contains (f x) y
   in_lists [] y has = absurd (has_none y has)
@@ -66,7 +66,7 @@ module _ (lines : List LineView) (numbered : IsNumbered lines) where
   line_of : (k : ℕ) (l : LineView) → slice_get lines k ≡ Some l → (l.instance ≡ suc k) × (chart_lines lines (suc k) ≡ l.events)
   line_of k l is = (numbered k l is, ap (λ (x : LineView). x.events) (get_or_from_slice_get lines k l (record { instance = suc k; events = [] }) is))
 
-  -- what is among the lines' receives is a receive
+  -- an element of the lines' receives is a receive
   pub is_receive : (e : EventNo) → Contains (flat_map receives_of lines) e → (q : ℕ) × IsReceiveFrom (chart_lines lines) q (at e.instance e.index)
   is_receive e has =
       let w = in_lists receives_of lines e has in

@@ -19,7 +19,7 @@ use Rattle.cmd_compare.specs.Verdicts.{AreInOneRegion, IsVerdict, AreFromOne, Is
 use Rattle.cmd_compare.proofs.OneRegionLemmas.{from_one_region}
 
 module _ (c : Chart) (sound : IsSound c) (e f : Place) (earlier : IsEarlier e f) (m : Event) (at_m : chart_event c e ≡ Some m) where
-  -- all that stands above a send comes before it
+  -- all events above a send come before it
   above_send : (to : ℕ) (name : List ℕ) → chart_event c f ≡ Some (Send to name) → Before c e f
   above_send to name at_f = direct (to_send to earlier (Send to name, at_f, eq-eqb to to refl))
 
@@ -27,7 +27,7 @@ module _ (c : Chart) (sound : IsSound c) (e f : Place) (earlier : IsEarlier e f)
     received : IsReceiveFrom c from f
     received = (Receive from name region, at_f, eq-eqb from from refl)
 
-    -- what the test of two receives says
+    -- the result of the test for two receives from one instance
     from_one : AreFromOne c e f → is_receive_from from m ≡ true
     from_one (q, (x, at_x, its), also) =
         subst (λ s. is_receive_from s m ≡ true) (one_sender c q from f also received) (subst (λ z. is_receive_from q z ≡ true) (same_Some x m (sym at_x ∙ at_m)) its)
@@ -35,7 +35,7 @@ module _ (c : Chart) (sound : IsSound c) (e f : Place) (earlier : IsEarlier e f)
     in_region : (h : Bool) → is_in region m ≡ h → AreInOneRegion c e f h
     in_region h is = (m, at_m, ap (λ x. is_in (region_of_event x) m) at_f ∙ is)
 
-    -- the verdict on an event before a receive, by what is found for that
+    -- the verdict on an event before a receive, by the receive's front
     before_receive : (k : ℕ) → IsFront c f k → IsVerdict c e f (verdict_by (is_receive_from from m) (is_in region m) (nat_le e.index k))
     before_receive k front = by_tests (is_receive_from from m) refl (is_in region m) refl (nat_le e.index k) refl
       where
@@ -74,7 +74,7 @@ verdict_right c sound p fronts i j are begun less within =
 apart : (c : Chart) (e f : Place) → AreInOneRegion c e f false → AreInOneRegion c e f true → ⊥
 apart c e f (m, at_m, out) (n, at_n, within) = false≢true (sym out ∙ ap (is_in (region_of_event (chart_event c f))) (same_Some m n (sym at_m ∙ at_n)) ∙ within)
 
--- there is one verdict
+-- the verdict is unique
 pub one_verdict : (c : Chart) (e f : Place) (v w : Verdict) → IsVerdict c e f v → IsVerdict c e f w → v ≡ w
 one_verdict c e f Enforced Enforced a b = refl
 one_verdict c e f Enforced Race a b = absurd (b.0 a)

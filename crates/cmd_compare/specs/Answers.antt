@@ -1,4 +1,4 @@
--- What is told of a comparison.
+-- The diagnostics of a comparison.
 use Rattle.std.specs.Prelude.{ℕ, List, None, codes, Result}
 use Rattle.cmd_base.specs.Answers.{Exit, refusal, exit_of}
 use Rattle.cmd_base.specs.Refusals as refusals
@@ -16,7 +16,7 @@ refusal_text (OtherInstances name) = named_text (codes "F40 OtherInstances") nam
 abbrev pub error_exit : CompareError → Exit
 error_exit error = refusal (refusal_text error)
 
--- 1 where a pair stands the other way round, and 0 where none does
+-- 1 if a pair is in opposite orders, and otherwise 0
 abbrev pub status_of : Found → ℕ
 status_of Same = 0
 status_of Reordered = 1

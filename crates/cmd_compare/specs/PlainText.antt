@@ -1,4 +1,4 @@
--- What is told of two recordings, in words (this project's own).
+-- The text of the differences of two recordings in words (this project's own).
 use Rattle.std.specs.Prelude.{ℕ, List, [], ◌++◌, Option, None, Some, decimal}
 use Rattle.chart.specs.declared.event.Event.{Event}
 use Rattle.chart.specs.declared.event.Event.TheVariants.{Send, Receive}
@@ -10,7 +10,7 @@ use Rattle.cmd_compare.specs.declared.word.Word.{Word}
 use Rattle.cmd_compare.specs.declared.word.Word.TheVariants as words
 use Rattle.cmd_compare.specs.Words.{word_text, verdict_word}
 
--- to or from whom an event's message goes or comes
+-- the receiver or sender of an event's message
 abbrev pub side_text : List (List ℕ) → Option Event → List ℕ
 side_text names None = []
 side_text names (Some (Send to name)) = word_text words.To ++ name_at names to
@@ -40,7 +40,7 @@ events_text names events d =
     both_text names events d.pair.later d.pair.later_there ++ (word_text words.Before
     ++ both_text names events d.pair.earlier d.pair.earlier_there)
 
--- what they are
+-- the verdicts on the pair
 unfoldable pub verdicts_text : Difference → List ℕ
 verdicts_text d =
     word_text words.InSecond ++ (word_text (verdict_word d.here) ++ (word_text words.InFirst

@@ -1,4 +1,4 @@
--- The words of what is told of two recordings (this project's own; JSON is that of RFC 8259).
+-- The words of the text (this project's own; JSON is that of RFC 8259).
 use Rattle.std.specs.Prelude.{ℕ, List, [], None, Some, codes, decimal}
 use Rattle.cmd_compare.specs.declared.verdict.Verdict.{Verdict}
 use Rattle.cmd_compare.specs.declared.verdict.Verdict.TheVariants as verdicts
@@ -7,7 +7,7 @@ use Rattle.cmd_compare.specs.declared.word.Word.TheVariants as words
 use Rattle.cmd_compare.specs.declared.part.Part.{Part}
 use Rattle.cmd_compare.specs.declared.part.Part.TheVariants as parts
 
--- what stands between names and numbers
+-- the fixed parts between names and numbers
 unfoldable pub word_text : Word → List ℕ
 word_text words.Colon = codes ": "
 word_text words.Open = codes " ("
@@ -40,13 +40,13 @@ word_text words.SecondAlone = codes "{\"only\":\"b\",\"instance\":\""
 word_text words.Event = codes "\",\"event\":"
 word_text words.Message = codes ",\"message\":\""
 
--- the word for what two events are
+-- the word for a verdict
 abbrev pub verdict_word : Verdict → Word
 verdict_word verdicts.Enforced = words.Enforced
 verdict_word verdicts.Race = words.Race
 verdict_word verdicts.Unclaimed = words.Unclaimed
 
--- a part of a line as it is written
+-- the text of a part
 abbrev pub part_text : Part → List ℕ
 part_text (parts.Word word) = word_text word
 part_text (parts.Number n) = decimal n

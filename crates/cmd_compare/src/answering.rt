@@ -1,4 +1,4 @@
-//! What is told of a comparison: the exit status, and a refusal's line.
+//! The diagnostics of a comparison: the exit status, and a refusal's line.
 ghost use Rattle.cmd_compare.specs.Answers.{error_exit, found_exit};
 
 use crate::error::CompareError;

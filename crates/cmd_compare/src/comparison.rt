@@ -1,4 +1,4 @@
-//! What two recordings differ in, line by line.
+//! The differences of two recordings, line by line.
 ghost use Rattle.std.specs.Prelude.{◌≡◌, ◌≤◌, length, IfOk};
 ghost use Rattle.chart.specs.declared.instance.TheConstants.{MAX_INSTANCES};
 ghost use Rattle.chart.specs.Charts.{chart_lines};
@@ -15,33 +15,32 @@ use chart::InstanceNo;
 use chart::line_events::events_of;
 use std::alloc::{AllocError, Global};
 
-/// Two recordings of one system, the first of which is looked at line by line.
+/// Two recordings of one system. The lines of the first are compared with those of the second.
 #[derive(Clone, Copy)]
 pub struct Recordings<'a> {
     pub here: &'a Ordered<'a>,
     pub there: &'a Ordered<'a>,
-    /// The number that each instance of the first has in the second.
+    /// For each instance of the first, its number in the second.
     pub others: &'a [InstanceNo],
-    /// The number that each instance of the second has in the first.
+    /// For each instance of the second, its number in the first.
     pub back: &'a [InstanceNo],
 }
 
-/// What the two differ in on an instance's line.
+/// The differences on an instance's line.
 #[derive(Debug, Drop)]
 pub struct LineComparison {
     pub instance: InstanceNo,
-    /// The number that the instance has in the second recording.
+    /// The instance's number in the second recording.
     pub other: InstanceNo,
-    /// The pairs of events that both have and that stand the other way round, by the later event and then by the
-    /// earlier one.
+    /// The pairs of events that both have in opposite orders, by the later event and then by the earlier one.
     pub differences: Vec<Difference>,
-    /// The numbers of the events that the first recording alone has.
+    /// The numbers of the events that only the first recording has.
     pub only_here: Vec<usize>,
-    /// The numbers, in the second, of those that it alone has.
+    /// The numbers, in the second recording, of the events that only it has.
     pub only_there: Vec<usize>,
 }
 
-/// The pairs of an instance's events that stand the other way round in the other recording.
+/// The pairs of an instance's events that are in the opposite order in the other recording.
 fn differences_of(
     alloc: Global,
     recordings: &Recordings<'_>,
@@ -70,7 +69,7 @@ fn differences_of(
     judge(alloc, instance, &here, &there, pairs.as_slice())
 }
 
-/// What the two differ in on an instance's line.
+/// The differences on an instance's line.
 fn compare_line(
     alloc: Global,
     recordings: &Recordings<'_>,
@@ -106,9 +105,9 @@ fn compare_line(
     })
 }
 
-/// What the two differ in on each line of the first.
+/// The differences on each line of the first recording.
 ///
-/// F6: it fails only where there is no memory.
+/// F6: it fails only if there is no memory.
 pub fn compared(
     alloc: Global,
     recordings: &Recordings<'_>,

@@ -1,4 +1,4 @@
-//! What two recordings differ in, as text.
+//! The text of the differences of two recordings.
 ghost use Rattle.std.specs.Prelude.{◌≡◌};
 ghost use Rattle.std.specs.List.{flat_map};
 ghost use Rattle.chart.specs.Charts.{chart_lines};
@@ -14,16 +14,16 @@ use chart::line_events::events_of;
 use chart::{Event, InstanceNo, Line, Names};
 use texts::{Out, TextBuffer, WriteError};
 
-/// How it is written.
+/// The form of the text.
 #[derive(Clone, Copy, Debug, PartialEq, Eq)]
 pub enum Form {
-    /// In words.
+    /// Words.
     Plain,
-    /// As JSON, an object on each line.
+    /// JSON, one object on each line.
     Json,
 }
 
-/// Which recording alone has an event.
+/// The only recording that has an event.
 #[derive(Clone, Copy)]
 pub(crate) enum Owner {
     First,
@@ -146,7 +146,7 @@ fn add_onlys<W: Out>(
     Ok(())
 }
 
-/// What the two differ in on an instance's line.
+/// Adds the differences on an instance's line.
 #[tactic(auto, using(texts::proofs::Writes::joining), unfolding(crate::specs::Comparisons::line_text))]
 fn add_line<W: Out>(
     text: &mut TextBuffer<'_, W>,
@@ -194,8 +194,8 @@ fn add_lines<W: Out>(
     Ok(())
 }
 
-/// Writes what the two differ in. It takes no memory. Where a put fails (F24), a beginning of the text was written, and
-/// no other put is tried.
+/// Writes the differences. It takes no memory. If a put fails (F24), a beginning of the text was written, and no other
+/// put is tried.
 #[tactic(auto, using(texts::proofs::Writes::joining))]
 pub(crate) fn write_lines<W: Out>(
     form: Form,

@@ -1,16 +1,16 @@
-//! What the program refuses.
+//! The refusals of the program.
 
 use chart::Name;
 use cmd_base::ProgramError;
 use thiserror::Error;
 
-/// Why two recordings were not compared: the first of these that applies.
+/// Why two recordings were not compared: the first of these causes that applies.
 #[derive(Clone, Copy, Debug, PartialEq, Eq, Error)]
 pub enum CompareError {
-    /// What `mscrun` refuses too: the command line, a file, its text, the chart that it says, a write.
+    /// A refusal that `mscrun` has too: of the command line, a file, its text or chart, or a write.
     #[error(transparent)]
     Program(ProgramError),
-    /// F40: this instance of one recording is none of the other.
+    /// F40: this instance of one recording doesn't exist in the other.
     #[error("the two recordings have other instances")]
     OtherInstances(Name),
 }

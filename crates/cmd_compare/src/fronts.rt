@@ -1,4 +1,4 @@
-//! How many first events of its line come before each receive.
+//! The front of a receive: how many first events of its line come before it.
 ghost use Rattle.std.specs.Prelude.{◌≡◌, length, replicate, All, IfOk, OnOk};
 ghost use Rattle.chart.specs.Charts.{IsPossible, chart_lines};
 ghost use Rattle.chart.specs.Ranges.{IsRange, events_in};
@@ -10,15 +10,15 @@ use closure::Closure;
 use std::alloc::{AllocError, Global};
 use std::marker::Model;
 
-/// The number of an event among those of all lines.
+/// The number of an event among the events of all lines.
 fn number_of(event: &EventNo) -> usize
     ensures { result ≡ number_of event.now }
 {
     event.instance.place() * MAX_EVENTS + event.index as usize
 }
 
-/// How many first events come before a receive, by its races: those before the first of them, or where there is none
-/// all that stand above it.
+/// The front of a receive, by its races. It has the events above the first race, or all events above the receive if
+/// there is no race.
 fn front_by(receive: &EventNo, earlier: &[EventRange]) -> usize
     requires { All IsRange earlier.now }
     ensures { result ≡ front_by receive.now (events_in earlier.now) }
@@ -29,7 +29,7 @@ fn front_by(receive: &EventNo, earlier: &[EventRange]) -> usize
     }
 }
 
-/// Puts down what is found for a receive.
+/// Stores the front of a receive.
 fn put(fronts: &mut Vec<usize>, receive: &EventNo, front: usize)
     ensures { fronts.new.items ≡ with_front fronts.old.items receive.now front }
 {
@@ -39,7 +39,7 @@ fn put(fronts: &mut Vec<usize>, receive: &EventNo, front: usize)
     }
 }
 
-/// So many zeros.
+/// A list of zeros with this length.
 fn zeros(alloc: Global, count: usize) -> Result<Vec<usize>, AllocError>
     ensures { IfOk result (λ zeros. zeros.items ≡ replicate count 0) }
 {
@@ -47,8 +47,8 @@ fn zeros(alloc: Global, count: usize) -> Result<Vec<usize>, AllocError>
     Ok(zeros)
 }
 
-/// How many first events of its line come before each receive of a recording, by the receives' numbers among the
-/// events of all lines. A coregion's other events aren't counted.
+/// The front of each receive of a recording, indexed by the receive's number among the events of all lines. Other
+/// events of the receive's coregion aren't considered.
 fn fronts_of(alloc: Global, closure: &Closure<'_>) -> Result<Vec<usize>, AllocError>
     ensures fronts { IfOk result (λ fronts. HasFronts (chart_lines closure.now) fronts.items) }
     ensures possible { OnOk result (IsPossible (length closure.now) (chart_lines closure.now)) }
@@ -62,8 +62,7 @@ fn fronts_of(alloc: Global, closure: &Closure<'_>) -> Result<Vec<usize>, AllocEr
     Ok(fronts)
 }
 
-/// A possible chart, and how many first events of its line come before each of its receives. A contract sees the
-/// chart's lines.
+/// A possible chart, and the front of each of its receives. Contracts see the chart's lines.
 #[derive(Drop)]
 pub struct Ordered<'a> {
     closure: &'a Closure<'a>,
@@ -84,9 +83,9 @@ impl<'a> Model for Ordered<'a> {
 }
 
 impl<'a> Ordered<'a> {
-    /// Finds them, by the races of all receives.
+    /// Computes the fronts, by the races of all receives.
     ///
-    /// F6: it fails only where there is no memory.
+    /// F6: it fails only if there is no memory.
     pub fn of(alloc: Global, closure: &'a Closure<'a>) -> Result<Ordered<'a>, AllocError>
         ensures { IfOk result (λ ordered. ordered ≡ closure.now) }
     {
@@ -94,7 +93,7 @@ impl<'a> Ordered<'a> {
         Ok(Ordered { closure, fronts })
     }
 
-    /// How many lines there are.
+    /// The number of lines.
     pub fn len(&self) -> usize
         ensures { result ≡ length self.now }
     {
@@ -108,7 +107,7 @@ impl<'a> Ordered<'a> {
         self.closure.lines()
     }
 
-    /// What is found for a line's receives, from its first event on.
+    /// The fronts of a line's receives, from its first event on.
     pub(crate) fn fronts_on(&self, instance: InstanceNo) -> &[usize]
         ensures fronts { AreFronts (chart_lines self.now) instance result.now }
         ensures possible { IsPossible (length self.now) (chart_lines self.now) }

@@ -1,4 +1,4 @@
-//! What is told of two recordings, as JSON.
+//! The differences of two recordings as JSON.
 ghost use Rattle.std.specs.Prelude.{◌≡◌};
 ghost use Rattle.chart.specs.Events.{ith};
 ghost use Rattle.texts.specs.Writing.{Adds};
@@ -14,7 +14,7 @@ use crate::word::{Word, verdict_word};
 use chart::{Event, InstanceNo, Names};
 use texts::{Out, TextBuffer, WriteError};
 
-/// An event's number in the first recording behind one word, and that in the second behind another.
+/// An event's number in the first recording after one word, and its number in the second after another word.
 #[tactic(auto, unfolding(crate::specs::JsonText::numbers_text))]
 fn add_numbers<W: Out>(
     text: &mut TextBuffer<'_, W>,
@@ -78,7 +78,7 @@ fn add_later<W: Out>(
     add_word_and_message(text, Word::LaterMessage, &event_at(events, pair.later))
 }
 
-/// What they are in either recording.
+/// The verdicts on the pair in both recordings.
 #[tactic(auto, unfolding(crate::specs::JsonText::verdicts_object))]
 fn add_verdicts<W: Out>(
     text: &mut TextBuffer<'_, W>,
@@ -98,7 +98,7 @@ fn add_verdicts<W: Out>(
     )
 }
 
-/// An object for two events that stand the other way round.
+/// An object for two events in opposite orders.
 #[tactic(auto, using(texts::proofs::Writes::joining), unfolding(crate::specs::JsonText::json_difference))]
 pub(crate) fn add_json_difference<W: Out>(
     text: &mut TextBuffer<'_, W>,
@@ -114,7 +114,7 @@ pub(crate) fn add_json_difference<W: Out>(
     add_verdicts(text, difference)
 }
 
-/// An object for an event that one recording alone has.
+/// An object for an event that only one recording has.
 #[tactic(auto, unfolding(crate::specs::JsonText::json_only))]
 pub(crate) fn add_json_only<W: Out>(
     text: &mut TextBuffer<'_, W>,

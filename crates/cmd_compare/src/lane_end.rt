@@ -4,7 +4,7 @@ ghost use Rattle.cmd_compare.specs.Ends.{end_of, is_at, other_of, end_there};
 
 use chart::{Event, InstanceNo};
 
-/// An end of a lane at an instance: of the lane to another, or of the one from it.
+/// An end of a lane at an instance. It is the lane to another instance, or the lane from it.
 #[derive(Clone, Copy)]
 pub(crate) enum LaneEnd {
     To(InstanceNo),
@@ -33,7 +33,7 @@ impl LaneEnd {
         }
     }
 
-    /// The same end in the other recording, where the instances have these numbers.
+    /// The same end in the other recording, in which the instances have these numbers.
     pub(crate) fn there(&self, others: &[InstanceNo]) -> LaneEnd
         ensures { result ≡ end_there others.now self.now }
     {
@@ -44,7 +44,7 @@ impl LaneEnd {
     }
 }
 
-/// The number that the instance has in the other recording; its own where it has none there.
+/// The number of the instance in the other recording, or its own number if it has none there.
 pub(crate) fn other_of(others: &[InstanceNo], instance: InstanceNo) -> InstanceNo
     ensures { result ≡ other_of others.now instance }
 {

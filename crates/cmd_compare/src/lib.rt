@@ -1,15 +1,16 @@
-//! What two recordings of one system differ in, and what `mscview compare` does with the bytes of two files.
+//! The differences of two recordings of one system, and what `mscview compare` does with the bytes of two files.
 //!
-//! What is promised of [`compared`]: of each line exactly the pairs of events that stand the other way round in the
-//! other recording, each with what it is in either, and the events that one of the two alone has.
+//! What is promised of [`compared`]: for each line exactly the pairs of events that are in the opposite order in the
+//! other recording, and the events that only one of the two has. Each pair has its verdict in both recordings.
 //!
-//! What is promised of [`compare`]: the bytes of the two files and whether JSON is wanted decide the output's bytes.
+//! What is promised of [`compare`]: the bytes of the two files, and whether JSON is wanted, determine the output's
+//! bytes.
 //!
-//! - With status 0 no two events that both recordings have stand the other way round, and with status 1 some do.
-//!   Either way exactly these pairs were written, line by line, each with what it is in either recording, and the
-//!   events that one of the two alone has.
-//! - With status 2 the refusal's line was written, or a beginning of it where standard error failed, and nothing went
-//!   to the output before it, unless a write failed (F24). F40: the two haven't the same instances.
+//! - With status 0 both recordings have the same order of any two events that both have. With status 1 some pair is in
+//!   opposite orders. In both cases exactly these pairs were written, line by line, and the events that only one
+//!   recording has. Each pair has its verdict in both recordings.
+//! - With status 2 the refusal's line was written, or a beginning of it if standard error failed. Nothing went to the
+//!   output before the refusal, unless a write failed (F24). F40: the two have different instances.
 #![tactic(auto)]
 
 mod answering;

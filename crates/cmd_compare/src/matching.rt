@@ -1,7 +1,7 @@
-//! Which events of a line the other recording has too.
+//! Matches the events of a line with those of the other recording.
 //!
-//! A message is known by its lane and its turn there. Two recordings have it both where the messages of the lane have
-//! the same names up to it.
+//! A message is identified by its lane and its turn on the lane. Both recordings have a message if the names of the
+//! lane's messages up to it are the same in both.
 ghost use Rattle.std.specs.Prelude.{◌≡◌, ◌≤◌, ◌<◌, ◌+◌, ◌↔◌, suc, length, count_by, IsTrue, IfOk, MatchOption};
 ghost use Rattle.chart.specs.Events.{tally};
 ghost use Rattle.cmd_compare.specs.Ends.{is_at, end_there};
@@ -17,7 +17,7 @@ fn are_same(name: Name, other: Name) -> bool
     name == other
 }
 
-/// The number of the last of the first `many` events that is at this end of a lane.
+/// The number of the last event at this end of a lane among the first `many` events.
 fn last_before(events: &[Event], end: &LaneEnd, many: usize) -> Option<usize>
     requires { many ≤ length events.now }
     ensures { MatchOption result (tally (is_at end.now) events.now many ≡ 0)
@@ -33,7 +33,7 @@ fn last_before(events: &[Event], end: &LaneEnd, many: usize) -> Option<usize>
     None
 }
 
-/// The number of the next event at this end of a lane behind the first `passed` ones.
+/// The number of the next event at this end of a lane after the first `passed` events.
 fn next_at(events: &[Event], end: &LaneEnd, passed: usize) -> Option<usize>
     requires { passed ≤ length events.now }
     ensures { MatchOption result
@@ -51,7 +51,7 @@ fn next_at(events: &[Event], end: &LaneEnd, passed: usize) -> Option<usize>
     None
 }
 
-/// Two lines of which one is looked for in the other, with the numbers that the instances have there.
+/// Two lines, of which `here` is matched with `there`, and the numbers that the instances have there.
 #[derive(Clone, Copy)]
 pub(crate) struct BothLines<'a> {
     pub others: &'a [InstanceNo],
@@ -59,8 +59,8 @@ pub(crate) struct BothLines<'a> {
     pub there: &'a [Event],
 }
 
-/// How many events of the other line are up to what this end's last event among those that were looked at is there, if
-/// that is there.
+/// The number, on the other line, of this end's last event among the events that were matched so far. It is 0 if this
+/// end has no such event, and there is none if the other line lacks the event.
 fn passed_at(both: &BothLines<'_>, found: &[Option<usize>], end: &LaneEnd) -> Option<usize>
     requires short { length found.now < length both.now.here.now }
     requires found { AreMatches both.now.others.now both.now.here.now both.now.there.now found.now }
@@ -75,7 +75,7 @@ fn passed_at(both: &BothLines<'_>, found: &[Option<usize>], end: &LaneEnd) -> Op
     }
 }
 
-/// The number that the next event of the line has in the other line, if that has it.
+/// The number of the line's next event on the other line, if that line has it.
 fn match_of(both: &BothLines<'_>, found: &[Option<usize>]) -> Option<usize>
     requires short { length found.now < length both.now.here.now }
     requires found { AreMatches both.now.others.now both.now.here.now both.now.there.now found.now }
@@ -96,7 +96,7 @@ fn match_of(both: &BothLines<'_>, found: &[Option<usize>]) -> Option<usize>
     }
 }
 
-/// The numbers that a line's events have in the other line, of those that it has.
+/// For each event of a line, its number on the other line, if that line has it.
 pub(crate) fn matches_of(
     alloc: Global,
     both: &BothLines<'_>,

@@ -1,4 +1,4 @@
-//! Instances of two recordings that have one name.
+//! Finds the instances of two recordings that have the same name.
 ghost use Rattle.std.specs.Prelude.{◌≡◌, ◌<◌, ℕ, List, length, slice_get, Some, ok_or};
 ghost use Rattle.chart.specs.declared.instance.TheConstants.{MAX_INSTANCES};
 ghost use Rattle.chart.specs.Names.{instance_of};
@@ -10,7 +10,7 @@ use cmd_base::ProgramError;
 use std::alloc::Global;
 use texts::named;
 
-/// The number of the instance in the other recording, if that has one of its name, and else the name.
+/// The number of the instance with the same name in the other recording. If there is none, the error is the name.
 fn counterpart(names: &Names, other_names: &Names, place: usize) -> Result<InstanceNo, Name>
     requires within { place < length names.now }
     requires limit { place < MAX_INSTANCES }
@@ -23,8 +23,8 @@ fn counterpart(names: &Names, other_names: &Names, place: usize) -> Result<Insta
     }
 }
 
-/// The number that each instance of the first recording has in the second. F40: the first instance that is none of the
-/// second. F6: it fails so only where there is no memory.
+/// For each instance of the first recording, its number in the second. F40: the second has no instance with this name.
+/// F6: it fails with this cause only if there is no memory.
 pub fn counterparts(
     alloc: Global,
     names: &Names,

@@ -1,4 +1,4 @@
-//! The pairs of events of a line that stand the other way round in another recording.
+//! The pairs of events of a line that are in the opposite order in another recording.
 ghost use Rattle.std.specs.Prelude.{◌≡◌, ◌<◌, ◌≤◌, ◌+◌, ◌++◌, length, map, slice_index_or, None, IfOk, OnOk};
 ghost use Rattle.cmd_compare.specs.Pairs.{pair_by, pairs_above, pairs_to, judged, unmatched_to};
 ghost use Rattle.cmd_compare.specs.Pairs.{greatest, AreAtMost, AreHighest};
@@ -7,7 +7,7 @@ use crate::verdict::{Side, Verdict, verdict_at};
 use chart::InstanceNo;
 use std::alloc::{AllocError, Global};
 
-/// Two events of a line, and the numbers that they have in the other recording, where they stand the other way round.
+/// Two events of a line in opposite orders, with their numbers in both recordings.
 #[derive(Clone, Copy, Debug, PartialEq, Eq)]
 pub struct Pair {
     pub earlier: usize,
@@ -16,8 +16,8 @@ pub struct Pair {
     pub later_there: usize,
 }
 
-/// Two events that stand the other way round in the other recording, and what they are in either: in this one the
-/// earlier is before the later, and there the later before the earlier.
+/// Two events in opposite orders, and their verdicts. `here` is for the earlier event before the later one in this
+/// recording, and `there` for the opposite order in the other recording.
 #[derive(Clone, Copy, Debug, PartialEq, Eq)]
 pub struct Difference {
     pub instance: InstanceNo,
@@ -26,7 +26,7 @@ pub struct Difference {
     pub there: Verdict,
 }
 
-/// Adds the pair of the events at these places, where it is one.
+/// Adds the events at these places, if they are in opposite orders.
 fn add_pair(
     pairs: &mut Vec<Pair>,
     found: &[Option<usize>],
@@ -56,7 +56,7 @@ fn add_pair(
     Ok(())
 }
 
-/// The greatest number that was found so far, with one more; 0 where none was found.
+/// The greatest number so far, with one more number. It is 0 if there is none.
 fn greatest(highest: usize, found: Option<usize>) -> usize
     ensures { result ≡ greatest highest found }
 {
@@ -66,8 +66,7 @@ fn greatest(highest: usize, found: Option<usize>) -> usize
     }
 }
 
-/// From which place on an event above this one may stand behind it there: all numbers that were found above that place
-/// are at most its own.
+/// The first place above this event whose event may follow it there. All numbers at smaller places are at most `there`.
 fn first_behind(highest: &[usize], found: &[Option<usize>], there: usize) -> usize
     requires { AreHighest found.now highest.now }
     ensures within { result ≤ length highest.now }
@@ -83,8 +82,7 @@ fn first_behind(highest: &[usize], found: &[Option<usize>], there: usize) -> usi
     first
 }
 
-/// Adds the pairs of which the event at this place is the later one, by the greatest numbers that were found up to each
-/// place above it.
+/// Adds the pairs whose later event is at this place. `highest` has the greatest numbers up to each place above it.
 fn add_pairs(
     pairs: &mut Vec<Pair>,
     found: &[Option<usize>],
@@ -107,8 +105,7 @@ fn add_pairs(
     Ok(())
 }
 
-/// The pairs of a line's events that stand the other way round there, by their later event and then by their earlier
-/// one.
+/// The pairs of a line's events that are in opposite orders, by their later event and then by their earlier one.
 pub(crate) fn pairs_of(alloc: Global, found: &[Option<usize>]) -> Result<Vec<Pair>, AllocError>
     ensures { IfOk result (λ pairs. pairs.items ≡ pairs_to found.now (length found.now)) }
 {
@@ -123,7 +120,7 @@ pub(crate) fn pairs_of(alloc: Global, found: &[Option<usize>]) -> Result<Vec<Pai
     Ok(pairs)
 }
 
-/// The numbers of the events that the other recording hasn't.
+/// The numbers of the events that the other recording lacks.
 pub(crate) fn unmatched(alloc: Global, found: &[Option<usize>]) -> Result<Vec<usize>, AllocError>
     ensures { IfOk result (λ numbers. numbers.items ≡ unmatched_to found.now (length found.now)) }
 {
@@ -136,7 +133,7 @@ pub(crate) fn unmatched(alloc: Global, found: &[Option<usize>]) -> Result<Vec<us
     Ok(numbers)
 }
 
-/// What the pair is in both recordings.
+/// The pair with its verdicts in both recordings.
 fn judged(instance: InstanceNo, here: &Side<'_>, there: &Side<'_>, pair: &Pair) -> Difference
     ensures { result ≡ judged instance here.now.events.now here.now.fronts.now there.now.events.now
         there.now.fronts.now pair.now }
@@ -149,7 +146,7 @@ fn judged(instance: InstanceNo, here: &Side<'_>, there: &Side<'_>, pair: &Pair) 
     }
 }
 
-/// What each pair is in both recordings.
+/// Each pair with its verdicts in both recordings.
 pub(crate) fn judge(
     alloc: Global,
     instance: InstanceNo,

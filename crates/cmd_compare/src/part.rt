@@ -1,4 +1,4 @@
-//! The parts of a line that is told.
+//! The parts of a line of the text.
 ghost use Rattle.std.specs.Prelude.{◌≡◌, ◌++◌};
 ghost use Rattle.std.specs.List.{flat_map};
 ghost use Rattle.msc_text.specs.ChartText.{message_at};
@@ -10,13 +10,13 @@ use crate::word::{Word, word_of};
 use chart::{Event, InstanceNo, Name, Names};
 use texts::{Out, TextBuffer, WriteError};
 
-/// A part of a line. It holds no reference, so that one list takes parts of any lifetime.
+/// A part of a line. It holds no reference, so that a list can have parts of any lifetime.
 #[derive(Clone, Copy)]
 pub(crate) enum Part {
     Word(Word),
-    /// In decimal.
+    /// A number in decimal.
     Number(u64),
-    /// Nothing, where there is no name.
+    /// A name, or nothing if there is none.
     Name(Option<Name>),
 }
 
@@ -48,7 +48,7 @@ fn add_part<W: Out>(text: &mut TextBuffer<'_, W>, part: &Part) -> Result<(), Wri
     }
 }
 
-/// Adds the parts, in their order.
+/// Adds the parts, in order.
 pub(crate) fn add_parts<W: Out>(
     text: &mut TextBuffer<'_, W>,
     parts: &[Part],
@@ -67,7 +67,7 @@ pub(crate) fn add_word<W: Out>(text: &mut TextBuffer<'_, W>, word: Word) -> Resu
     add_part(text, &Part::Word(word))
 }
 
-/// Adds the name of an instance and the word behind it.
+/// Adds the name of an instance and the word after it.
 pub(crate) fn add_name_and<W: Out>(
     text: &mut TextBuffer<'_, W>,
     names: &Names,

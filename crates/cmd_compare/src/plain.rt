@@ -1,4 +1,4 @@
-//! What is told of two recordings, in words.
+//! The differences of two recordings in words.
 ghost use Rattle.std.specs.Prelude.{◌≡◌};
 ghost use Rattle.chart.specs.Events.{ith};
 ghost use Rattle.texts.specs.Writing.{Adds};
@@ -96,7 +96,7 @@ fn add_events<W: Out>(
     add_both(text, names, events, pair.earlier, pair.earlier_there)
 }
 
-/// What they are in either recording.
+/// The verdicts on the pair in both recordings.
 #[tactic(auto, unfolding(crate::specs::PlainText::verdicts_text))]
 fn add_verdicts<W: Out>(
     text: &mut TextBuffer<'_, W>,

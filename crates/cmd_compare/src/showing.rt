@@ -1,4 +1,4 @@
-//! What two files' recordings differ in, as it is shown.
+//! Compares the recordings of two files, and writes their differences.
 ghost use Rattle.std.specs.Prelude.{◌≡◌, length, IfOk, IfErr};
 ghost use Rattle.std.specs.List.{flat_map, list_any};
 ghost use Rattle.texts.specs.Writing.{Wrote};
@@ -23,12 +23,12 @@ use cmd_base::{ProgramError, Source, Text, answered, closure_of};
 use std::alloc::Global;
 use texts::{Out, WriteError};
 
-/// What was found.
+/// The result of a comparison.
 #[derive(Clone, Copy)]
 pub(crate) enum Found {
-    /// No two events that both have stand the other way round.
+    /// No two events are in opposite orders.
     Same,
-    /// Some do.
+    /// Some two events are in opposite orders.
     Reordered,
 }
 
@@ -53,7 +53,7 @@ fn found_on(lines: &[LineComparison]) -> Found
     Found::Same
 }
 
-/// What is compared, and how it is written.
+/// The charts to compare, and the form of the text.
 #[derive(Clone, Copy)]
 struct Both<'a> {
     names: &'a Names,
@@ -63,7 +63,7 @@ struct Both<'a> {
     form: Form,
 }
 
-/// Writes what two charts differ in.
+/// Writes the differences of two charts.
 fn write_both<W: Out>(
     both: &Both<'_>,
     lines: &[LineComparison],
@@ -83,7 +83,7 @@ fn write_both<W: Out>(
     write_lines(both.form, &first, &second, lines, out)
 }
 
-/// A possible chart with what comes before its receives. F6: it fails only where there is no memory.
+/// A possible chart with the fronts of its receives. F6: it fails only if there is no memory.
 fn ordered<'a>(alloc: Global, closure: &'a Closure<'a>) -> Result<Ordered<'a>, CompareError>
     ensures lines { IfOk result (λ ordered. ordered ≡ closure.now) }
     ensures memory { IfErr result (λ e. e ≡ Program Memory) }
@@ -94,7 +94,7 @@ fn ordered<'a>(alloc: Global, closure: &'a Closure<'a>) -> Result<Ordered<'a>, C
     }
 }
 
-/// Compares the two charts and writes what they differ in. All memory is taken before the first line is written.
+/// Compares the two charts, and writes their differences. All memory is taken before the first line is written.
 fn compare_charts<W: Out>(
     alloc: Global,
     both: &Both<'_>,
@@ -126,7 +126,7 @@ fn compare_charts<W: Out>(
     }
 }
 
-/// The same of a recording and what a second file says.
+/// The same for a recording and the bytes of a second file.
 fn compare_second<W: Out>(
     alloc: Global,
     source: &Source<'_>,
@@ -149,7 +149,7 @@ fn compare_second<W: Out>(
     compare_charts(alloc, &both, out)
 }
 
-/// The same of what two files say.
+/// The same for the bytes of two files.
 fn compare_texts<W: Out>(
     alloc: Global,
     first: &[u8],
@@ -164,11 +164,11 @@ fn compare_texts<W: Out>(
     compare_second(alloc, &source, second, form, out)
 }
 
-/// Compares the charts that the bytes of two files say, or that the schedules come to that they say: writes to `out`
-/// the pairs of events that both have and that stand the other way round, each with what it is in either, and the
-/// events that one of them alone has. Writes the line of a refusal to `err`. Answers the exit status: 0 where there is
-/// no such pair, 1 where there is one, 2 after a refusal. Nothing is written to `out` before a refusal, but where
-/// writing to it failed (F24). A failed write to `err` changes nothing.
+/// Compares the charts in the bytes of two files, or the charts of the schedules in them. Writes to `out` the pairs of
+/// events that both have in opposite orders, and the events that only one of them has. Each pair has its verdict in
+/// both recordings. Writes the line of a refusal to `err`. Returns the exit status: 0 if there is no such pair, 1 if
+/// there is one, and 2 after a refusal. Nothing is written to `out` before a refusal, unless a write to it fails (F24).
+/// A failed write to `err` changes nothing.
 pub fn compare<W: Out, V: Out>(
     alloc: Global,
     first: &[u8],

@@ -1,30 +1,30 @@
-//! What an earlier and a later event of a line are.
+//! Verdicts on an earlier and a later event of a line.
 ghost use Rattle.std.specs.Prelude.{◌≡◌};
 ghost use Rattle.chart.specs.Events.{ith};
 ghost use Rattle.cmd_compare.specs.Verdicts.{verdict_by, verdict_at};
 
 use chart::Event;
 
-/// What an earlier and a later event of a line are in a recording.
+/// The verdict on an earlier and a later event of a line in a recording.
 #[derive(Clone, Copy, Debug, PartialEq, Eq)]
 pub enum Verdict {
     /// Each run of the chart's events and causes has them in this order.
     Enforced,
-    /// They may come the other way round.
+    /// They may come in the opposite order.
     Race,
-    /// They may too, and one coregion has both, so that no report tells of it.
+    /// They may come in the opposite order, but one coregion has both. So no report has the pair.
     Unclaimed,
 }
 
-/// A line, and of each of its receives how many first events of the line come before it.
+/// A line, and the front of each of its receives.
 #[derive(Clone, Copy)]
 pub(crate) struct Side<'a> {
     pub events: &'a [Event],
     pub fronts: &'a [usize],
 }
 
-/// What an event and a later receive are: by whether both are from one instance, whether one coregion has both, and
-/// whether the earlier is one of the receive's first events.
+/// The verdict on an event and a later receive. It depends on whether both are from one instance, whether one coregion
+/// has both, and whether the event is within the receive's front.
 fn verdict_by(are_from_one: bool, are_in_one_region: bool, is_first: bool) -> Verdict
     ensures { result ≡ verdict_by are_from_one are_in_one_region is_first }
 {
@@ -39,7 +39,7 @@ fn verdict_by(are_from_one: bool, are_in_one_region: bool, is_first: bool) -> Ve
     }
 }
 
-/// The event of this number, if the line has one.
+/// The event with this number, if the line has one.
 pub fn event_at(events: &[Event], index: usize) -> Option<Event>
     ensures { result ≡ ith events.now index }
 {
@@ -64,7 +64,7 @@ fn front_at(fronts: &[usize], index: usize) -> Option<usize>
     }
 }
 
-/// What the two events with these numbers are.
+/// The verdict on the two events with these numbers.
 pub(crate) fn verdict_at(side: &Side<'_>, earlier: usize, later: usize) -> Verdict
     ensures { result ≡ verdict_at side.now.events.now side.now.fronts.now earlier later }
 {

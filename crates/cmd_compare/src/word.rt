@@ -1,10 +1,10 @@
-//! The words of what is told of two recordings.
+//! The words of the text.
 ghost use Rattle.std.specs.Prelude.{◌≡◌};
 ghost use Rattle.cmd_compare.specs.Words.{word_text, verdict_word};
 
 use crate::verdict::Verdict;
 
-/// What stands between names and numbers.
+/// The fixed parts between names and numbers.
 #[derive(Clone, Copy)]
 pub(crate) enum Word {
     Colon,
@@ -77,7 +77,7 @@ pub(crate) fn word_of(word: &Word) -> &[u8]
     }
 }
 
-/// The word for what two events are.
+/// The word for a verdict.
 pub(crate) fn verdict_word(verdict: Verdict) -> Word
     ensures { result ≡ verdict_word verdict }
 {

@@ -1,4 +1,4 @@
--- What is written of a chart that no run has, or where no columns are: nothing.
+-- Nothing is written for a chart that no run has, or that lacks the named columns.
 use Rattle.std.proofs.Common.{◌≡◌, ℕ, ◌⊎◌, inl, inr, List, Err, refl}
 use Rattle.cmd_base.specs.declared.error.ProgramError.{ProgramError}
 use Rattle.cmd_base.specs.declared.error.ProgramError.TheVariants.{Usage, File, Memory, Text, ReceiveWithoutSend, NameMismatch, Cyclic, Write}
@@ -15,7 +15,7 @@ use Rattle.cmd_draw.specs.Drawing.{Draws}
 use Rattle.cmd_draw.specs.Exporting.{Exports}
 
 module _ {S : Type 0} (sink : S → Sink) (old : S) (turns : List ℕ) (notes : List MarginNote) (named : Named) where
-  -- there are no such columns
+  -- the chart has no such columns
   pub no_columns : (wanted : Wanted) (error : FormatError) → RefusesColumns named.0 (only_of wanted.only) error → Draws sink old old (Err (Format error)) wanted turns notes named
   no_columns wanted NoSuchName none = (none, refl)
   no_columns wanted (Program Memory) why = refl

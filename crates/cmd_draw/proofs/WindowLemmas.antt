@@ -1,4 +1,4 @@
--- That each event of a chart has a row of its layout.
+-- Each event of a chart has a row in its layout.
 use Rattle.std.proofs.Common.{◌≡◌, ℕ, ◌≤◌, Bool, true, false, cond, List, length, Option, None, Some, Result, Ok, Err, refl, sym, ap, ◌∙◌, subst, arith}
 use Rattle.std.specs.Prelude.{nat_le}
 use Rattle.std.specs.List.{range_with_len}
@@ -23,7 +23,7 @@ passed : (b : Bool) (e event : EventNo) (missing : Missing) → cond b (Ok e) (E
 passed true e event missing is = (refl, cc)
 passed false e event missing is = cc
 
--- an event that is named and there has a row
+-- an event that is named, and that the chart has, has a row
 pub has_row : (named : Named) (layout : List Row) (around : Around) (event : EventNo) → IsDrawing named.1 layout → event_named named around ≡ Ok event → row_of layout (place_of event) ≡ None → ⊥
 has_row named layout around event drawing known none = on_line (instance_named named.0 around.instance.now) known
   where

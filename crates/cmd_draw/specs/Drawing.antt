@@ -1,4 +1,4 @@
--- What is drawn of a file.
+-- The picture that is drawn of a file.
 use Rattle.std.specs.Prelude.{◌≡◌, ℕ, List, [], length, Option, Result, Ok, Err}
 use Rattle.chart.specs.declared.instance.EventNo.{EventNo}
 use Rattle.chart.specs.Charts.{chart_lines, IsPossible}
@@ -24,7 +24,7 @@ use Rattle.cmd_base.specs.Columns.Columns.{AreColumns, only_of}
 use Rattle.cmd_draw.specs.Windows.{IsWindow, HasNoWindow}
 use Rattle.cmd_draw.specs.Preparing.{turns_in, IsPrepared}
 
--- the picture is that of what is wanted of the chart, which is possible, with these notes in its margin
+-- the chart is possible, and the picture is of its wanted part, with these notes in its margin
 pub record IsWanted (wanted : Wanted) (turns : List ℕ) (notes : List MarginNote) (named : Named) (picture : PictureView) : Type 0 where
   pub columns : List ℕ
   pub rows : List Row
@@ -54,8 +54,8 @@ pub record IsWanted (wanted : Wanted) (turns : List ℕ) (notes : List MarginNot
   }) picture
 
 module _ {S : Type 0} (sink : S → Sink) where
-  -- the picture was written; or a beginning of it, where a put failed; or nothing, where there are no such columns,
-  -- where the chart is not possible, where its rows stand round an event that it doesn't have, or where memory ran out
+  -- the picture was written; or a beginning of it, if a put failed; or nothing. Nothing is written if the chart lacks
+  -- the columns, isn't possible, lacks the event that the rows are around, or if memory ran out
   abbrev pub Draws : S → S → Result (Unit {0}) DrawError → Wanted → List ℕ → List MarginNote → Named → Type 0
   Draws old new (Ok done) wanted turns notes named = (picture : PictureView) × IsWanted wanted turns notes named picture
       × Puts sink old new (picture_text picture)
@@ -70,7 +70,7 @@ module _ {S : Type 0} (sink : S → Sink) where
       × AreColumns named.0 (only_of wanted.only) columns × IsPossible (length named.1) (chart_lines named.1)
       × HasNoWindow named wanted.rows missing × (new ≡ old)
 
-  -- the same for the chart that the bytes say; or nothing was written, where the bytes have a fault
+  -- the same for the chart in a file; or nothing was written, if the bytes have a fault
   abbrev pub DrawsText : S → S → Wanted → List ℕ → Result (Option NotDone) DrawError → Type 0
   DrawsText old new wanted bytes = OfFile (λ error. Format (Program error))
       (IsNoted (λ them. tt) (λ them. them) (λ source done. Draws old new done wanted (turns_in source) [] (named_of source))) old new bytes

@@ -1,4 +1,4 @@
--- What is exported of a file.
+-- The text of an export of a file.
 use Rattle.std.specs.Prelude.{◌≡◌, ℕ, Bool, false, ◌||◌, ◌++◌, List, [], length, nat_lt, codes, Option, None, Some, Result, Ok, Err, if◌then◌else◌}
 use Rattle.std.specs.List.{list_any}
 use Rattle.chart.specs.declared.instance.EventNo.{EventNo}
@@ -28,7 +28,7 @@ use Rattle.cmd_draw.specs.declared.target.Target.TheVariants.{Diagram, ShiViz}
 use Rattle.cmd_base.specs.Columns.Answers.{error_exit}
 use Rattle.cmd_draw.specs.Preparing.{turns_in, IsPrepared}
 
--- the tool that an export is for; a log is the same for each
+-- the tool that an export is made for; a log is the same for each tool
 abbrev pub tool_of : Target → Tool
 tool_of (Diagram tool) = tool
 tool_of ShiViz = PlantUml
@@ -47,11 +47,11 @@ abbrev pub has_parted_in : Target → ExportView → Bool
 has_parted_in (Diagram tool) v = has_parted v
 has_parted_in ShiViz v = false
 
--- what is to be told beside the text
+-- the warnings beside the text
 abbrev pub diagnostics_of : Target → ExportView → Diagnostics
 diagnostics_of target v = record { parted = has_parted_in target v; regions = list_any has_region v.lines }
 
--- what is said of it
+-- the lines of these warnings
 unfoldable pub parted_text : Bool → List ℕ
 parted_text parted = if parted then codes "a message that isn't level is two notes\n" else []
 
@@ -64,7 +64,7 @@ both_text diagnostics = parted_text diagnostics.parted ++ regions_text diagnosti
 abbrev pub diagnostics_text : Diagnostics → Option (List ℕ)
 diagnostics_text diagnostics = if diagnostics.parted || diagnostics.regions then Some (both_text diagnostics) else None
 
--- the export is that of the chart, which is possible
+-- the chart is possible, and the export is made from it
 pub record IsExported (target : Target) (turns : List ℕ) (named : Named) (v : ExportView) : Type 0 where
   pub rows : List Row
   pub ends : List (List (Option EventNo))
@@ -75,7 +75,7 @@ pub record IsExported (target : Target) (turns : List ℕ) (named : Named) (v : 
   pub is : IsExportOf (tool_of target) named.0 named.1 rows reports ends v
 
 module _ {S : Type 0} (sink : S → Sink) where
-  -- a text was written; or a beginning of it, where a put failed; or nothing, where memory ran out
+  -- a text was written; or a beginning of it, if a put failed; or nothing, if memory ran out
   abbrev pub Writes : S → S → Result (Unit {0}) FormatError → List ℕ → Type 0
   Writes old new (Ok done) text = Puts sink old new text
   Writes old new (Err NoSuchName) text = ⊥
@@ -83,8 +83,8 @@ module _ {S : Type 0} (sink : S → Sink) where
   Writes old new (Err (Program errors.Write)) text = Breaks sink old new text
   Writes old new (Err (Program error)) text = ⊥
 
-  -- the text was written; or a beginning of it, where a put failed; or nothing, where the chart is not possible or
-  -- memory ran out
+  -- the text was written; or a beginning of it, if a put failed; or nothing, if the chart isn't possible or memory ran
+  -- out
   abbrev pub Exports : S → S → Result Diagnostics FormatError → Target → List ℕ → Named → Type 0
   Exports old new (Ok diagnostics) target turns named = (v : ExportView) × IsExported target turns named v × (diagnostics ≡ diagnostics_of target v)
       × Puts sink old new (text_of target v)
@@ -94,12 +94,12 @@ module _ {S : Type 0} (sink : S → Sink) where
       × Breaks sink old new (text_of target v)
   Exports old new (Err (Program error)) target turns named = IsRefused error named × (new ≡ old)
 
-  -- the same for the chart that the bytes say; or nothing was written, where the bytes have a fault
+  -- the same for the chart in a file; or nothing was written, if the bytes have a fault
   abbrev pub ExportsText : S → S → Target → List ℕ → Result Diagnostics FormatError → Type 0
   ExportsText old new target bytes =
       OfFile Program (λ source done. Exports old new done target (turns_in source) (named_of source)) old new bytes
 
--- what is said of what was exported
+-- the status and the lines for an export that was written
 abbrev pub diagnostics_exit : Diagnostics → Exit
 diagnostics_exit diagnostics = record { status = 0; diagnostics = diagnostics_text diagnostics }
 

@@ -1,4 +1,4 @@
--- What a picture or an export is drawn from, beside the chart itself.
+-- What a picture or an export is made from, in addition to the chart itself.
 use Rattle.std.specs.Prelude.{ℕ, List, [], Option}
 use Rattle.chart.specs.declared.instance.EventNo.{EventNo}
 use Rattle.chart.specs.Charts.{LineView, chart_lines}
@@ -17,7 +17,7 @@ abbrev pub reports_in : Reports → List ReportView
 reports_in (Replayed reports) = reports.now
 reports_in (Searched reports) = reports.items
 
--- whose turn it was, one event after another, in the run that the chart comes from; a chart's own text has no run
+-- the instance of each event in turn, in the run that the chart comes from; a chart's own text has no run
 abbrev pub turns_in : Source → List ℕ
 turns_in (Run schedule outcome) = turns_of schedule.now.commands outcome.notes
 turns_in (Written named) = []

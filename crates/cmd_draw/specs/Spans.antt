@@ -1,9 +1,9 @@
--- Which events of each line are drawn, as a word of a command line says it (this project's profile).
+-- The range of events to draw, as a word of a command line gives it (this project's profile).
 use Rattle.std.specs.Prelude.{◌≡◌, ℕ, ◌^◌, ◌<◌, ◌≤◌, List, ◌∷◌, ◌++◌}
 use Rattle.cmd_base.specs.Numbers.{IsNumber, number_of}
 use Rattle.cmd_draw.specs.declared.events.Events.{Events}
 
--- the word says these events: two numbers in decimal digits alone, joined by two dots (byte 46)
+-- the word gives this range: two numbers of decimal digits only, joined by two dots (byte 46)
 pub record AreEvents (word : List ℕ) (events : Events) : Type 0 where
   pub first : List ℕ
   pub last : List ℕ

@@ -1,4 +1,4 @@
--- Which tools a word of a command line names.
+-- The tools that a word of a command line names.
 use Rattle.std.specs.Prelude.{ℕ, List, Option, None, Some, option_map, bytes_eq, codes, if◌then◌else◌}
 use Rattle.diagram_tool.specs.declared.Tool.{Tool}
 use Rattle.diagram_tool.specs.declared.Tool.TheVariants.{Mscgen, PlantUml, Mermaid}
@@ -12,6 +12,6 @@ tool_named word =
     (if bytes_eq word (codes "plantuml") then Some PlantUml else
     (if bytes_eq word (codes "mermaid") then Some Mermaid else None))
 
--- what a word says to export to
+-- the target of an export that a word names
 abbrev pub target_named : List ℕ → Option Target
 target_named word = if bytes_eq word (codes "shiviz") then Some ShiViz else option_map Diagram (tool_named word)

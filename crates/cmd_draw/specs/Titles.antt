@@ -1,13 +1,13 @@
--- What a file is called (this project's own).
+-- The name of a file (this project's own).
 use Rattle.std.specs.Prelude.{◌≡◌, ℕ, ◌+◌, List, drop, Option, None, Some}
 use Rattle.memchr.specs.Find.{IsLastByte, is_byte}
 
--- what stands behind a place of a path, or all of it
+-- the part of a path after a place, or all of it without a place
 abbrev pub behind : Option ℕ → List ℕ → List ℕ
 behind None path = path
 behind (Some place) path = drop (place + 1) path
 
--- the name of the file alone: what stands behind the last / (byte 47) of its path
+-- the name of the file without its folders: the part of its path after the last / (byte 47)
 pub record IsFileName (path name : List ℕ) : Type 0 where
   pub slash : Option ℕ
   pub last : IsLastByte (is_byte 47) path slash

@@ -1,4 +1,4 @@
-//! Refusals, as text on standard error.
+//! The refusals, as text on standard error.
 ghost use Rattle.std.specs.Prelude.{◌≡◌};
 ghost use Rattle.cmd_base.specs.Refusals.{Tried};
 ghost use Rattle.cmd_draw.specs.Answers.{picture_refusal_text, draw_error_exit};
@@ -9,7 +9,7 @@ use cmd_base::columns::refused;
 use cmd_base::named::refused_missing;
 use texts::Out;
 
-/// Prints the line of a picture's refusal, and answers the exit status, which is 2 whether or not the line could be
+/// Prints the line of a picture's refusal. It returns the exit status, which is 2 even if the line could not be
 /// written.
 pub fn refused_picture<V: Out>(error: &DrawError, err: &mut V) -> u8
     ensures status { result ≡ 2 }

@@ -1,4 +1,4 @@
-//! What `mscview draw` does with the bytes of a file.
+//! What `mscview draw` writes for the bytes of a file.
 ghost use Rattle.std.specs.Prelude.{◌≡◌, ◌≤◌, [], length};
 ghost use Rattle.chart.specs.declared.instance.TheConstants.{MAX_INSTANCES};
 ghost use Rattle.chart.specs.Charts.{chart_lines, IsPossible};
@@ -23,14 +23,14 @@ use pictures::{Part, Picture, write_picture};
 use std::alloc::Global;
 use texts::Out;
 
-/// What of a file is to be drawn, and how.
+/// What to draw of a file, and how.
 #[derive(Clone, Copy, Debug)]
 pub struct Wanted<'a> {
-    /// What stands above the picture: any bytes.
+    /// The title above the picture: any bytes.
     pub title: &'a [u8],
-    /// The names of the instances that have a column, joined by commas. Without it all have one.
+    /// The names of the instances that have a column, joined by commas. Without it each instance has one.
     pub only: Option<&'a [u8]>,
-    /// The numbers of each line's events that are chosen.
+    /// The numbers of the events that are chosen, on each line.
     pub events: Events,
     /// The rows whose events are chosen.
     pub rows: Rows<'a>,
@@ -38,22 +38,22 @@ pub struct Wanted<'a> {
     pub numbers: bool,
 }
 
-/// A chart that is drawn.
+/// A chart to draw.
 #[derive(Clone, Copy)]
 struct Subject<'a> {
     names: &'a Names,
     closure: &'a Closure<'a>,
-    /// Whose turn it is, one event after another, in the run or the diagram that the chart comes from. A chart's own
-    /// text has none.
+    /// The instance of each event in turn, in the run or the diagram that the chart comes from. It is empty for a
+    /// chart's own text.
     turns: &'a [InstanceNo],
-    /// What stands beside its rows.
+    /// The texts in the margin, beside its rows.
     notes: &'a [MarginNote],
     /// The reports of its receives.
     reports: &'a [Report],
 }
 
-/// Draws these columns of a possible chart. F31: its rows stand round an event that it doesn't have. All memory is
-/// taken before the first byte is written.
+/// Draws these columns of a possible chart. F31 refuses rows around an event that the chart doesn't have. It takes all
+/// memory before it writes the first byte.
 fn draw_columns<W: Out>(
     alloc: Global,
     subject: &Subject<'_>,
@@ -99,8 +99,8 @@ fn draw_columns<W: Out>(
     }
 }
 
-/// Draws what is wanted of the chart that a source has. F34: a name of `--only` is none of the chart's, or is there
-/// twice. Then F16, F17 or F18 refuses a chart that isn't possible, and then F31 an event that it doesn't have.
+/// Draws the wanted part of a source's chart. F34 refuses a name of `--only` that the chart doesn't have, or that is
+/// given twice. Then F16, F17 or F18 refuses a chart that isn't possible, and then F31 an event that it doesn't have.
 fn draw_source<W: Out>(
     alloc: Global,
     source: &Source<'_>,
@@ -129,10 +129,11 @@ fn draw_source<W: Out>(
     draw_columns(alloc, &subject, columns.as_slice(), wanted, out)
 }
 
-/// Draws what is wanted of a chart, which has a line for each name, by whose turn it is, one event after another, with
-/// these notes in its margin. Without turns its rows are those of [`chart_layout::layout`]'s rule. F34: a name of
-/// `--only` is none of the chart's, or is there twice. Then F16, F17 or F18 refuses a chart that isn't possible, and
-/// then F31 an event that it doesn't have. Nothing is written before a refusal, but where writing failed (F24).
+/// Draws the wanted part of a chart, with these notes in its margin. The chart has a line for each name. The turns give
+/// the instance of each event, one event after another, and so decide the rows. Without turns the rule of
+/// [`chart_layout::layout`] decides them. F34 refuses a name of `--only` that the chart doesn't have, or that is given
+/// twice. Then F16, F17 or F18 refuses a chart that isn't possible, and then F31 an event that it doesn't have. It
+/// writes nothing before a refusal, unless a write failed (F24).
 pub fn draw_chart<W: Out>(
     alloc: Global,
     names: &Names,
@@ -160,7 +161,7 @@ pub fn draw_chart<W: Out>(
     draw_columns(alloc, &subject, columns.as_slice(), wanted, out)
 }
 
-/// Draws what the file says, and answers which commands of its schedule did nothing.
+/// Draws the chart in a file. It returns which commands of its schedule did nothing.
 fn draw_text<W: Out>(
     alloc: Global,
     bytes: &[u8],
@@ -175,11 +176,11 @@ fn draw_text<W: Out>(
     Ok(source.not_done())
 }
 
-/// Writes a picture, as SVG text, of the chart that the bytes of a file say, or of what the schedule comes to that they
-/// say: its columns, its rows, the marks of its races. Writes the line of a refusal to `err`, and of a schedule how
-/// many of its commands did nothing. Answers the exit status: 0 where it was drawn, 2 after a refusal. The text's
-/// faults are refused first, then F34, then F16, F17 or F18, Nothing is written to `out` before a refusal, but where
-/// writing to it failed (F24). A failed write to `err` changes nothing.
+/// Writes a picture, as SVG text, of the chart in a file, or of the outcome of the schedule in it. The picture has
+/// columns, rows and the marks of races. It writes the line of a refusal to `err`, and for a schedule how many of its
+/// commands did nothing. It returns the exit status: 0 if the picture was written, 2 after a refusal. The faults of the
+/// text are refused first, then F34, then F16, F17 or F18, and then F31. It writes nothing to `out` before a refusal,
+/// unless a write to it failed (F24). A failed write to `err` changes nothing.
 pub fn draw<W: Out, V: Out>(
     alloc: Global,
     bytes: &[u8],

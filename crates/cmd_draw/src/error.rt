@@ -1,17 +1,17 @@
-//! What is refused.
+//! Why a picture is refused.
 
 use cmd_base::ProgramError;
 use cmd_base::columns::FormatError;
 use cmd_base::named::Missing;
 use thiserror::Error;
 
-/// Why a picture was not drawn: the first of these that applies.
+/// Why a picture was not drawn: the first of these causes that applies.
 #[derive(Clone, Copy, Debug, PartialEq, Eq, Error)]
 pub enum DrawError {
-    /// What is refused of exports and of races too.
+    /// A cause that exports and races are refused for too.
     #[error(transparent)]
     Format(FormatError),
-    /// F31: `--around` names an instance that the chart doesn't have, or an event that its line doesn't have.
+    /// F31: the chart has no instance of the name after `--around`, or the line of this instance has no such event.
     #[error("there is no such event")]
     NoSuchEvent(Missing),
 }

@@ -1,4 +1,4 @@
-//! Which events of each line are drawn, as a word of a command line says it.
+//! The range of events to draw, as a word of a command line gives it.
 ghost use Rattle.std.specs.Prelude.{◌≡◌, ◌∷◌, ◌++◌, ℕ, true, List, MatchOption, IfSome};
 ghost use Rattle.std.specs.List.{list_all};
 ghost use Rattle.std.specs.Char.{is_ascii_digit};
@@ -6,7 +6,7 @@ ghost use Rattle.cmd_draw.specs.Spans.{AreEvents};
 
 use cmd_base::number_in;
 
-/// The numbers of the first and of the last of some events, rows or lines, from 1.
+/// A range of events, rows or lines: the numbers of the first and the last, from 1.
 #[derive(Clone, Copy, Debug, PartialEq, Eq)]
 pub struct Events {
     pub first: u32,
@@ -14,14 +14,14 @@ pub struct Events {
 }
 
 impl Events {
-    /// All of them.
+    /// All events, rows or lines.
     pub const ALL: Events = Events {
         first: 1,
         last: u32::MAX,
     };
 }
 
-/// What stands before two dots and behind them, where they are the first ones.
+/// Splits a word at its first dot, if a second dot follows: the part before both dots, and the part after them.
 fn round_dots(word: &str) -> Option<(&str, &str)>
     ensures cut { IfSome result (λ cut. word.now ≡ cut.0.now ++ (46 ∷ 46 ∷ cut.1.now)) }
     ensures only { (first last : List ℕ) → word.now ≡ first ++ (46 ∷ 46 ∷ last) → list_all is_ascii_digit first ≡ true
@@ -32,8 +32,8 @@ fn round_dots(word: &str) -> Option<(&str, &str)>
     Some((first, last))
 }
 
-/// The events that a word `A..B` says: two numbers in decimal digits alone, of 32 bits, the first at least 1 and not
-/// above the second. Zeros may stand before them, and no sign.
+/// The range of events that a word `A..B` gives. Both numbers consist of decimal digits only, without a sign, and have
+/// at most 32 bits. They may have leading zeros. The first is at least 1 and not above the second.
 pub fn events_in(word: &str) -> Option<Events>
     ensures { MatchOption result ((events : Events) → AreEvents word.now events → ⊥) (AreEvents word.now) }
 {

@@ -1,4 +1,4 @@
-//! What `mscview export` does with the bytes of a file.
+//! What `mscview export` writes for the bytes of a file.
 ghost use Rattle.std.specs.Prelude.{◌≡◌, length};
 ghost use Rattle.std.specs.List.{list_any};
 ghost use Rattle.chart.specs.Charts.{chart_lines, IsPossible};
@@ -21,16 +21,16 @@ use diagram_tool::Tool;
 use std::alloc::Global;
 use texts::{Out, TextBuffer, WriteError};
 
-/// What is to be told beside a text, since it doesn't say so.
+/// The warnings about what a text can't express.
 #[derive(Clone, Copy)]
 struct Diagnostics {
-    /// A message of which each end is a note of its own.
+    /// Whether the two ends of a message are two notes.
     parted: bool,
-    /// A coregion.
+    /// Whether the chart has a coregion.
     regions: bool,
 }
 
-/// The tool that an export is for.
+/// The tool that an export is made for.
 fn tool_of(target: Target) -> Tool
     ensures { result ≡ tool_of target }
 {
@@ -57,7 +57,7 @@ fn have_regions(lines: &[Line]) -> bool
     lines.iter().any(|line| line.greatest_region() > 0)
 }
 
-/// Writes the text of an export. All memory is taken before the first byte is written.
+/// Writes the text of an export. It takes all memory before it writes the first byte.
 fn write_text<W: Out>(
     alloc: Global,
     target: Target,
@@ -116,7 +116,7 @@ fn export_closure<W: Out>(
     })
 }
 
-/// Exports the chart. F16, F17 or F18 refuses one that isn't possible.
+/// Exports the chart of a source. F16, F17 or F18 refuses a chart that isn't possible.
 fn export_source<W: Out>(
     alloc: Global,
     source: &Source<'_>,
@@ -142,7 +142,7 @@ fn export_source<W: Out>(
     )
 }
 
-/// Exports what the file says.
+/// Exports the chart in a file.
 fn export_text<W: Out>(
     alloc: Global,
     bytes: &[u8],
@@ -178,7 +178,7 @@ fn regions_text(regions: bool) -> &'static [u8]
     }
 }
 
-/// Adds what is to be told.
+/// Adds the lines of both warnings, as far as they apply.
 #[tactic(auto, using(texts::proofs::Writes::joining), unfolding(crate::specs::Exporting::both_text))]
 fn add_both<V: Out>(
     text: &mut TextBuffer<'_, V>,
@@ -199,7 +199,7 @@ fn write_both<V: Out>(diagnostics: Diagnostics, err: &mut V) -> Result<(), Write
     text.finish()
 }
 
-/// What the text of a tool doesn't tell.
+/// Prints what the text of a tool can't express.
 impl Answer for Diagnostics {
     ghost exit = { diagnostics_exit };
 
@@ -214,10 +214,11 @@ impl Answer for Diagnostics {
     }
 }
 
-/// Writes the text of a tool for the chart that the bytes of a file say, or for what the schedule comes to that they
-/// say. What the text doesn't tell is a line on `err`. Writes the line of a refusal to `err`. Answers the exit status:
-/// 0 where it was written, 2 after a refusal. The text's faults are refused first, then F16, F17 or F18. Nothing is
-/// written to `out` before a refusal, but where writing to it failed (F24). A failed write to `err` changes nothing.
+/// Writes the text of a tool for the chart in a file, or for the outcome of the schedule in it. It writes a line to
+/// `err` for each kind of thing that the text can't express. It writes the line of a refusal to `err`. It returns the
+/// exit status: 0 if the text was written, 2 after a refusal. The faults of the text are refused first, then F16, F17
+/// or F18. It writes nothing to `out` before a refusal, unless a write to it failed (F24). A failed write to `err`
+/// changes nothing.
 pub fn export<W: Out, V: Out>(
     alloc: Global,
     bytes: &[u8],

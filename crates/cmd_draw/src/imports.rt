@@ -1,15 +1,17 @@
-//! What `mscview draw --from` does with the bytes of another tool's text, and what it says where it can't.
+//! What `mscview draw --from` writes for the bytes of another tool's text, and what it reports if it refuses them.
 //!
-//! What is promised of [`draw_of`]: the bytes of the text, the tool and the options of its reading, and what is
-//! wanted of the picture decide the output's bytes.
+//! The text, the tool, the options for reading, and what is wanted of the picture decide the bytes of the output of
+//! [`draw_of`]:
 //!
-//! - With status 0 exactly the text of the picture was written of the chart that `mscview import` writes of the
-//!   same text: as `mscview draw` writes it, but that its events stand in the order of the diagram's rows
-//!   (`specs/Imports/Turns`), and its notes and dividers in the margin (`diagram_import::margin`). Standard error
-//!   tells what an import tells, but of what the picture has: what is left out, and each name that isn't its
-//!   label's words.
-//! - With status 2 the refusal's line was written, or a beginning of it where standard error failed, and nothing went
-//!   to the output before it, unless a write failed (F24).
+//! - With status 0 it wrote exactly the text of the picture of the chart that `mscview import` writes for the same
+//!   text. `mscview draw` writes the same picture for this chart, with two exceptions. The events are in the order of
+//!   the diagram's rows (`specs/Imports/Turns`). The notes and dividers of the diagram are in the margin
+//!   (`diagram_import::margin`).
+//! - With status 0 standard error also has the warnings of an import, except those about constructs that the picture
+//!   has. They list the constructs that are missing, the messages that overtake another one, and each name that isn't
+//!   the words of its label.
+//! - With status 2 it wrote the refusal's line, or a beginning of it if standard error failed. It wrote nothing to the
+//!   output before that, unless a write failed (F24).
 
 mod diagnostics;
 mod drawing;

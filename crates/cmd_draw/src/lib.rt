@@ -1,23 +1,22 @@
-//! What the program `mscview` draws of a file and writes for other tools, and what it says where it can't.
+//! What `mscview draw` and `mscview export` write for a file, and what they report if they refuse it.
 //!
-//! What is promised of [`draw`]: the bytes of the file, a title, the names of columns, and the numbers of two
-//! events and of two rows decide the output's bytes, but for where the rows of a layout are.
+//! The bytes of the file and the options in [`Wanted`] decide the bytes of the output of [`draw`]:
 //!
-//! - With status 0 exactly the text of a picture was written. It is of the chart that the file says, which is
-//!   possible, of a layout of it, of the other ends of its messages and of the reports of its receives. It has the
-//!   columns that are named, or all, the events between the two in the rows between the two, and the other ends of
-//!   their messages.
-//! - With status 2 the refusal's line was written, or a beginning of it where standard error failed, and nothing went
-//!   to the output before it, unless a write failed (F24).
-//! - [`events_in`] reads exactly the words of two numbers, joined by two dots, of which the first is at least 1 and
-//!   not above the second. [`file_name`] answers what stands behind the last `/` of a path.
+//! - With status 0 it wrote exactly the text of a picture. The picture shows the chart in the file, which is possible.
+//!   It is drawn from a layout of the chart, the other ends of its messages and the reports of its receives. It has the
+//!   named columns, or all of them. In these it has the chosen events in the chosen rows, and the other ends of their
+//!   messages.
+//! - With status 2 it wrote the refusal's line, or a beginning of it if standard error failed. It wrote nothing to the
+//!   output before that, unless a write failed (F24).
+//! - [`events_in`] reads exactly the words that have two numbers, joined by two dots. The first number is at least 1
+//!   and not above the second. [`file_name`] returns the part of a path after its last `/`.
 //!
-//! Of [`export`] the same is promised with the text of the tool in place of the picture; and with status 0 standard
-//! error tells what such a text can't say: a message that isn't level, where the tool has no arrow for it, and
-//! coregions.
+//! [`export`] promises the same, with the text of a tool in place of the picture. With status 0 standard error also
+//! lists what such a text can't express. These are coregions, and a message that isn't level and for which the tool has
+//! no arrow.
 //!
-//! [`witness`] draws a run in which a pair is reordered beside the chart, and [`imports`] draws diagrams of other
-//! tools.
+//! [`witness`] draws, beside the chart, a run with a pair of its events in the other order. [`imports`] draws diagrams
+//! of other tools.
 #![tactic(auto)]
 
 mod answering;

@@ -1,4 +1,4 @@
-//! What a picture or an export is drawn from, beside the chart itself.
+//! What a picture or an export is made from, in addition to the chart itself.
 ghost use Rattle.std.specs.Prelude.{◌≡◌, IfOk};
 ghost use Rattle.chart.specs.Reports.{AreReports};
 ghost use Rattle.cmd_base.specs.Texts.{named_of, ComesFrom};
@@ -18,14 +18,14 @@ use std::alloc::{AllocError, Global};
 /// The reports of a chart's receives.
 #[derive(Drop)]
 pub enum Reports<'a> {
-    /// Those that the replay of a schedule gave.
+    /// The reports from the replay of a schedule.
     Replayed(&'a [Report]),
-    /// Those that were searched for.
+    /// The reports from a search over the chart.
     Searched(Vec<Report>),
 }
 
 impl<'a> Reports<'a> {
-    /// Those of the source's chart. F6: it fails only where there is no memory.
+    /// The reports of the source's chart. F6: it fails only if there is no memory.
     pub fn of(source: &'a Source<'_>, closure: &Closure<'_>) -> Result<Reports<'a>, AllocError>
         requires { closure.now ≡ (named_of source.now).1 }
         ensures { IfOk result (λ reports. AreReports closure.now (reports_in reports)) }
@@ -49,14 +49,14 @@ impl<'a> Reports<'a> {
     }
 }
 
-/// Where a chart's events are drawn, and the other ends of its messages.
+/// The rows in which a chart's events are drawn, and the other ends of its messages.
 #[derive(Drop)]
 pub struct Prepared {
     pub layout: Layout,
     pub ends: Ends,
 }
 
-/// Whose turn it was in the run of a schedule. F6: it fails only where there is no memory.
+/// The instance of each event in turn, in the run of a schedule. F6: it fails only if there is no memory.
 fn turns_of_run(
     alloc: Global,
     schedule: &Schedule,
@@ -68,8 +68,8 @@ fn turns_of_run(
     turns_of(alloc, schedule.commands(), outcome.notes())
 }
 
-/// Whose turn it was in the run that the source's chart comes from. A chart's own text has no run. F6: it fails only
-/// where there is no memory.
+/// The instance of each event in turn, in the run that the source's chart comes from. It is empty for a chart's own
+/// text, which has no run. F6: it fails only if there is no memory.
 pub fn turns_in(alloc: Global, source: &Source<'_>) -> Result<Vec<InstanceNo>, AllocError>
     requires { ComesFrom source.now }
     ensures { IfOk result (λ turns. turns.items ≡ turns_in source.now) }
@@ -80,8 +80,7 @@ pub fn turns_in(alloc: Global, source: &Source<'_>) -> Result<Vec<InstanceNo>, A
     }
 }
 
-/// What a picture of a possible chart is drawn from, beside its reports, by whose turn it was in its run. F6: it fails
-/// only where there is no memory.
+/// The layout of a chart for these turns, and the other ends of its messages. F6: it fails only if there is no memory.
 pub fn prepare_by(
     alloc: Global,
     closure: &Closure<'_>,
@@ -94,7 +93,7 @@ pub fn prepare_by(
     Ok(Prepared { layout, ends })
 }
 
-/// What an export of the source's chart is written from, beside its reports. F6: it fails only where there is no
+/// The layout of the source's chart for an export, and the other ends of its messages. F6: it fails only if there is no
 /// memory.
 pub(crate) fn prepare(
     alloc: Global,

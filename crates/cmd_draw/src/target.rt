@@ -1,15 +1,15 @@
-//! Which tools a command line names.
+//! The tools that a command line names.
 ghost use Rattle.std.specs.Prelude.{◌≡◌};
 ghost use Rattle.cmd_draw.specs.Targets.{tool_named, target_named};
 
 use diagram_tool::Tool;
 
-/// What a chart is exported to.
+/// The tool that a chart is exported for.
 #[derive(Clone, Copy, Debug, PartialEq, Eq)]
 pub enum Target {
-    /// A sequence diagram.
+    /// A tool for sequence diagrams.
     Diagram(Tool),
-    /// A log with vector clocks, as ShiViz reads it.
+    /// ShiViz, which reads a log with vector clocks.
     ShiViz,
 }
 
@@ -25,7 +25,7 @@ pub fn tool_in(word: &str) -> Option<Tool>
     }
 }
 
-/// What a word of a command line says to export to: a tool, or `shiviz`.
+/// The target of an export that a word of a command line names: a tool for diagrams, or `shiviz`.
 pub fn target_in(word: &str) -> Option<Target>
     ensures { result ≡ target_named word.now }
 {

@@ -1,4 +1,4 @@
-//! Which rows of a picture are chosen.
+//! The chosen rows of a picture.
 ghost use Rattle.std.specs.Prelude.{◌≡◌, ◌≤◌, ◌-◌, length, MatchResult};
 ghost use Rattle.chart.specs.declared.line.TheConstants.{MAX_EVENTS};
 ghost use Rattle.cmd_draw.specs.Windows.{event_on, event_named, round, IsWindow, HasNoWindow};
@@ -19,30 +19,30 @@ pub struct Around<'a> {
     pub event: u64,
 }
 
-/// Which rows of a picture are chosen.
+/// The way in which the rows of a picture are chosen.
 #[derive(Clone, Copy, Debug)]
 pub enum Rows<'a> {
-    /// Those of these numbers, from 1.
+    /// The rows with these numbers, from 1.
     Between(Events),
-    /// The row of an event, and up to twelve above it and below it.
+    /// The row of an event, and up to twelve rows above and below it.
     Around(Around<'a>),
 }
 
-/// The numbers of the first and of the last row that are chosen, from 0.
+/// The places of the first and the last chosen row, from 0.
 #[derive(Clone, Copy)]
 pub struct Window {
     pub top: usize,
     pub bottom: usize,
 }
 
-/// The place of a row among all, from 0, by its number.
+/// The place of a row, from 0, for its number, from 1.
 fn place_of(row: u32) -> usize
     ensures { result ≡ row - 1 }
 {
     row.saturating_sub(1) as usize
 }
 
-/// The event of this number, if the instance's line has it.
+/// The event with this number, if the instance's line has one.
 fn event_on(
     names: &Names,
     instance: InstanceNo,
@@ -62,7 +62,7 @@ fn event_on(
     })
 }
 
-/// The event that is named, or what the chart lacks of it.
+/// The named event, or what the chart lacks.
 fn event_named(names: &Names, lines: &[Line], around: &Around<'_>) -> Result<EventNo, Missing>
     ensures { result ≡ event_named (names.now, lines.now) around.now }
 {
@@ -72,7 +72,7 @@ fn event_named(names: &Names, lines: &[Line], around: &Around<'_>) -> Result<Eve
     }
 }
 
-/// The rows up to twelve above a row and up to twelve below it.
+/// A row, with up to twelve rows above it and up to twelve below it.
 fn round(row: usize) -> Window
     ensures { result ≡ round row }
 {
@@ -82,7 +82,7 @@ fn round(row: usize) -> Window
     }
 }
 
-/// The rows round an event, or what the chart lacks of it.
+/// The rows around a named event, or what the chart lacks.
 fn window_round(
     names: &Names,
     lines: &[Line],
@@ -100,8 +100,8 @@ fn window_round(
     }
 }
 
-/// The rows that are chosen of a chart's layout. There are none exactly where they stand round an event that the chart
-/// doesn't have, and then it's told what is missing.
+/// The chosen rows of a chart's layout. It refuses exactly if they are those around an event that the chart doesn't
+/// have. The error is what the chart lacks.
 pub fn window_in(
     names: &Names,
     lines: &[Line],

@@ -1,16 +1,16 @@
-//! What `mscview draw --witness` does with the bytes of a file: the chart beside its witness, the two events marked
+//! What `mscview draw --witness` writes for the bytes of a file: the chart beside its witness, with two events marked
 //! in both.
 //!
-//! What is promised of [`draw_witness`]: the bytes of the file, the two events that are asked about, and what is
-//! wanted of the pictures decide the output's bytes.
+//! The bytes of the file, the pair of events, and the wanted form of the pictures decide the bytes of the output of
+//! [`draw_witness`]:
 //!
-//! - With status 1 exactly the text of one picture was written. On its left is the picture of the chart, as
-//!   `mscview draw` writes it, and on its right that of the chart that the schedule comes to which `mscview
-//!   witness` writes. In both a square is round the earlier event, and a ring round the receive: on the right round
-//!   the events of the same lanes and turns.
+//! - With status 1 it wrote exactly the text of one picture. On the left is the picture of the chart, as `mscview draw`
+//!   writes it. On the right is the picture of the outcome of the schedule that `mscview witness` writes. In both a
+//!   square is around the earlier event, and a ring around the receive. On the right these are the events of the same
+//!   lanes and turns.
 //! - With status 0 no run has the receive before the event, and nothing was written to the output.
-//! - With status 2 the refusal's line was written, or a beginning of it where standard error failed, and nothing
-//!   went to the output before it, unless a write failed (F24). Refused is what `mscview witness` refuses, and F34.
+//! - With status 2 it wrote the refusal's line, or a beginning of it if standard error failed. It wrote nothing to the
+//!   output before that, unless a write failed (F24). Its refusals are F34 and those of `mscview witness`.
 
 mod beside;
 mod counterparts;

@@ -1,4 +1,4 @@
--- What comes of a chart's text whose chart is possible.
+-- The verdict on the text of a possible chart.
 use Rattle.std.proofs.Common.{◌≡◌, ℕ, List}
 use Rattle.std.specs.Prelude.{Result, Ok, Err, IfOk}
 use Rattle.cmd_explain_file.specs.Verdicts.{IsOfLines, IsOfWhole, IsOfChart}
@@ -8,7 +8,7 @@ use Rattle.cmd_base.specs.Files.{Named, chart_part}
 use Rattle.cmd_base.specs.declared.error.ProgramError.{ProgramError}
 use Rattle.msc_text.specs.Reader.Reading.{chart_of}
 
--- it's a matter of the whole text
+-- the whole text decides
 pub whole_chart : (text : List ℕ) (named : Named) (result : Result Verdict ProgramError) → chart_of (chart_part text) ≡ Ok named → IsOfLines text named Read → IfOk result (IsOfWhole text) → IfOk result (IsOfChart text)
 whole_chart text named (Ok Read) e l h = (named, e, l, h)
 whole_chart text named (Ok (Behind fault)) e l h = (named, e, l, h)

@@ -1,4 +1,4 @@
--- What kind of file it isn't.
+-- Files that aren't schedules.
 use Rattle.std.proofs.Common.{◌≡◌, ◌≢◌, ℕ, Bool, true, false, ◌||◌, cond, List, refl}
 use Rattle.diagram_import.specs.Importing.{behind_mark}
 use Rattle.cmd_explain_file.specs.Kinds.{begins_chart, detected_kind, kind_by}
@@ -11,7 +11,7 @@ first_is_not : (a b : Bool) (k : Kind) → (cond (a || b) Schedule k ≢ Schedul
 first_is_not true b k h = absurd (h refl)
 first_is_not false b k h = refl
 
--- what is no schedule's kind has no schedule's first word
+-- a text of another kind doesn't begin with a schedule's first word
 pub no_schedule : (text exact : List ℕ) → kind_by text exact ≢ Schedule → is_schedule text ≡ false
 unfolding kind_by
 no_schedule text exact h = first_is_not (is_schedule text) (is_schedule exact) (detected_kind (begins_chart text) (detected_tool (behind_mark text))) h

@@ -21,21 +21,21 @@ use Rattle.texts.specs.declared.fault.Fault.{Fault}
 use Rattle.texts.specs.declared.fault.Fault.TheVariants.{Line, Unfinished}
 use Rattle.schedule.specs.declared.command.Note.{Note}
 
--- the line with this number, from 1, without its line feed; behind the last one what follows the last line feed
+-- the line with this number, from 1, without its line feed; after the last line, the text after the last line feed
 abbrev pub line_of : List ℕ → ℕ → List ℕ
 line_of text line = first_or (end_of text) (drop (line - 1) (lines_of text))
 
--- what may stand at the begin of a schedule's line
+-- what may stand at the beginning of a schedule's line
 abbrev pub schedule_begin : ℕ → Want
 schedule_begin line = if line == 1 then wants.Instances else (if line == 2 then wants.Capacity else wants.Actor)
 
--- what may stand at the begin of the line with this number
+-- what may stand at the beginning of the line with this number
 unfoldable pub begin : Kind → List ℕ → ℕ → Want
 begin kinds.Schedule text line = schedule_begin line
 begin kinds.Chart text line = line_at wants.Msc (take (line - 1) (lines_of text))
 begin _ text line = wants.Begin
 
--- what may stand at the place of a fault, where that isn't a matter of how many there are
+-- what may stand at the place of a fault; it is unknown for a wrong number of instances or events
 abbrev pub wanted : Cause → Want → Option Want
 wanted Instances want = None
 wanted LineFull want = None
@@ -50,11 +50,11 @@ line_finding kind text line cause = record {
   want = wanted cause (spot_of cause (line_of text 1) (line_of text line) (begin kind text line)).want;
 }
 
--- what may stand behind a text that ends too early: a line feed, where its last line has none
+-- what may follow a text that ends too early: a line feed, if its last line has none
 unfoldable pub unfinished_want : Kind → List ℕ → ℕ → List ℕ → Want
 unfinished_want kind text line end = if length end == 0 then begin kind text line else wants.LineFeed
 
--- the text's end
+-- F21, at the end of the text
 unfoldable pub unfinished : Kind → List ℕ → Finding
 unfinished kind text = record {
   what = whats.Unfinished;
@@ -68,7 +68,7 @@ unfoldable pub fault_finding : Kind → List ℕ → Fault → Finding
 fault_finding kind text (Line line cause) = line_finding kind text line cause
 fault_finding kind text Unfinished = unfinished kind text
 
--- what stands behind a chart, by the fault of the whole text
+-- the note about text after a chart, by the fault of the whole text
 unfoldable pub behind_finding : Kind → List ℕ → Fault → Finding
 behind_finding kind text fault = record {
   what = whats.Behind;
@@ -77,7 +77,7 @@ behind_finding kind text fault = record {
   want = None;
 }
 
--- a receive for which nothing was sent, at its line's begin
+-- a receive for which no message was sent, at its line's beginning
 unfoldable pub no_send : List ℕ → EventNo → Finding
 no_send text receive = record {
   what = whats.NoSend;
@@ -86,7 +86,7 @@ no_send text receive = record {
   want = None;
 }
 
--- a receive whose message was sent by another name, at the message's name
+-- a receive whose message was sent with another name, at the message's name
 unfoldable pub other_name : List ℕ → EventNo → Finding
 other_name text receive = record {
   what = whats.OtherName;
@@ -95,7 +95,7 @@ other_name text receive = record {
   want = None;
 }
 
--- a fault with a line alone
+-- a fault of a whole line
 abbrev pub at_line : What → ℕ → Finding
 at_line what line = record { what = what; line = line; place = 0; want = None }
 
@@ -103,7 +103,7 @@ at_line what line = record { what = what; line = line; place = 0; want = None }
 abbrev pub note_finding : Note → Finding
 note_finding note = at_line (whats.Note note.word) note.line
 
--- why a diagram has no chart; what has no line is told at the first
+-- the fault of a diagram that has no chart; a fault without a line is reported at the first line
 unfoldable pub no_chart : JoinError → Finding
 no_chart charts.Memory = at_line whats.NoSuchName 1
 no_chart charts.NoSuchLine = at_line whats.NoSuchName 1
@@ -112,7 +112,7 @@ no_chart charts.Instances = at_line (whats.Line Instances) 1
 no_chart (charts.NotPossible line) = at_line whats.NotPossible line
 no_chart (charts.LineFull line) = at_line (whats.Line LineFull) line
 
--- a place that can't be read
+-- a place whose text can't be read
 abbrev pub not_read : ℕ → ℕ → Finding
 not_read line column = record { what = whats.NotRead; line = line; place = column - 1; want = None }
 
@@ -125,7 +125,7 @@ diagram_end kind text = record {
   want = None;
 }
 
--- why a diagram isn't imported
+-- the fault of a diagram that can't be imported
 unfoldable pub unread_finding : Kind → List ℕ → Unread → Finding
 unread_finding kind text unreads.Usage = at_line whats.Usage 1
 unread_finding kind text (unreads.NotRead place) = not_read place.line place.column

@@ -1,4 +1,4 @@
--- The text of what is told of a file: in the style of a compiler's messages.
+-- The text of the explanation of a file, in the style of a compiler's messages.
 use Rattle.std.specs.Prelude.{◌≡◌, ℕ, ◌+◌, ◌-◌, ◌==◌, List, [], ◌∷◌, ◌++◌, length, take, drop, min, codes, decimal, Option, None, Some, if◌then◌else◌}
 use Rattle.std.specs.List.{flat_map}
 use Rattle.cmd_explain_file.specs.Findings.{line_of, note_finding}
@@ -18,15 +18,15 @@ use Rattle.texts.specs.Lines.{lines_of, end_of}
 abbrev pub blank : ℕ → List ℕ
 blank b = 32 ∷ []
 
--- a byte of the file, as a terminal shows it in one column: a tab as a blank, and `?` for what doesn't print
+-- a byte of the file, as a terminal shows it in one column: a tab as a blank, and an unprintable byte as `?`
 abbrev pub shown_byte : ℕ → List ℕ
 shown_byte b = if b == 9 then 32 ∷ [] else printable b ∷ []
 
--- what is shown of a line before a place: the last 60 bytes
+-- the part of a line that is shown before a place: the last 60 bytes
 abbrev pub before : List ℕ → ℕ → List ℕ
 before line place = drop (place - 60) (take place line)
 
--- what is shown behind it: the first 40
+-- the part of a line that is shown from a place on: the first 40 bytes
 abbrev pub behind : List ℕ → ℕ → List ℕ
 behind line place = take (min (length (drop place line)) 40) (drop place line)
 
@@ -42,14 +42,14 @@ caret = codes "^\n"
 unfoldable pub end : List ℕ
 end = codes "\n"
 
--- what is wrong
+-- the heading of a fault or note
 unfoldable pub head_text : What → List ℕ
 head_text what = start_of what ++ (what_label what ++ (codes ": " ++ (what_words what ++ codes "\n")))
 
 unfoldable pub arrow : ℕ → ℕ → List ℕ
 arrow line column = codes "--> line " ++ (decimal line ++ (codes ", column " ++ (decimal column ++ codes "\n")))
 
--- where it is: the margin is as wide as the line's number
+-- its position; the margin is as wide as the line's number
 unfoldable pub at_text : ℕ → ℕ → List ℕ
 at_text line column = flat_map blank (decimal line) ++ arrow line column
 
@@ -61,7 +61,7 @@ unfoldable pub quote_text : ℕ → List ℕ → List ℕ → List ℕ
 quote_text line before behind =
     decimal line ++ (stands ++ (flat_map shown_byte before ++ (flat_map shown_byte behind ++ end)))
 
--- the caret, below the first byte that is shown behind the place
+-- the caret, under the byte at the place
 unfoldable pub caret_text : ℕ → List ℕ → List ℕ
 caret_text line before = flat_map blank (decimal line) ++ (stands ++ (flat_map blank before ++ caret))
 
@@ -76,23 +76,23 @@ unfoldable pub want_text : ℕ → Option Want → List ℕ
 want_text line None = []
 want_text line (Some want) = flat_map blank (decimal line) ++ wanted_text want
 
--- a line with a caret under a place of it
+-- a line with a caret under a place on it
 unfoldable pub shown_text : ℕ → List ℕ → ℕ → List ℕ
 shown_text line bytes place = at_text line (place + 1)
     ++ (bar_text line ++ (quote_text line (before bytes place) (behind bytes place) ++ caret_text line (before bytes place)))
 
--- what is wrong, with its place, where the line is told by this number
+-- a fault or note, with its place in the line, which is shown with this number
 unfoldable pub numbered_text : List ℕ → ℕ → Finding → List ℕ
 numbered_text line number f = head_text f.what ++ (shown_text number line (min f.place (length line)) ++ want_text number f.want)
 
--- the same by its own number
+-- the same with the line's own number
 abbrev pub finding_text : List ℕ → Finding → List ℕ
 finding_text line f = numbered_text line f.line f
 
 unfoldable pub sent_text : ℕ → List ℕ
 sent_text line = codes " = the message is sent later, in line " ++ (decimal line ++ codes "\n")
 
--- the message for a note is sent later, if it is
+-- the line about a message for a note that is sent later, if it is
 unfoldable pub later_text : ℕ → Option ℕ → List ℕ
 later_text line None = []
 later_text line (Some later) = flat_map blank (decimal line) ++ sent_text later
@@ -110,7 +110,7 @@ one_undone_text = codes "the text is read, and 1 command did nothing\n"
 unfoldable pub several_undone_text : ℕ → List ℕ
 several_undone_text count = codes "the text is read, and " ++ (decimal count ++ codes " commands did nothing\n")
 
--- the text is read, and so many commands did nothing
+-- the text is read, and `count` of its commands did nothing
 unfoldable pub undone_text : ℕ → List ℕ
 undone_text count = if count == 1 then one_undone_text else several_undone_text count
 
@@ -123,7 +123,7 @@ tidy_text = codes "\nhelp: mscview tidy writes the exact text of this file, whic
 unfoldable pub log_text : List ℕ
 log_text = codes "\nhelp: of a log, mscview races --from log tells the races: of lines HOST send PEER NAME and HOST recv PEER NAME, or as --pattern reads its lines\n"
 
--- what is told, by the line that is shown with it
+-- a part of the explanation; `line` is the line of the file that is shown with it
 unfoldable pub text_by_line : List ℕ → Saying → List ℕ
 text_by_line line (Kind kind) = kind_words kind
 text_by_line line Read = read_text
@@ -138,7 +138,7 @@ text_by_line line (sayings.Step step) = step_text step
 text_by_line line Tidy = tidy_text
 text_by_line line Log = log_text
 
--- the line that is shown with it, if one is, and else the first
+-- the number of the line that is shown with a part, or 1 if no line is shown
 abbrev pub shown_line : Saying → ℕ
 shown_line (sayings.Finding finding) = finding.line
 shown_line (sayings.Typed finding number) = finding.line
@@ -157,6 +157,6 @@ shown_line Log = 1
 abbrev pub saying_text : List ℕ → Saying → List ℕ
 saying_text file saying = text_by_line (line_of file (shown_line saying)) saying
 
--- a text is what a file has from a line on
+-- the text is the part of a file from a line on
 abbrev pub IsFrom : List ℕ → ℕ → List ℕ → Type 0
 IsFrom file line text = (lines_of text ≡ drop (line - 1) (lines_of file)) × (end_of text ≡ end_of file)

@@ -1,4 +1,4 @@
--- What came of reading a file: the first fault that its readers answer, or that there is none.
+-- The verdict on a file: the first fault that its readers return, or that it has none.
 use Rattle.std.specs.Prelude.{◌≡◌, ◌≢◌, ℕ, false, List, [], length, None, Ok, Err}
 use Rattle.chart.specs.Charts.{chart_lines, IsPossible}
 use Rattle.closure.specs.Faults.{Refuses}
@@ -24,7 +24,7 @@ use Rattle.schedule.specs.Reading.{schedule_of}
 use Rattle.schedule_replay.specs.Notes.Notes.{AreNotesOf}
 use Rattle.fault_places.specs.NamedCycles.{AreStepsOf}
 
--- the exit status: 1 where a fault is told
+-- the exit status: 1 if a fault is reported, and otherwise 0
 abbrev pub status_of : Verdict → ℕ
 status_of Read = 0
 status_of (Ran notes) = 0
@@ -46,8 +46,8 @@ IsOfSchedule text (Ran notes) = (plan : Plan) × (schedule_of text ≡ Ok plan)
 IsOfSchedule text (Refused fault) = schedule_of text ≡ Err fault
 IsOfSchedule text _ = ⊥
 
--- the chart of this text is possible, or is refused so; of one in which events come before each other a shortest cycle
--- is told
+-- the chart of this text is possible, or is refused by this fault; if events come before each other, the steps are
+-- those of a shortest cycle
 abbrev pub IsOfLines : List ℕ → Named → Verdict → Type 0
 IsOfLines text named Read = IsPossible (length named.1) (chart_lines named.1)
 IsOfLines text named (NoSend receive) = Refuses (chart_lines named.1) (charts.ReceiveWithoutSend receive)
@@ -62,8 +62,8 @@ IsOfWhole text Read = (named : Named) × (chart_of text ≡ Ok named)
 IsOfWhole text (Behind fault) = chart_of text ≡ Err fault
 IsOfWhole text _ = ⊥
 
--- what a text says through the first line that ends a chart is refused, or is a chart that isn't possible; or a possible
--- one, and then it's a matter of the whole text
+-- the text through the first line that ends a chart is refused, or its chart isn't possible; if the chart is possible,
+-- the whole text decides
 abbrev pub IsOfChart : List ℕ → Verdict → Type 0
 IsOfChart text Read = (named : Named) × (chart_of (chart_part text) ≡ Ok named) × IsOfLines text named Read × IsOfWhole text Read
 IsOfChart text (Behind fault) = (named : Named) × (chart_of (chart_part text) ≡ Ok named) × IsOfLines text named Read
@@ -74,11 +74,11 @@ IsOfChart text (Built left_out overtaking) = ⊥
 IsOfChart text (NotBuilt why) = ⊥
 IsOfChart text verdict = (named : Named) × (chart_of (chart_part text) ≡ Ok named) × IsOfLines text named verdict
 
--- nothing is skipped or joined, and things may be left out
+-- no lines are skipped or joined, and constructs that a chart can't express are allowed
 abbrev pub no_options : OptionsView
 no_options = record { skipped = []; joins = []; is_strict = false }
 
--- why a diagram isn't imported, without the words that are there
+-- why a diagram can't be imported, without the words at the place
 abbrev pub unread : ImportError → Unread
 unread imports.Memory = unreads.Unfinished
 unread imports.Usage = unreads.Usage
@@ -87,7 +87,7 @@ unread imports.Unfinished = unreads.Unfinished
 unread (imports.UnknownInstance line) = unreads.UnknownInstance line
 unread (imports.NoChart error) = unreads.NoChart error
 
--- a diagram is imported, and its chart doesn't keep these; or it is refused so
+-- a diagram is imported, and its chart can't express these constructs; or it is refused by this fault
 abbrev pub IsOfDiagram : List ℕ → Verdict → Type 0
 IsOfDiagram text (Built left_out overtaking) = (built : JoinedChart)
     × (imported None text no_options ≡ Ok (joined_chart_view built))
@@ -96,7 +96,7 @@ IsOfDiagram text (NotBuilt why) = (error : ImportError) × (error ≢ imports.Me
     × Fails error (imported None text no_options) × (why ≡ unread error)
 IsOfDiagram text _ = ⊥
 
--- what comes of a text of this kind: it is read as a schedule, imported as a diagram, or read as a chart
+-- the verdict on a text of this kind: it is read as a schedule, imported as a diagram, or read as a chart
 abbrev pub IsVerdict : Kind → List ℕ → Verdict → Type 0
 IsVerdict kinds.Schedule text verdict = IsOfSchedule text verdict
 IsVerdict (kinds.Diagram tool) text verdict = IsOfDiagram text verdict

@@ -1,4 +1,4 @@
--- The words in which faults are told.
+-- The words for faults and notes.
 use Rattle.std.specs.Prelude.{ℕ, List, codes}
 use Rattle.chart.specs.declared.name.NameError.TheVariants as names
 use Rattle.cmd_explain_file.specs.declared.finding.What.{What}
@@ -15,7 +15,7 @@ use Rattle.schedule.specs.declared.command.Word.{Word}
 use Rattle.schedule.specs.declared.command.Word.TheVariants as notes
 use Rattle.diagram_tool.specs.declared.Tool.TheVariants as tools
 
--- what kind of file it is, and what takes it
+-- the kind of the file, and the commands that read it
 unfoldable pub kind_words : Kind → List ℕ
 kind_words kinds.Schedule = codes "a schedule, for mscrun replay, random and threads, and for mscview\n"
 kind_words kinds.Chart = codes "a chart, for mscrun check, and for mscview\n"
@@ -24,7 +24,7 @@ kind_words (kinds.Diagram tools.PlantUml) = codes "a diagram of PlantUML: mscvie
 kind_words (kinds.Diagram tools.Mermaid) = codes "a diagram of Mermaid: mscview import makes a chart of it\n"
 kind_words kinds.Other = codes "neither a schedule nor a chart, nor a diagram of mscgen, PlantUML or Mermaid\n"
 
--- what is wrong with a line
+-- the words for a line's fault
 unfoldable pub cause_words : Cause → List ℕ
 cause_words (causes.Name names.Empty) = codes "a name has a byte at least"
 cause_words (causes.Name names.TooLong) = codes "a name has 32 bytes at most"
@@ -38,7 +38,7 @@ cause_words causes.Syntax = codes "this can't stand here"
 cause_words causes.Duplicate = codes "an instance of this name is there already"
 cause_words causes.UnknownInstance = codes "there is no instance of this name"
 
--- what a note says
+-- the words for a note
 unfoldable pub note_words : Word → List ℕ
 note_words notes.Full = codes "the lane has no free slot, so this send did nothing"
 note_words notes.Nothing = codes "no message waited here, so this did nothing"
@@ -49,7 +49,7 @@ note_words notes.Open = codes "a coregion is open already, so this did nothing"
 note_words notes.NotOpen = codes "no coregion is open, so this did nothing"
 note_words notes.InCoregion = codes "a coregion has receives alone, so this send did nothing"
 
--- what is wrong, by number and name; of a note its word
+-- the number and name of a fault, or the word of a note
 unfoldable pub what_label : What → List ℕ
 what_label (whats.Line cause) = cause_label cause
 what_label whats.Unfinished = codes "F21 Unfinished"
@@ -62,7 +62,7 @@ what_label whats.NoSuchName = codes "F34 NoSuchName"
 what_label whats.Usage = codes "G1 Usage"
 what_label whats.Behind = codes "behind a chart"
 
--- what is wrong, in words
+-- the words for a fault or note
 unfoldable pub what_words : What → List ℕ
 what_words (whats.Line cause) = cause_words cause
 what_words whats.Unfinished = codes "the text ends too early"
@@ -75,7 +75,7 @@ what_words whats.NoSuchName = codes "a line that is joined isn't there"
 what_words whats.Usage = codes "a line that is skipped isn't there"
 what_words whats.Behind = codes "mscrun check refuses what stands here, and mscview leaves it alone"
 
--- how it begins: a note, and what stands behind a chart, is no fault
+-- the start of the heading; a note, and text after a chart, are no faults
 unfoldable pub start_of : What → List ℕ
 start_of whats.Behind = codes "\nnote: "
 start_of (whats.Note word) = codes "\nnote: "

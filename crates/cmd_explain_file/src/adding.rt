@@ -1,4 +1,4 @@
-//! Parts of a text that is being written: blanks, and bytes of a file.
+//! Parts of the output: blanks, and bytes of a file.
 ghost use Rattle.std.specs.Prelude.{◌≡◌, decimal};
 ghost use Rattle.std.specs.List.{flat_map};
 ghost use Rattle.cmd_explain_file.specs.Sayings.{blank, shown_byte};
@@ -8,7 +8,7 @@ use itoa::Buffer;
 use texts::bytes::printable;
 use texts::{Out, TextBuffer, WriteError};
 
-/// Adds a blank for each of the bytes.
+/// Adds one blank for each of the bytes.
 pub(crate) fn add_blanks<W: Out>(
     text: &mut TextBuffer<'_, W>,
     bytes: &[u8],
@@ -22,7 +22,7 @@ pub(crate) fn add_blanks<W: Out>(
     Ok(())
 }
 
-/// Adds a blank for each digit of a number.
+/// Adds one blank for each digit of a number.
 pub(crate) fn add_margin<W: Out>(
     text: &mut TextBuffer<'_, W>,
     number: u64,

@@ -1,4 +1,4 @@
-//! What a file is, and what is wrong with it.
+//! The kind of a file, and its first fault.
 ghost use Rattle.std.specs.Prelude.{◌≡◌, ◌++◌, length, map, IfOk, IfErr, OnOk};
 ghost use Rattle.cmd_explain_file.specs.Explaining.{text_fault, exactly_by, exactly_of, read_schedule, first_stated, typed_number, first_saying, more_sayings, last_sayings, subject_of, sayings_of, exactly_in, explanation_of, explained_exit, Explains};
 ghost use Rattle.cmd_explain_file.specs.Kinds.{kind_of};
@@ -21,7 +21,7 @@ use schedule_replay::notes::Noted;
 use std::alloc::{AllocError, Global};
 use texts::{Fault, Out};
 
-/// The fault of a text as a text, if it has one.
+/// The fault of a text that is read as a schedule or a chart, if it has one.
 fn text_fault(alloc: Global, text: &[u8]) -> Result<Option<Fault>, ProgramError>
     ensures fault { IfOk result (λ fault. fault ≡ text_fault text.now) }
     ensures memory { IfErr result (λ e. e ≡ ProgramError.Memory) }
@@ -33,7 +33,7 @@ fn text_fault(alloc: Global, text: &[u8]) -> Result<Option<Fault>, ProgramError>
     }
 }
 
-/// What is told of an exact text by its fault.
+/// The result for an exact text, by its fault.
 fn exactly_by(has_comments: bool, fault: Option<Fault>) -> Exactly
     ensures { result ≡ exactly_by has_comments fault }
 {
@@ -44,7 +44,7 @@ fn exactly_by(has_comments: bool, fault: Option<Fault>) -> Exactly
     }
 }
 
-/// What comes of a file's exact text, where the file is refused as a text.
+/// The result for a file's exact text. There is one only if the file is refused as a text.
 fn exactly_of(
     alloc: Global,
     verdict: &Verdict,
@@ -63,7 +63,7 @@ fn exactly_of(
     }
 }
 
-/// The number of the line of a fault of the exact text, as it is typed.
+/// The number in the typed file of the line with a fault of the exact text.
 fn typed_number(text: &[u8], lines: &[u64], fault: Fault) -> u64
     ensures { result ≡ typed_number text.now lines.now fault }
 {
@@ -83,7 +83,7 @@ fn add_notes(sayings: &mut Vec<Saying>, notes: &[Noted]) -> Result<(), AllocErro
     Ok(())
 }
 
-/// Adds what a diagram's chart doesn't keep.
+/// Adds the constructs that a diagram's chart can't express.
 fn add_left_out(sayings: &mut Vec<Saying>, left_out: &[LeftOut]) -> Result<(), AllocError>
     ensures { OnOk result (sayings.new.items ≡ sayings.old.items ++ map sayings_stated.LeftOut left_out.now) }
 {
@@ -113,7 +113,7 @@ fn add_steps(sayings: &mut Vec<Saying>, steps: &[Step]) -> Result<(), AllocError
     Ok(())
 }
 
-/// What is stated first of a schedule that is read, by the notes that its commands leave.
+/// The first part after the kind, for a schedule that is read, by the notes that its commands leave.
 fn read_schedule(notes: &[Noted]) -> Saying
     ensures { result ≡ read_schedule (length notes.now) }
 {
@@ -124,7 +124,7 @@ fn read_schedule(notes: &[Noted]) -> Saying
     }
 }
 
-/// The first thing that is told of what came of reading a file of this kind.
+/// The first part after the kind, by the verdict.
 fn first_stated(kind: Kind, text: &[u8], verdict: &Verdict) -> Saying
     ensures { result ≡ first_stated kind text.now verdict.now }
 {
@@ -140,7 +140,7 @@ fn first_stated(kind: Kind, text: &[u8], verdict: &Verdict) -> Saying
     }
 }
 
-/// The same, by what comes of its exact text, whose lines are typed in lines with these numbers.
+/// The same, by the result for the exact text. `exact` has the number of each of its lines in the typed file.
 fn first_saying(
     kind: Kind,
     text: &[u8],
@@ -159,7 +159,7 @@ fn first_saying(
     }
 }
 
-/// Adds what is told besides.
+/// Adds the further parts of a verdict.
 fn add_more(sayings: &mut Vec<Saying>, verdict: &Verdict) -> Result<(), AllocError>
     ensures { OnOk result (sayings.new.items ≡ sayings.old.items ++ more_sayings verdict.now) }
 {
@@ -174,7 +174,7 @@ fn add_more(sayings: &mut Vec<Saying>, verdict: &Verdict) -> Result<(), AllocErr
     }
 }
 
-/// Adds what helps with it.
+/// Adds the parts with help.
 fn add_last(sayings: &mut Vec<Saying>, kind: Kind, exactly: Exactly) -> Result<(), AllocError>
     ensures { OnOk result (sayings.new.items ≡ sayings.old.items ++ last_sayings kind exactly) }
 {
@@ -186,7 +186,7 @@ fn add_last(sayings: &mut Vec<Saying>, kind: Kind, exactly: Exactly) -> Result<(
     Ok(())
 }
 
-/// All that is told of a file of this kind.
+/// All parts of the explanation of a file of this kind.
 fn sayings_of(
     alloc: Global,
     kind: Kind,
@@ -204,7 +204,7 @@ fn sayings_of(
     Ok(sayings)
 }
 
-/// The text of which lines are shown.
+/// The text whose lines are shown.
 fn subject_of<'a>(kind: Kind, text: &'a [u8], exact: &'a [u8], exactly: Exactly) -> &'a [u8]
     ensures { result.now ≡ subject_of kind text.now exact.now exactly }
 {
@@ -214,7 +214,7 @@ fn subject_of<'a>(kind: Kind, text: &'a [u8], exact: &'a [u8], exactly: Exactly)
     }
 }
 
-/// What came of reading a file, and what is told of it.
+/// The verdict on a file, and its explanation.
 #[derive(Drop)]
 struct Explanation {
     kind: Kind,
@@ -224,7 +224,7 @@ struct Explanation {
     sayings: Vec<Saying>,
 }
 
-/// What came of reading a file, and what is told of it.
+/// The verdict on a file, and its explanation.
 fn read_and_explain(alloc: Global, text: &[u8]) -> Result<Explanation, ProgramError>
     ensures kind { IfOk result (λ done. done.kind ≡ kind_of text.now) }
     ensures verdict { IfOk result (λ done. IsVerdict (kind_of text.now) text.now done.verdict) }
@@ -253,7 +253,7 @@ fn read_and_explain(alloc: Global, text: &[u8]) -> Result<Explanation, ProgramEr
     }
 }
 
-/// Writes what is told of a file. All memory is taken before the first byte is written.
+/// Writes the explanation of a file. All memory is taken before the first byte is written.
 fn write_explanation<W: Out>(
     alloc: Global,
     text: &[u8],
@@ -269,10 +269,10 @@ fn write_explanation<W: Out>(
     }
 }
 
-/// Tells what kind of file it is that has these bytes, and its first fault: its line, with a caret under the place, and
-/// what may stand there. Writes the line of a refusal to `err`, F6 or F24. Answers the exit status: 0 where there is no
-/// fault, 1 where one is told, 2 after a refusal. Nothing is written to `out` before a refusal, but where writing to it
-/// failed (F24). A failed write to `err` changes nothing.
+/// Reports the kind of the file with these bytes, and its first fault. The fault comes with its line, a caret under the
+/// place, and what may stand there. A refusal is F6 or F24, and its line is written to `err`. Returns the exit status:
+/// 0 if there is no fault, 1 if one is reported, and 2 after a refusal. Nothing is written to `out` before a refusal,
+/// unless a write to it fails (F24). A failed write to `err` changes nothing.
 pub fn explain<W: Out, V: Out>(alloc: Global, text: &[u8], out: &mut W, err: &mut V) -> u8
     ensures { Answers (Explains W.sink out.old out.new text.now) explained_exit V.sink err.old err.new result }
 {

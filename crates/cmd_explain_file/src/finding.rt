@@ -12,43 +12,43 @@ use fault_places::{Want, count_of_lines, line_from, line_of_event, spot_in, stan
 use schedule::{Note, Word};
 use texts::{Cause, Fault};
 
-/// What is wrong.
+/// The kind of a fault or note.
 #[derive(Clone, Copy, Debug, PartialEq, Eq)]
 pub(crate) enum What {
-    /// What is wrong with a line.
+    /// The fault of a line.
     Line(Cause),
     /// F21: the text ends too early.
     Unfinished,
-    /// F16: nothing was sent for a receive.
+    /// F16: no message was sent for a receive.
     NoSend,
-    /// F17: a message was sent by another name.
+    /// F17: the message was sent with another name.
     OtherName,
-    /// A text stands behind a chart.
+    /// Text follows a chart.
     Behind,
     /// A command was refused, or found nothing.
     Note(Word),
-    /// F35: what stands there can't be read.
+    /// F35: the text at the place can't be read.
     NotRead,
-    /// F37: with this no chart is possible.
+    /// F37: no chart is possible with this line.
     NotPossible,
-    /// F34: a line that is joined isn't there.
+    /// F34: a line to join doesn't exist.
     NoSuchName,
-    /// G1: a line that is skipped isn't there.
+    /// G1: a line to skip doesn't exist.
     Usage,
 }
 
-/// What is wrong in a line, where, and what may stand there.
+/// A fault or note of a line: its kind, its place, and what may stand there.
 #[derive(Clone, Copy, Debug)]
 pub(crate) struct Finding {
     pub what: What,
     /// The line's number, from 1.
     pub line: u64,
-    /// How many bytes of the line stand before the place.
+    /// The place, as the number of bytes before it on the line.
     pub place: usize,
     pub want: Option<Want>,
 }
 
-/// What may stand at the begin of the line with this number, in a text of this kind.
+/// What may stand at the beginning of the line with this number, in a text of this kind.
 #[tactic(auto, unfolding(crate::specs::Findings::begin))]
 fn begin(kind: Kind, text: &[u8], line: u64) -> Want
     ensures { result ≡ begin kind text.now line }
@@ -64,7 +64,7 @@ fn begin(kind: Kind, text: &[u8], line: u64) -> Want
     }
 }
 
-/// What may stand at the place of a fault, where that isn't a matter of how many there are.
+/// What may stand at the place of a fault. It is unknown for a wrong number of instances or events.
 fn wanted(cause: Cause, want: Want) -> Option<Want>
     ensures { result ≡ wanted cause want }
 {
@@ -90,7 +90,7 @@ fn line_finding(kind: Kind, text: &[u8], line: u64, cause: Cause) -> Finding
     }
 }
 
-/// What may stand behind a text that ends too early, whose last line is this one.
+/// What may follow a text that ends too early. `end` is its last line, without a line feed.
 #[tactic(auto, unfolding(crate::specs::Findings::unfinished_want))]
 fn unfinished_want(kind: Kind, text: &[u8], line: u64, end: &[u8]) -> Want
     ensures { result ≡ unfinished_want kind text.now line end.now }
@@ -102,7 +102,7 @@ fn unfinished_want(kind: Kind, text: &[u8], line: u64, end: &[u8]) -> Want
     }
 }
 
-/// F21, at the text's end.
+/// F21, at the end of the text.
 #[tactic(auto, unfolding(crate::specs::Findings::unfinished))]
 fn unfinished(kind: Kind, text: &[u8]) -> Finding
     ensures { result ≡ unfinished kind text.now }
@@ -128,7 +128,7 @@ pub(crate) fn fault_finding(kind: Kind, text: &[u8], fault: Fault) -> Finding
     }
 }
 
-/// What stands behind a chart, by the fault of the whole text.
+/// The note about text after a chart, by the fault of the whole text.
 #[tactic(auto, unfolding(crate::specs::Findings::behind_finding))]
 pub(crate) fn behind_finding(kind: Kind, text: &[u8], fault: Fault) -> Finding
     ensures { result ≡ behind_finding kind text.now fault }
@@ -142,7 +142,7 @@ pub(crate) fn behind_finding(kind: Kind, text: &[u8], fault: Fault) -> Finding
     }
 }
 
-/// A receive for which nothing was sent.
+/// A receive for which no message was sent.
 #[tactic(auto, unfolding(crate::specs::Findings::no_send))]
 pub(crate) fn no_send(text: &[u8], receive: EventNo) -> Finding
     ensures { result ≡ no_send text.now receive }
@@ -155,7 +155,7 @@ pub(crate) fn no_send(text: &[u8], receive: EventNo) -> Finding
     }
 }
 
-/// A receive whose message was sent by another name.
+/// A receive whose message was sent with another name.
 #[tactic(auto, unfolding(crate::specs::Findings::other_name))]
 pub(crate) fn other_name(text: &[u8], receive: EventNo) -> Finding
     ensures { result ≡ other_name text.now receive }
@@ -168,7 +168,7 @@ pub(crate) fn other_name(text: &[u8], receive: EventNo) -> Finding
     }
 }
 
-/// A fault with a line alone.
+/// A fault of a whole line.
 fn at_line(what: What, line: u64) -> Finding
     ensures { result ≡ at_line what line }
 {
@@ -187,7 +187,7 @@ pub(crate) fn note_finding(note: Note) -> Finding
     at_line(What::Note(note.word), note.line)
 }
 
-/// Why a diagram has no chart.
+/// The fault of a diagram that has no chart.
 #[tactic(auto, unfolding(crate::specs::Findings::no_chart))]
 fn no_chart(error: JoinError) -> Finding
     ensures { result ≡ no_chart error }
@@ -201,7 +201,7 @@ fn no_chart(error: JoinError) -> Finding
     }
 }
 
-/// A place that can't be read.
+/// A place whose text can't be read.
 fn not_read(line: u64, column: u64) -> Finding
     ensures { result ≡ not_read line column }
 {
@@ -227,7 +227,7 @@ fn diagram_end(kind: Kind, text: &[u8]) -> Finding
     }
 }
 
-/// Why a diagram isn't imported.
+/// The fault of a diagram that can't be imported.
 #[tactic(auto, unfolding(crate::specs::Findings::unread_finding))]
 pub(crate) fn unread_finding(kind: Kind, text: &[u8], why: Unread) -> Finding
     ensures { result ≡ unread_finding kind text.now why }

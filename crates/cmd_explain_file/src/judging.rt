@@ -1,4 +1,4 @@
-//! What comes of reading a file.
+//! The verdict on a file.
 ghost use Rattle.std.specs.Prelude.{◌≡◌, ◌≢◌, false, None, Ok, length, IfOk, IfErr};
 ghost use Rattle.chart.specs.Charts.{chart_lines};
 ghost use Rattle.closure.specs.Faults.{Refuses};
@@ -22,7 +22,7 @@ use fault_places::steps_of;
 use schedule_replay::notes::notes_of;
 use std::alloc::Global;
 
-/// What comes of a schedule's text.
+/// The verdict on a schedule's text.
 fn judge_schedule(alloc: Global, text: &[u8]) -> Result<Verdict, ProgramError>
     ensures verdict { IfOk result (IsOfSchedule text.now) }
     ensures memory { IfErr result (λ e. e ≡ ProgramError.Memory) }
@@ -38,7 +38,7 @@ fn judge_schedule(alloc: Global, text: &[u8]) -> Result<Verdict, ProgramError>
     }
 }
 
-/// Why a diagram isn't imported.
+/// Why a diagram can't be imported.
 fn unread(error: &ImportError) -> Unread
     ensures { result ≡ unread error.now }
 {
@@ -51,7 +51,8 @@ fn unread(error: &ImportError) -> Unread
     }
 }
 
-/// The diagram that a text says, where nothing is skipped or joined, and things may be left out.
+/// The chart of the diagram in a text. No lines are skipped or joined, and constructs that a chart can't express are
+/// allowed.
 fn diagram_chart_in(alloc: Global, text: &[u8]) -> Result<JoinedChart, ImportError>
     ensures { Gives joined_chart_view result (imported None text.now no_options) }
 {
@@ -63,7 +64,7 @@ fn diagram_chart_in(alloc: Global, text: &[u8]) -> Result<JoinedChart, ImportErr
     import_text(alloc, None, text, options)
 }
 
-/// What comes of a diagram.
+/// The verdict on a diagram.
 fn judge_diagram(alloc: Global, text: &[u8]) -> Result<Verdict, ProgramError>
     ensures verdict { IfOk result (IsOfDiagram text.now) }
     ensures memory { IfErr result (λ e. e ≡ ProgramError.Memory) }
@@ -79,7 +80,7 @@ fn judge_diagram(alloc: Global, text: &[u8]) -> Result<Verdict, ProgramError>
     }
 }
 
-/// A shortest cycle of the chart of this text, in which events come before each other.
+/// The verdict on a chart in which events come before each other: a shortest cycle.
 fn judge_cycle(
     alloc: Global,
     text: &[u8],
@@ -97,7 +98,7 @@ fn judge_cycle(
     }
 }
 
-/// Whether the chart of this text is possible.
+/// The verdict on whether the chart of this text is possible.
 fn judge_lines(
     alloc: Global,
     text: &[u8],
@@ -120,7 +121,7 @@ fn judge_lines(
     }
 }
 
-/// Whether something stands behind a chart.
+/// The verdict on whether text follows a chart.
 fn judge_whole(alloc: Global, text: &[u8]) -> Result<Verdict, ProgramError>
     ensures verdict { IfOk result (IsOfWhole text.now) }
     ensures memory { IfErr result (λ e. e ≡ ProgramError.Memory) }
@@ -132,7 +133,7 @@ fn judge_whole(alloc: Global, text: &[u8]) -> Result<Verdict, ProgramError>
     }
 }
 
-/// What comes of a text whose chart was judged: where that is possible, it's a matter of the whole text.
+/// The verdict on a text, by the verdict on its chart. If the chart is possible, the whole text decides.
 fn or_whole(alloc: Global, text: &[u8], judged: Verdict) -> Result<Verdict, ProgramError>
     requires { (named : Named) × (chart_of (chart_part text.now) ≡ Ok named) × IsOfLines text.now named judged }
     ensures verdict { IfOk result (IsOfChart text.now) }
@@ -151,7 +152,7 @@ fn or_whole(alloc: Global, text: &[u8], judged: Verdict) -> Result<Verdict, Prog
     }
 }
 
-/// What comes of a text that is read as a chart's.
+/// The verdict on a text that is read as a chart's.
 fn judge_chart(alloc: Global, text: &[u8]) -> Result<Verdict, ProgramError>
     requires { is_schedule text.now ≡ false }
     ensures verdict { IfOk result (IsOfChart text.now) }
@@ -167,7 +168,7 @@ fn judge_chart(alloc: Global, text: &[u8]) -> Result<Verdict, ProgramError>
     or_whole(alloc, text, judged)
 }
 
-/// What comes of a text of this kind.
+/// The verdict on a text of this kind.
 pub(crate) fn judge(alloc: Global, kind: Kind, text: &[u8]) -> Result<Verdict, ProgramError>
     requires { kind ≢ Schedule → is_schedule text.now ≡ false }
     ensures verdict { IfOk result (IsVerdict kind text.now) }

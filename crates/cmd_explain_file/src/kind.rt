@@ -1,4 +1,4 @@
-//! What kind of file it is.
+//! The kind of a file.
 ghost use Rattle.std.specs.Prelude.{◌≡◌, ◌==◌, length};
 ghost use Rattle.std.specs.List.{list_any};
 ghost use Rattle.diagram_import.specs.Importing.{behind_mark};
@@ -9,25 +9,26 @@ use diagram_tool::Tool;
 use diagram_tool::detection::detected_tool;
 use fault_places::line_from;
 
-/// What kind of file it is.
+/// The kind of a file.
 #[derive(Clone, Copy, Debug, PartialEq, Eq)]
 pub(crate) enum Kind {
     Schedule,
     Chart,
     /// A diagram that was drawn for this tool.
     Diagram(Tool),
-    /// None of these.
+    /// Any other file.
     Other,
 }
 
-/// Whether it has a brace.
+/// Whether the text has a brace.
 fn has_brace(text: &[u8]) -> bool
     ensures { result ≡ has_brace text.now }
 {
     text.iter().any(|byte| *byte == b'{')
 }
 
-/// Whether a text with the first word `msc` is a chart's, and not one of mscgen, which has a brace behind this word.
+/// Whether a text with the first word `msc` is a chart's. If it isn't, it is a text of mscgen, which has a brace after
+/// this word.
 #[tactic(auto, unfolding(crate::specs::Kinds::begins_chart))]
 fn begins_chart(text: &[u8]) -> bool
     ensures { result ≡ begins_chart text.now }
@@ -35,7 +36,7 @@ fn begins_chart(text: &[u8]) -> bool
     !has_brace(text) || line_from(text) == b"msc run;".as_slice()
 }
 
-/// The text behind its byte order mark, if it begins with one.
+/// The text after its byte order mark, if it begins with one.
 #[tactic(auto, unfolding(diagram_import::specs::Importing::behind_mark))]
 fn behind_mark(text: &[u8]) -> &[u8]
     ensures { result.now ≡ behind_mark text.now }
@@ -47,7 +48,7 @@ fn behind_mark(text: &[u8]) -> &[u8]
     }
 }
 
-/// What is shown of a file: of a diagram what stands behind its byte order mark.
+/// The part of a file that is shown. For a diagram this is the text after its byte order mark.
 pub(crate) fn shown(kind: Kind, text: &[u8]) -> &[u8]
     ensures { result.now ≡ shown kind text.now }
 {
@@ -57,8 +58,8 @@ pub(crate) fn shown(kind: Kind, text: &[u8]) -> &[u8]
     }
 }
 
-/// What kind of file it is, whose exact text is given: a schedule, where the first word of either is a schedule's, or
-/// else what its first word that stands in no comment tells.
+/// The kind of a file, by its text and its exact text. It is a schedule if the first word of either text is a
+/// schedule's. Otherwise the first word outside comments determines the kind.
 #[tactic(auto, unfolding(crate::specs::Kinds::kind_by))]
 pub(crate) fn kind_by(text: &[u8], exact: &[u8]) -> Kind
     ensures { result ≡ kind_by text.now exact.now }

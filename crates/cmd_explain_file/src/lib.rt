@@ -1,13 +1,16 @@
 //! What `mscview explain` does with the bytes of a file.
 //!
-//! What is promised of [`explain`]: the file's bytes decide the output's bytes, but where a chart has several
-//! shortest cycles, for which one is told. It tells what kind of file it is, and its first fault, which is the one
-//! that the readers answer, at its line, with a caret at a place that is a definition of this line
-//! (`fault_places`), and what may stand there; of a chart in which events come before each other a shortest cycle
-//! (`fault_places`). Where the file has comments and its exact text (`cmd_tidy`) a fault, it is that one, with the
-//! line as it is written there and the number that it has in the file. The exit status is 0 where there is no
-//! fault, 1 where one is told, and 2 after a refusal: nothing went to the output before it, unless a write failed
-//! (F24).
+//! What is promised of [`explain`]: the file's bytes determine the output's bytes, except for the choice among several
+//! shortest cycles of a chart.
+//!
+//! - It reports the kind of the file and its first fault, which is the one that the readers return.
+//! - The fault comes with its line, a caret under its place, and what may stand there. The place is a function of the
+//!   line (`fault_places`).
+//! - If events of a chart come before each other, it reports a shortest cycle (`fault_places`).
+//! - If the file is refused as a text and has comments, and its exact text (`cmd_tidy`) has a fault, it reports that
+//!   fault instead. The line is shown as in the exact text, with its number in the file.
+//! - The exit status is 0 if there is no fault, 1 if one is reported, and 2 after a refusal. Nothing goes to the output
+//!   before a refusal, unless a write fails (F24).
 #![tactic(auto)]
 
 mod adding;

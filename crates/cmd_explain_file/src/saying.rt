@@ -1,4 +1,4 @@
-//! What is told of a file, as a list of values, and its text.
+//! The explanation of a file, as a list of parts, and its text.
 ghost use Rattle.std.specs.Prelude.{◌≡◌, ◌≤◌, length, min};
 ghost use Rattle.std.specs.List.{flat_map};
 ghost use Rattle.cmd_explain_file.specs.Sayings.{before, behind, head_text, at_text, bar_text, quote_text, caret_text, want_text, wanted_text, shown_text, numbered_text, finding_text, sent_text, later_text, noted_text, read_text, text_by_line, shown_line, saying_text, IsFrom, bar, arrow, here, stands, caret, end};
@@ -20,36 +20,36 @@ use schedule_replay::notes::Noted;
 use texts::pieces::{Piece, add_pieces};
 use texts::{Out, TextBuffer, WriteError};
 
-/// What is told of a file.
+/// A part of the explanation of a file.
 #[derive(Clone, Copy, Debug)]
 pub(crate) enum Saying {
-    /// What kind of file it is.
+    /// The kind of the file.
     Kind(Kind),
-    /// That nothing is wrong with it.
+    /// The file has no fault.
     Read,
-    /// That its text is read, and that so many of its commands did nothing.
+    /// The text is read, and this number of its commands did nothing.
     Undone(u64),
-    /// What is wrong, with its place.
+    /// A fault or note, with its place.
     Finding(Finding),
-    /// The same in the exact text, with the number of the line as it is typed.
+    /// A fault of the exact text, with the number of its line in the typed file.
     Typed(Finding, u64),
     /// A note that a command leaves.
     Note(Noted),
-    /// What a diagram's chart doesn't keep.
+    /// A construct that a diagram's chart can't express.
     LeftOut(LeftOut),
     /// A message that overtakes another one.
     Overtaking(Overtaking),
-    /// F18.
+    /// F18: the words before the steps of a cycle.
     Cyclic,
     /// A step of the cycle.
     Step(Step),
-    /// That `mscview tidy` writes it so that it is read.
+    /// The hint that `mscview tidy` makes a text without fault from the file.
     Tidy,
-    /// What to do with a log.
+    /// The hint how to read a log.
     Log,
 }
 
-/// What is shown of a line before a place.
+/// The part of a line that is shown before a place.
 fn before(line: &[u8], place: usize) -> &[u8]
     requires { place ≤ length line.now }
     ensures { result.now ≡ before line.now place }
@@ -58,7 +58,7 @@ fn before(line: &[u8], place: usize) -> &[u8]
     &all[place.saturating_sub(60)..]
 }
 
-/// What is shown of a line behind it.
+/// The part of a line that is shown from a place on.
 fn behind(line: &[u8], place: usize) -> &[u8]
     requires { place ≤ length line.now }
     ensures { result.now ≡ behind line.now place }
@@ -67,7 +67,7 @@ fn behind(line: &[u8], place: usize) -> &[u8]
     &all[..all.len().min(40)]
 }
 
-/// Adds what is wrong.
+/// Adds the heading of a fault or note.
 #[tactic(auto, unfolding(crate::specs::Sayings::head_text))]
 fn add_head<W: Out>(text: &mut TextBuffer<'_, W>, what: What) -> Result<(), WriteError>
     ensures { Adds W.sink text.old text.new result (head_text what) }
@@ -100,7 +100,7 @@ fn add_arrow<W: Out>(text: &mut TextBuffer<'_, W>, line: u64, column: u64) -> Re
     )
 }
 
-/// Adds where it is.
+/// Adds its position.
 #[tactic(auto, using(texts::proofs::Writes::joining), unfolding(crate::specs::Sayings::at_text))]
 fn add_at<W: Out>(text: &mut TextBuffer<'_, W>, line: u64, column: u64) -> Result<(), WriteError>
     ensures { Adds W.sink text.old text.new result (at_text line column) }
@@ -116,7 +116,7 @@ fn add_bar_alone<W: Out>(text: &mut TextBuffer<'_, W>) -> Result<(), WriteError>
     text.add(b" |\n")
 }
 
-/// Adds a line of the margin alone.
+/// Adds an empty line of the margin.
 #[tactic(auto, using(texts::proofs::Writes::joining), unfolding(crate::specs::Sayings::bar_text))]
 fn add_bar<W: Out>(text: &mut TextBuffer<'_, W>, line: u64) -> Result<(), WriteError>
     ensures { Adds W.sink text.old text.new result (bar_text line) }
@@ -146,7 +146,7 @@ fn add_caret_alone<W: Out>(text: &mut TextBuffer<'_, W>) -> Result<(), WriteErro
     text.add(b"^\n")
 }
 
-/// Adds the line itself, by what is shown before and behind the place.
+/// Adds the line itself, by the parts that are shown before and after the place.
 #[tactic(auto, using(texts::proofs::Writes::joining), unfolding(crate::specs::Sayings::quote_text))]
 fn add_quote<W: Out>(
     text: &mut TextBuffer<'_, W>,
@@ -163,7 +163,7 @@ fn add_quote<W: Out>(
     add_end(text)
 }
 
-/// Adds the caret, by what is shown before the place.
+/// Adds the caret, by the part that is shown before the place.
 #[tactic(auto, using(texts::proofs::Writes::joining), unfolding(crate::specs::Sayings::caret_text))]
 fn add_caret<W: Out>(
     text: &mut TextBuffer<'_, W>,
@@ -212,7 +212,7 @@ fn add_want<W: Out>(
     }
 }
 
-/// Adds a line with a caret under a place of it.
+/// Adds a line with a caret under a place on it.
 #[tactic(auto, using(texts::proofs::Writes::joining), unfolding(crate::specs::Sayings::shown_text))]
 fn add_line<W: Out>(
     text: &mut TextBuffer<'_, W>,
@@ -230,7 +230,7 @@ fn add_line<W: Out>(
     add_caret(text, line, before)
 }
 
-/// Adds what is wrong, with its place, in this line, which is told by this number.
+/// Adds a fault or note, with its place in this line, which is shown with this number.
 #[tactic(auto, using(texts::proofs::Writes::joining), unfolding(crate::specs::Sayings::numbered_text))]
 fn add_numbered<W: Out>(
     text: &mut TextBuffer<'_, W>,
@@ -246,7 +246,7 @@ fn add_numbered<W: Out>(
     add_want(text, number, finding.want)
 }
 
-/// Adds what is wrong, with its place, in this line.
+/// Adds a fault or note, with its place in this line.
 fn add_finding<W: Out>(
     text: &mut TextBuffer<'_, W>,
     line: &[u8],
@@ -271,7 +271,7 @@ fn add_sent<W: Out>(text: &mut TextBuffer<'_, W>, line: u64) -> Result<(), Write
     )
 }
 
-/// Adds that the message for a note is sent later, if it is.
+/// If the message for a note is sent later, adds the line that says so.
 #[tactic(auto, using(texts::proofs::Writes::joining), unfolding(crate::specs::Sayings::later_text))]
 fn add_later<W: Out>(
     text: &mut TextBuffer<'_, W>,
@@ -302,7 +302,7 @@ fn add_noted<W: Out>(
     add_later(text, noted.note.line, noted.later)
 }
 
-/// Adds what is told, with this line of the file where one is shown.
+/// Adds a part of the explanation. `line` is the line of the file that is shown with it, if one is.
 #[tactic(auto, unfolding(crate::specs::Sayings::text_by_line, crate::specs::Sayings::read_text))]
 fn add_saying<W: Out>(
     text: &mut TextBuffer<'_, W>,
@@ -327,7 +327,7 @@ fn add_saying<W: Out>(
     }
 }
 
-/// The line that is shown with what is told, if one is, and else the first.
+/// The number of the line that is shown with a part. It is 1 if no line is shown.
 fn shown_line(saying: &Saying) -> u64
     ensures { result ≡ shown_line saying.now }
 {
@@ -364,7 +364,7 @@ fn add_sayings<W: Out>(
     Ok(())
 }
 
-/// Writes what is told of a file with these bytes.
+/// Writes the explanation of a file with these bytes.
 #[tactic(auto, using(texts::proofs::Writes::joining))]
 pub(crate) fn write_sayings<W: Out>(
     file: &[u8],

@@ -1,4 +1,4 @@
-//! That a schedule's text is read, and how many of its commands did nothing.
+//! The line that reports that a schedule's text is read, and how many of its commands did nothing.
 ghost use Rattle.cmd_explain_file.specs.Sayings.{one_undone_text, several_undone_text, undone_text};
 ghost use Rattle.texts.specs.Writing.{Adds};
 
@@ -13,7 +13,7 @@ fn add_one<W: Out>(text: &mut TextBuffer<'_, W>) -> Result<(), WriteError>
     text.add(b"the text is read, and 1 command did nothing\n")
 }
 
-/// Adds that several did.
+/// Adds that several commands did nothing.
 #[tactic(auto, unfolding(crate::specs::Sayings::several_undone_text))]
 fn add_several<W: Out>(text: &mut TextBuffer<'_, W>, count: u64) -> Result<(), WriteError>
     ensures { Adds W.sink text.old text.new result (several_undone_text count) }

@@ -1,4 +1,4 @@
-//! The words in which faults are told.
+//! The words for faults and notes.
 ghost use Rattle.std.specs.Prelude.{◌≡◌};
 ghost use Rattle.cmd_explain_file.specs.Words.{kind_words, cause_words, note_words, what_words, what_label, want_words, start_of};
 ghost use Rattle.cmd_explain_file.specs.Sayings.{cyclic_text, tidy_text, log_text};
@@ -13,7 +13,7 @@ use fault_places::Want;
 use schedule::Word;
 use texts::Cause;
 
-/// What kind of file it is, and what takes it.
+/// The kind of the file, and the commands that read it.
 #[tactic(auto, unfolding(crate::specs::Words::kind_words))]
 pub(crate) fn kind_words(kind: Kind) -> &'static [u8]
     ensures { result.now ≡ kind_words kind }
@@ -43,7 +43,7 @@ fn name_label(fault: NameError) -> &'static [u8]
     }
 }
 
-/// A line's fault, by number and name.
+/// The number and name of a line's fault.
 #[tactic(auto, unfolding(cmd_base::specs::Refusals::cause_label))]
 fn cause_label(cause: Cause) -> &'static [u8]
     ensures { result.now ≡ cause_label cause }
@@ -60,7 +60,7 @@ fn cause_label(cause: Cause) -> &'static [u8]
     }
 }
 
-/// What is wrong with a line.
+/// The words for a line's fault.
 #[tactic(auto, unfolding(crate::specs::Words::cause_words))]
 fn cause_words(cause: Cause) -> &'static [u8]
     ensures { result.now ≡ cause_words cause }
@@ -99,7 +99,7 @@ fn note_label(word: Word) -> &'static [u8]
     }
 }
 
-/// What a note says.
+/// The words for a note.
 #[tactic(auto, unfolding(crate::specs::Words::note_words))]
 fn note_words(word: Word) -> &'static [u8]
     ensures { result.now ≡ note_words word }
@@ -116,7 +116,7 @@ fn note_words(word: Word) -> &'static [u8]
     }
 }
 
-/// What is wrong, by number and name.
+/// The number and name of a fault, or the word of a note.
 #[tactic(auto, unfolding(crate::specs::Words::what_label))]
 pub(crate) fn what_label(what: What) -> &'static [u8]
     ensures { result.now ≡ what_label what }
@@ -135,7 +135,7 @@ pub(crate) fn what_label(what: What) -> &'static [u8]
     }
 }
 
-/// What is wrong, in words.
+/// The words for a fault or note.
 #[tactic(auto, unfolding(crate::specs::Words::what_words))]
 pub(crate) fn what_words(what: What) -> &'static [u8]
     ensures { result.now ≡ what_words what }
@@ -154,7 +154,7 @@ pub(crate) fn what_words(what: What) -> &'static [u8]
     }
 }
 
-/// How it begins: what stands behind a chart is no fault.
+/// The start of the heading. A note, and text after a chart, are no faults.
 #[tactic(auto, unfolding(crate::specs::Words::start_of))]
 pub(crate) fn start_of(what: What) -> &'static [u8]
     ensures { result.now ≡ start_of what }
@@ -201,7 +201,7 @@ pub(crate) fn want_words(want: Want) -> &'static [u8]
     }
 }
 
-/// What is told of F18.
+/// The words for F18.
 #[tactic(auto, unfolding(crate::specs::Sayings::cyclic_text))]
 pub(crate) fn cyclic_words() -> &'static [u8]
     ensures { result.now ≡ cyclic_text }
@@ -209,7 +209,7 @@ pub(crate) fn cyclic_words() -> &'static [u8]
     b"\nerror: F18 Cyclic: events come before each other, in a circle\n"
 }
 
-/// What is told of a file that can be tidied.
+/// The hint for a file that can be tidied.
 #[tactic(auto, unfolding(crate::specs::Sayings::tidy_text))]
 pub(crate) fn tidy_words() -> &'static [u8]
     ensures { result.now ≡ tidy_text }
@@ -217,7 +217,7 @@ pub(crate) fn tidy_words() -> &'static [u8]
     b"\nhelp: mscview tidy writes the exact text of this file, which has no fault\n"
 }
 
-/// What is told of a file that may be a log.
+/// The hint for a file that may be a log.
 #[tactic(auto, unfolding(crate::specs::Sayings::log_text))]
 pub(crate) fn log_words() -> &'static [u8]
     ensures { result.now ≡ log_text }

@@ -1,4 +1,4 @@
--- What is found for a pair of events, and what is written of it.
+-- The result for a pair of events, and its output.
 use Rattle.std.proofs.Common.{◌≡◌, ℕ, inl, inr, ◌≤◌, Bool, true, false, cond, List, length, Option, None, Some, Result, Ok, Err, refl, sym, subst, arith}
 use Rattle.chart.specs.Charts.{Chart, LineView, chart_lines, IsPossible}
 use Rattle.std.specs.Prelude.{nat_lt}
@@ -33,26 +33,26 @@ use Rattle.cmd_explain_race.specs.Finding.{origin_of, HasShown, IsFoundOf, IsFou
 use Rattle.cmd_explain_race.specs.Reordering.{Origin, first_of, IsKeptFrom, IsOrdered, IsAskedFor}
 use Rattle.cmd_explain_race.specs.Witnessing.{WritesShown, Finds, FindsIn}
 
--- a plan that has the steps that were found is ordered as they are
+-- a plan with the steps of the result has their order
 ordered_from : (named : Named) (origin : Origin) (pair : Pair) (reordered : Reordered) (plan : Plan) → IsKeptFrom named origin pair reordered → HasSteps reordered (founds.Replay plan) → IsOrdered named origin pair plan
 ordered_from named origin pair (turns.Run slots run) plan (steps, from, kept) (capacity, commands) =
     (steps, run.items, from, subst (λ k. IsInOrder k steps (place_of pair.receive) run.items) (sym capacity) kept, commands)
 ordered_from named origin pair turns.Enforced plan kept has = absurd has
 
--- the earlier event of a pair is one of the chart
+-- the earlier event of a pair is an event of the chart
 pub earlier_event : (c : Chart) (pair : Pair) → IsPair c pair → IsEvent c (place_of pair.earlier)
 earlier_event c pair is =
     let r = IsEvent-from_passes c (is_receive_from is.receive.0) (place_of pair.receive) is.receive.1 in
     (is.earlier.begun, subst (λ p. pair.earlier.index ≤ length (c p)) (sym is.earlier.line) (let less = is.earlier.less in omega (arith, r.1)))
 
--- what was found is shown so
+-- the result is the one that is shown
 pub has_shown : (names : List (List ℕ)) (lines : List LineView) (origin : Origin) (pair : Pair) (reordered : Reordered) (shown : Shown) → IsKeptFrom (names, lines) origin pair reordered → HasSteps reordered shown
     → IsShown names (first_of origin) (chart_lines lines) (place_of pair.earlier) (place_of pair.receive) shown → HasShown (names, lines) origin pair shown
 has_shown names lines origin pair reordered (founds.Replay plan) kept has is = (is.0, is.1, is.2, ordered_from (names, lines) origin pair reordered plan kept has)
 has_shown names lines origin pair reordered founds.Enforced kept has is = is
 has_shown names lines origin pair reordered (founds.TooManySlots k) kept has is = is
 
--- it is found for the pair that is asked about
+-- the result is for the pair that the words name
 pub found_from : (named : Named) (origin : Origin) (asked : Asked) (pair : Pair) (result : Result Found ViewError) → IsAskedFor named asked (Ok pair) → IsFoundOf named origin pair result → IsFound named origin asked result
 found_from named origin asked pair (Ok found) is (same, shown) =
     (subst (λ (p : Pair). pair_of named.0 named.1 asked ≡ Ok p) (sym same) is.0, is.1, shown_for named origin pair found same shown)
@@ -73,27 +73,27 @@ found_from named origin asked pair (Err (NotAReceive receive)) is so = absurd so
 found_from named origin asked pair (Err (ManySlots k)) is so = absurd so
 
 module _ {S : Type 0} (sink : S → Sink) (old new : S) (asked : Asked) (source : Source) (pair : Pair) (is_pair : pair_of (named_of source).0 (named_of source).1 asked ≡ Ok pair) (possible : IsPossible (length (named_of source).1) (chart_lines (named_of source).1)) where
-  -- what is written of a pair that is judged so
+  -- the output for a pair with a verdict
   pub finds_so : (shown : Shown) (witnessed : Witnessed) → HasShown (named_of source) (origin_of source) pair shown → IsJudged source pair shown (Ok witnessed) → WritesShown sink old new shown (Ok tt) → FindsIn sink old new asked source (Ok witnessed)
   finds_so (founds.Replay plan) witnessed is (true, are, same) puts = subst (FindsIn sink old new asked source) (sym same) (refl, (pair, is_pair, possible, (plan, is, are, puts)))
   finds_so (founds.Replay plan) witnessed is (false, are, same) puts = subst (FindsIn sink old new asked source) (sym same) (refl, (pair, is_pair, possible, (plan, is, are, puts)))
   finds_so founds.Enforced witnessed is same wrote = subst (FindsIn sink old new asked source) (sym same) (refl, (pair, is_pair, possible, (is, wrote.1)))
   finds_so (founds.TooManySlots k) witnessed is same wrote = cc
 
-  -- of one whose text isn't written whole
+  -- the output for a pair whose text wasn't written completely
   pub finds_broken : (shown : Shown) (error : ViewError) → HasShown (named_of source) (origin_of source) pair shown → WritesShown sink old new shown (Err error) → FindsIn sink old new asked source (Err error)
   finds_broken (founds.Replay plan) error is (same, breaks) =
       subst (λ (e : ViewError). FindsIn sink old new asked source (Err e)) (sym same) (pair, is_pair, possible, (plan, is, breaks))
   finds_broken founds.Enforced error is wrote = let differs = wrote.0 in cc
   finds_broken (founds.TooManySlots k) error is wrote = let differs = wrote.0 in cc
 
-  -- of one for which each run needs too many slots
+  -- the output for a pair if each run needs too many slots
   pub finds_none : (shown : Shown) (error : ViewError) → HasShown (named_of source) (origin_of source) pair shown → IsJudged source pair shown (Err error) → FindsIn sink old old asked source (Err error)
   finds_none (founds.TooManySlots k) error is same = subst (FindsIn sink old old asked source) (sym same) (pair, is_pair, possible, (is, refl))
   finds_none founds.Enforced error is same = cc
   finds_none (founds.Replay plan) error is (hidden, are, same) = cc
 
--- words that name no pair need no slots
+-- if the words name no pair, the refusal isn't about slots
 failed : (b : Bool) (x : Result Pair ViewError) (error other : ViewError) → (error ≡ other → ⊥) → cond b x (Err error) ≡ Err other → x ≡ Err other
 failed true x error other differs is = is
 failed false x error other differs is = let same : error ≡ other = cc in absurd (differs same)
@@ -113,7 +113,7 @@ no_slots names lines asked k is = by_instance (instance_named names asked.instan
     by_instance None h = cc
     by_instance (Some p) h = slots_on names p (chart_lines lines p) asked.earlier asked.receive k h
 
--- where the pair isn't found, nothing is written
+-- if the pair isn't found, nothing is written
 pub not_found : {S : Type 0} (sink : S → Sink) (old : S) (named : Named) (origin : Origin) (asked : Asked) (error : ViewError) → IsAskedFor named asked (Err error) → Finds sink old old (Err error) named origin asked
 not_found sink old named origin asked (Program Usage) is = absurd is
 not_found sink old named origin asked (Program File) is = absurd is

@@ -1,4 +1,4 @@
--- What is printed on standard error.
+-- The text on standard error.
 use Rattle.std.specs.Prelude.{ℕ, Bool, true, false, List, ◌++◌, Option, None, Some, codes, Result}
 use Rattle.cmd_base.specs.Answers.{Exit, exit_of}
 use Rattle.cmd_base.specs.NotDone.{told_of, not_done_text}
@@ -13,7 +13,7 @@ use Rattle.cmd_explain_race.specs.declared.verdict.Explained.{Explained}
 use Rattle.cmd_explain_race.specs.declared.verdict.Witnessed.{Witnessed}
 use Rattle.cmd_explain_race.specs.Verdicts.{code_of}
 
--- what is told beside what explains a pair
+-- the line about a coregion that hides an explained pair
 abbrev pub diagnostics_of : Verdict → Option (List ℕ)
 diagnostics_of Enforced = None
 diagnostics_of Race = None
@@ -25,39 +25,39 @@ closes_text = codes "closes are left out\n"
 unfoldable pub enforced_text : List ℕ
 enforced_text = codes "enforced: each run has the two in this order\n"
 
--- that a schedule's closes are left out
+-- the line about a schedule's closes, if it has some
 abbrev pub closes_diagnostics : Bool → Option (List ℕ)
 closes_diagnostics true = Some closes_text
 closes_diagnostics false = None
 
--- the same, and that a coregion hides the pair
+-- the same, and the line about a coregion that hides the pair
 abbrev pub hidden_diagnostics : Bool → Option (List ℕ)
 hidden_diagnostics true = Some (closes_text ++ hidden_text)
 hidden_diagnostics false = Some hidden_text
 
--- what is told beside a witness, or in place of one
+-- the lines that come with a witness, or replace it
 abbrev pub witness_diagnostics : Bool → Verdict → Option (List ℕ)
 witness_diagnostics has_closes Enforced = Some enforced_text
 witness_diagnostics has_closes Race = closes_diagnostics has_closes
 witness_diagnostics has_closes Hidden = hidden_diagnostics has_closes
 
--- what is said of a pair that was explained
+-- the exit status and text of a pair that was explained
 abbrev pub verdict_exit : Verdict → Exit
 verdict_exit verdict = record { status = code_of verdict; diagnostics = diagnostics_of verdict }
 
--- of a pair for which a witness was looked for
+-- the exit status and text of a search for a witness
 abbrev pub witnessed_exit : Witnessed → Exit
 witnessed_exit witnessed =
     record { status = code_of witnessed.verdict; diagnostics = witness_diagnostics witnessed.has_closes witnessed.verdict }
 
--- what is told of a pair that a coregion hides, and of a schedule's commands that did nothing
+-- the lines about a coregion that hides the pair, and about a schedule's commands that did nothing
 abbrev pub explained_diagnostics : Verdict → Option NotDone → Option (List ℕ)
 explained_diagnostics Enforced them = told_of them
 explained_diagnostics Race them = told_of them
 explained_diagnostics Hidden None = Some hidden_text
 explained_diagnostics Hidden (Some them) = Some (hidden_text ++ not_done_text them)
 
--- of a pair of a file that was explained
+-- the exit status and text of a pair of a file that was explained
 abbrev pub explained_exit : Explained → Exit
 explained_exit explained =
     record { status = code_of explained.verdict; diagnostics = explained_diagnostics explained.verdict explained.not_done }

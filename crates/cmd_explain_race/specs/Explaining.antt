@@ -1,4 +1,4 @@
--- What is written to explain a pair of events of a chart.
+-- The lines that explain a pair of events of a chart.
 use Rattle.std.specs.Prelude.{◌≡◌, ℕ, Bool, true, false, List, length, Option, Some, Result, Ok, Err}
 use Rattle.std.specs.List.{flat_map}
 use Rattle.chart.specs.declared.event.Event.{Event}
@@ -29,18 +29,18 @@ abbrev pub AreInOneRegion : Chart → Pair → Bool → Type 0
 AreInOneRegion c pair are = (m : Event) × (chart_event c (place_of pair.earlier) ≡ Some m)
     × (is_in (region_of_event (chart_event c (place_of pair.receive))) m ≡ are)
 
--- what explains, in a chart of n lines, that the receive needn't come after the event
+-- in a chart of n lines, these lines explain that the receive needn't come after the event
 abbrev pub AreRaceSayings : ℕ → Chart → Pair → List Saying → Type 0
 AreRaceSayings n c pair sayings = (q : ℕ) × (counts : List ℕ) × IsReceiveFrom c q (place_of pair.receive)
     × IsPast n c (place_of pair.receive) counts
     × (sayings ≡ race_sayings (c pair.receive.instance) pair.receive.instance pair.receive.index q counts)
 
--- that explains it in one way
+-- the lines that explain it are unique
 abbrev pub OneExplanationLaw : Type 0
 OneExplanationLaw = (n : ℕ) (c : Chart) (pair : Pair) (a b : List Saying) → AreRaceSayings n c pair a
     → AreRaceSayings n c pair b → a ≡ b
 
--- what the pair is, and what explains it
+-- the verdict on the pair, and the lines that explain it
 abbrev pub IsExplained : ℕ → Chart → Pair → Verdict → List Saying → Type 0
 IsExplained n c pair Enforced sayings = (links : List Link) × Before c (place_of pair.earlier) (place_of pair.receive)
     × IsShortestChain c (place_of pair.earlier) (place_of pair.receive) links × (sayings ≡ chain_sayings links)
@@ -55,8 +55,8 @@ sayings_text (names, lines) pair sayings =
     flat_map (saying_text names (chart_lines lines pair.receive.instance)) sayings
 
 module _ {S : Type 0} (sink : S → Sink) where
-  -- the lines that explain the pair were written; or a beginning of them, where a put failed; or nothing, where the
-  -- chart is not possible, where there is no such pair, or where memory ran out
+  -- the lines that explain the pair were written, or a beginning of them, if a put failed; or nothing, if the chart
+  -- isn't possible, there is no such pair, or memory ran out
   abbrev pub Explains : S → S → Result Verdict ViewError → Named → Asked → Type 0
   Explains old new (Ok verdict) named asked = (pair : Pair) × (sayings : List Saying)
       × (pair_of named.0 named.1 asked ≡ Ok pair) × IsPossible (length named.1) (chart_lines named.1)

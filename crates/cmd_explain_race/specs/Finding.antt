@@ -1,4 +1,4 @@
--- What is found for two events whose other order is looked for.
+-- The search for the other order of two events.
 use Rattle.std.specs.Prelude.{◌≡◌, ℕ, Bool, true, false, List, length, Result, Ok, Err}
 use Rattle.std.specs.List.{list_any}
 use Rattle.chart.specs.Charts.{chart_lines, IsPossible}
@@ -28,7 +28,7 @@ use Rattle.cmd_explain_race.specs.Reordering.{Origin, IsAskedFor, IsWitness, Nee
 use Rattle.cmd_explain_race.specs.Reordering.Origin.{recorded, from_chart}
 use Rattle.cmd_explain_race.specs.Verdicts.{verdict_in}
 
--- it closes a lane
+-- the action closes a lane
 abbrev pub is_close : Action → Bool
 is_close (Send to name) = false
 is_close (Receive from) = false
@@ -41,38 +41,38 @@ is_close Shut = false
 abbrev pub has_closes : Plan → Bool
 has_closes plan = list_any (λ (c : Command). is_close c.action) plan.commands
 
--- what a witness is made from: what a schedule's commands made, or a chart's lines as drawn
+-- the source of a witness: the accepted commands of a schedule, or a chart's lines as drawn
 abbrev pub origin_of : Source → Origin
 origin_of (Run schedule outcome) = recorded schedule.now
 origin_of (Written named) = from_chart
 
--- whether closes are left out
+-- whether the schedule has closes, which a witness leaves out
 abbrev pub closes_in : Source → Bool
 closes_in (Run schedule outcome) = has_closes schedule.now
 closes_in (Written named) = false
 
--- what there is to show of a pair of the chart: a witness; that no run turns it round; how many slots each run needs
--- that does
+-- the result for a pair of the chart: a witness; or no run reverses it; or each run that does needs this number of
+-- slots
 abbrev pub HasShown : Named → Origin → Pair → Shown → Type 0
 HasShown named origin pair (founds.Replay plan) = IsWitness named origin pair plan
 HasShown named origin pair founds.Enforced =
     CanBeOvertaken (length named.0) (chart_lines named.1) (place_of pair.earlier) (place_of pair.receive) → ⊥
 HasShown named origin pair (founds.TooManySlots k) = NeedsSlots named origin pair k
 
--- that was found for the pair, or memory ran out
+-- the result was found for the pair, or memory ran out
 abbrev pub IsFoundOf : Named → Origin → Pair → Result Found ViewError → Type 0
 IsFoundOf named origin pair (Ok found) = (found.pair ≡ pair) × HasShown named origin pair found.shown
 IsFoundOf named origin pair (Err (Program errors.Memory)) = Unit {0}
 IsFoundOf named origin pair (Err error) = ⊥
 
--- it was found for the two events that are asked about; or the chart is not possible, there is no such pair, or memory
--- ran out
+-- the result was found for the two events that the words name; or the chart isn't possible, there is no such pair, or
+-- memory ran out
 abbrev pub IsFound : Named → Origin → Asked → Result Found ViewError → Type 0
 IsFound named origin asked (Ok found) = (pair_of named.0 named.1 asked ≡ Ok found.pair)
     × IsPossible (length named.1) (chart_lines named.1) × HasShown named origin found.pair found.shown
 IsFound named origin asked (Err error) = IsAskedFor named asked (Err error)
 
--- what the pair of the source's chart is, where this was found of it
+-- the verdict on the pair of the source's chart, by its result
 abbrev pub IsJudged : Source → Pair → Shown → Result Witnessed ViewError → Type 0
 IsJudged source pair (founds.Replay plan) result = (hidden : Bool)
     × AreInOneRegion (chart_lines (named_of source).1) pair hidden

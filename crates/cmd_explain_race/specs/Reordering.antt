@@ -1,4 +1,4 @@
--- What turns a pair of events round, and what is written of it.
+-- The reversal of a pair of events, and the text of its witness.
 use Rattle.std.specs.Prelude.{◌≡◌, ℕ, ◌<◌, true, false, List, length, Option, Result, Ok, Err}
 use Rattle.chart.specs.Charts.{Chart, chart_lines, IsPossible}
 use Rattle.closure.specs.Faults.{place_of}
@@ -28,7 +28,7 @@ use Rattle.cmd_explain_race.specs.declared.verdict.Verdict.TheVariants.{Enforced
 use Rattle.cmd_explain_race.specs.Explaining.{AreInOneRegion}
 use Rattle.cmd_base.specs.Pairs.Pairs.{pair_of}
 
--- the two events of a possible chart that are asked about
+-- the two events of a possible chart that the words name
 abbrev pub IsAskedFor : Named → Asked → Result Pair ViewError → Type 0
 IsAskedFor named asked (Ok pair) = (pair_of named.0 named.1 asked ≡ Ok pair)
     × IsPossible (length named.1) (chart_lines named.1)
@@ -37,35 +37,35 @@ IsAskedFor named asked (Err (Program error)) = IsRefused error named
 IsAskedFor named asked (Err error) = (pair_of named.0 named.1 asked ≡ Err error)
     × IsPossible (length named.1) (chart_lines named.1)
 
--- what a witness is made from: the run that a schedule's accepted commands make, or one of the chart's lines as drawn
+-- the source of a witness: the run of a schedule's accepted commands, or a run of the chart's lines as drawn
 pub data Origin : Type 0 where
   recorded : Plan → Origin
   from_chart : Origin
 
--- from how many slots on there may be a witness
+-- the least number of slots that a witness may have
 abbrev pub first_of : Origin → ℕ
 first_of (recorded plan) = plan.capacity
 first_of from_chart = 1
 
--- the steps are such a run, of the chart over the fewest slots
+-- the steps are a run from this source; for a chart it is a run over the fewest slots
 abbrev pub IsFrom : Named → Origin → List Step → Type 0
 IsFrom named (recorded plan) steps = IsRecorded plan steps
 IsFrom named from_chart steps = (k : ℕ) × IsLeastRun (length named.1) k (chart_lines named.1) steps
 
--- what was found has first the steps of such a run that have to come with the pair's receive, and then the others, each
--- in the order that they had
+-- the result has first the steps of such a run that have to come with the pair's receive, and then the others; both
+-- keep the order of that run
 abbrev pub IsKeptFrom : Named → Origin → Pair → Reordered → Type 0
 IsKeptFrom named origin pair reordered = (steps : List Step) × IsFrom named origin steps
     × IsKept steps (place_of pair.receive) reordered
 
--- the same of the plan's commands
+-- the same for the plan's commands
 abbrev pub IsOrdered : Named → Origin → Pair → Plan → Type 0
 IsOrdered named origin pair plan = (steps : List Step) × (run : List Step) × IsFrom named origin steps
     × IsInOrder plan.capacity steps (place_of pair.receive) run × (plan.commands ≡ commands_of FIRST_LINE run)
 
--- the plan has these instances, refuses nothing, and means a run of the chart's events and causes in which the pair's
--- receive comes before its earlier event, with the least number of slots; what needn't come with the receive is as it
--- was
+-- The plan has these instances, refuses nothing, and describes a run of the chart's events and causes. In this run the
+-- pair's receive comes before its earlier event. The number of slots is the least. The events that needn't come with
+-- the receive keep their order.
 abbrev pub IsWitness : Named → Origin → Pair → Plan → Type 0
 IsWitness (names, lines) origin pair plan = (plan.names ≡ names)
     × ShowsTurn (length names) (chart_lines lines) (place_of pair.earlier) (place_of pair.receive) plan
@@ -73,7 +73,7 @@ IsWitness (names, lines) origin pair plan = (plan.names ≡ names)
     (place_of pair.earlier) (place_of pair.receive)
     × IsOrdered (names, lines) origin pair plan
 
--- such a run needs k slots at least, more than lanes may have
+-- such a run needs at least k slots, more than lanes may have
 abbrev pub NeedsSlots : Named → Origin → Pair → ℕ → Type 0
 NeedsSlots (names, lines) origin pair k = (MAX_CAPACITY < k)
     × CanBeOvertakenWithin (length names) k (chart_lines lines) (place_of pair.earlier) (place_of pair.receive)
@@ -81,8 +81,8 @@ NeedsSlots (names, lines) origin pair k = (MAX_CAPACITY < k)
     (place_of pair.earlier) (place_of pair.receive)
 
 module _ {S : Type 0} (sink : S → Sink) where
-  -- for a pair of the chart: the text of a witness was written, or a beginning of it, where a put failed; or nothing,
-  -- where no run turns the pair round, where each needs too many slots, or where memory ran out
+  -- for a pair of the chart, the text of a witness was written, or a beginning of it, if a put failed; or nothing, if
+  -- no run reverses the pair, each needs too many slots, or memory ran out
   abbrev pub Shows : S → S → Result Verdict ViewError → Named → Origin → Pair → Type 0
   Shows old new (Ok Enforced) named origin pair =
       (CanBeOvertaken (length named.0) (chart_lines named.1) (place_of pair.earlier) (place_of pair.receive) → ⊥)

@@ -1,4 +1,4 @@
--- What the program explains of the bytes of a file.
+-- The explanations of pairs in the bytes of a file.
 use Rattle.std.specs.Prelude.{List, ℕ, Result}
 use Rattle.texts.specs.Outs.{Sink}
 use Rattle.cmd_base.specs.NotDone.{IsNoted}
@@ -10,13 +10,13 @@ use Rattle.cmd_explain_race.specs.declared.verdict.Explained.{Explained}
 use Rattle.cmd_explain_race.specs.declared.verdict.Verdict.{Verdict}
 use Rattle.cmd_explain_race.specs.Explaining.{Explains}
 
--- the two events of the chart that the bytes say were explained; or nothing was written, where the bytes have a fault,
--- or where memory ran out
+-- the two events of the chart in the bytes were explained; or nothing was written, if the bytes have a fault or memory
+-- ran out
 abbrev pub Whys : {S : Type 0} → (S → Sink) → S → S → List ℕ → Asked → Result Verdict ViewError → Type 0
 Whys sink old new bytes asked =
     OfFile Program (λ source done. Explains sink old new done (named_of source) asked) old new bytes
 
--- the same, and of a schedule which of its commands did nothing
+-- the same, with the commands of a schedule that did nothing
 abbrev pub WhysFile : {S : Type 0} → (S → Sink) → S → S → List ℕ → Asked → Result Explained ViewError → Type 0
 WhysFile sink old new bytes asked = OfFile Program
     (IsNoted (λ explained. explained.verdict) (λ explained. explained.not_done) (λ source done. Explains sink old new done (named_of source) asked)) old new bytes

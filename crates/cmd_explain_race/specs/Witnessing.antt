@@ -21,16 +21,16 @@ use Rattle.cmd_base.specs.Pairs.Pairs.{pair_of}
 use Rattle.cmd_explain_race.specs.Reordering.{Origin, Shows}
 
 module _ {S : Type 0} (sink : S → Sink) where
-  -- what is written of what there is to show: the text of the schedule, or a beginning of it, where a put failed; and
-  -- nothing where there is none
+  -- the output for a result: the text of the schedule, or a beginning of it, if a put failed; or nothing, if the result
+  -- has no schedule
   abbrev pub WritesShown : S → S → Shown → Result (Unit {0}) ViewError → Type 0
   WritesShown old new (founds.Replay plan) (Ok done) = Puts sink old new (schedule_text plan)
   WritesShown old new (founds.Replay plan) (Err error) = (error ≡ Program errors.Write)
       × Breaks sink old new (schedule_text plan)
   WritesShown old new shown result = (result ≡ Ok tt) × (new ≡ old)
 
-  -- what is written for two events of a chart: a witness, or none was found; or nothing, where the chart is not
-  -- possible, where there is no such pair, or where memory ran out
+  -- the output for two events of a chart: a witness, or nothing, if there is no witness, no such pair or no memory, or
+  -- if the chart isn't possible
   abbrev pub Finds : S → S → Result Verdict ViewError → Named → Origin → Asked → Type 0
   Finds old new (Err (Program errors.Memory)) named origin asked = new ≡ old
   Finds old new (Err (Program errors.Write)) named origin asked =
@@ -45,13 +45,13 @@ module _ {S : Type 0} (sink : S → Sink) where
       × IsPossible (length named.1) (chart_lines named.1) × Shows sink old new (Ok verdict) named origin pair
 
 module _ {S : Type 0} (sink : S → Sink) where
-  -- the same for two events of a file's chart, with what is left out of it
+  -- the same for two events of a file's chart, with whether closes were left out
   abbrev pub FindsIn : S → S → Asked → Source → Result Witnessed ViewError → Type 0
   FindsIn old new asked source (Ok witnessed) = (witnessed.has_closes ≡ closes_in source)
       × Finds sink old new (Ok witnessed.verdict) (named_of source) (origin_of source) asked
   FindsIn old new asked source (Err error) = Finds sink old new (Err error) (named_of source) (origin_of source) asked
 
-  -- a witness was written for two events of the chart that the bytes say, or none was found; or nothing was written,
-  -- where the bytes have a fault, or where memory ran out
+  -- a witness for two events of the chart in the bytes was written, or there is none; or nothing was written, if the
+  -- bytes have a fault or memory ran out
   abbrev pub Witnesses : S → S → List ℕ → Asked → Result Witnessed ViewError → Type 0
   Witnesses old new bytes asked = OfFile Program (FindsIn old new asked) old new bytes

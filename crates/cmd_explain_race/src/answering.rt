@@ -1,4 +1,4 @@
-//! What is told on standard error: refusals, and what is told beside an answer.
+//! The text on standard error: refusals, and the lines that come with an answer.
 ghost use Rattle.std.specs.Prelude.{◌≡◌, ◌++◌};
 ghost use Rattle.texts.specs.Writing.{Wrote, Adds};
 ghost use Rattle.cmd_explain_race.specs.Answers.{
@@ -32,7 +32,7 @@ fn enforced_text() -> &'static [u8]
     b"enforced: each run has the two in this order\n"
 }
 
-/// What is told beside what explains a pair.
+/// The exit status of an explained pair, and the line about a coregion that hides it.
 impl Answer for Verdict {
     ghost exit = { verdict_exit };
 
@@ -69,7 +69,7 @@ fn write_both<V: Out>(first: &[u8], second: &[u8], err: &mut V) -> Result<(), Wr
     text.finish()
 }
 
-/// Writes what is told of a pair that a coregion hides.
+/// Writes the lines about a pair that a coregion hides.
 fn print_hidden<V: Out>(has_closes: bool, err: &mut V)
     ensures { Prints V.sink err.old err.new (hidden_diagnostics has_closes) }
 {
@@ -97,7 +97,8 @@ fn write_hidden<V: Out>(not_done: &NotDone, err: &mut V) -> Result<(), WriteErro
     text.finish()
 }
 
-/// What is told beside what explains a pair of a file.
+/// The exit status of an explained pair of a file. Standard error reports a coregion that hides it, and the commands
+/// that did nothing.
 impl Answer for Explained {
     ghost exit = { explained_exit };
 
@@ -116,7 +117,7 @@ impl Answer for Explained {
     }
 }
 
-/// What is told beside a witness, or in place of one.
+/// The exit status of a search for a witness, and the lines that come with the witness or replace it.
 impl Answer for Witnessed {
     ghost exit = { witnessed_exit };
 

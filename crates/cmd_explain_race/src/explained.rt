@@ -27,7 +27,7 @@ pub(crate) fn are_in_one_region(lines: &[Line], pair: &Pair) -> bool
     events[pair.earlier.index as usize - 1].is_in(region)
 }
 
-/// What explains the race of a pair that isn't enforced.
+/// The lines that explain the race of a pair that isn't enforced.
 fn explain_race(
     alloc: Global,
     closure: &Closure<'_>,
@@ -51,7 +51,7 @@ fn explain_race(
     race_sayings(alloc, &own, &counts)
 }
 
-/// What a pair is, and the lines that explain it.
+/// The verdict on a pair, and the lines that explain it.
 fn explain(
     alloc: Global,
     closure: &Closure<'_>,
@@ -75,8 +75,8 @@ fn explain(
     }
 }
 
-/// Explains the two events of the chart that are asked about: writes why the first has to come before the second, or
-/// that it needn't, and answers what they are. All memory is taken before the first line is written.
+/// Explains the two events of the chart that the words name. Writes why the first has to come before the second, or
+/// that it needn't. Returns the verdict. All memory is taken before the first line is written.
 pub(crate) fn why_in<W: Out>(
     alloc: Global,
     names: &Names,
@@ -100,7 +100,7 @@ pub(crate) fn why_in<W: Out>(
     }
 }
 
-/// What explains a race is one: the numbers that are told are the only ones.
+/// The lines that explain a race are unique: no other counts satisfy the definition.
 pub fn one_explanation_law()
     ensures { OneExplanationLaw }
 {}

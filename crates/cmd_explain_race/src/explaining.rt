@@ -1,5 +1,5 @@
-//! What explains a pair: of a race what has to come before its receive and how the receive's line may be, of an
-//! enforced pair its chain.
+//! The lines that explain a pair. For a race these are the events that have to come before its receive, and the orders
+//! of the receive's line. For an enforced pair these are the steps of its chain.
 ghost use Rattle.std.specs.Prelude.{◌≡◌, ◌≤◌, ◌++◌, ◌-◌, nat_lt, length, IfOk, OnOk};
 ghost use Rattle.chart.specs.declared.instance.TheConstants.{MAX_INSTANCES};
 ghost use Rattle.closure.specs.Rows.{entry};
@@ -12,8 +12,8 @@ use closure::chain::Link;
 use cmd_base::pairs::Saying;
 use std::alloc::{AllocError, Global};
 
-/// A receive's line, and what of it is before the receive: so many first events, and beside these the receives from the
-/// receive's sender that stand above it.
+/// A receive's line, and its events that are before the receive: the first `count` events, and each earlier receive
+/// from the receive's sender.
 #[derive(Clone, Copy)]
 pub(crate) struct OwnLine<'a> {
     pub events: &'a [Event],
@@ -24,7 +24,7 @@ pub(crate) struct OwnLine<'a> {
     pub count: usize,
 }
 
-/// Whether the event of this number, which stands above the receive, is before it.
+/// Whether the event with this number, which is above the receive, is before it.
 fn comes_first(own: &OwnLine<'_>, index: usize) -> bool
     requires begun { 1 ≤ index }
     requires within { index ≤ length own.now.events.now }
@@ -33,7 +33,7 @@ fn comes_first(own: &OwnLine<'_>, index: usize) -> bool
     index <= own.count || own.events[index - 1].is_receive_from(own.sender)
 }
 
-/// Whether the event of this number is before the receive and none of the first ones.
+/// Whether the event with this number is before the receive, and isn't one of the first `count`.
 fn comes_too(own: &OwnLine<'_>, index: usize) -> bool
     requires begun { 1 ≤ index }
     requires within { index ≤ length own.now.events.now }
@@ -42,7 +42,7 @@ fn comes_too(own: &OwnLine<'_>, index: usize) -> bool
     own.count < index && own.events[index - 1].is_receive_from(own.sender)
 }
 
-/// Adds of each line how many first events are before the receive.
+/// Adds, for each line, how many of its first events are before the receive.
 fn add_befores(sayings: &mut Vec<Saying>, counts: &Numbers) -> Result<(), AllocError>
     requires { length counts.now ≤ MAX_INSTANCES }
     ensures { OnOk result (sayings.new.items ≡ sayings.old.items ++ befores counts.now (length counts.now)) }
@@ -56,7 +56,7 @@ fn add_befores(sayings: &mut Vec<Saying>, counts: &Numbers) -> Result<(), AllocE
     Ok(())
 }
 
-/// Adds what else of the receive's line is before it.
+/// Adds the other events of the receive's line that are before it.
 fn add_alsos(sayings: &mut Vec<Saying>, own: &OwnLine<'_>) -> Result<(), AllocError>
     requires begun { 1 ≤ own.now.receive }
     requires within { own.now.receive ≤ length own.now.events.now }
@@ -76,7 +76,7 @@ fn add_alsos(sayings: &mut Vec<Saying>, own: &OwnLine<'_>) -> Result<(), AllocEr
     Ok(())
 }
 
-/// Whether the event of this number, which stands above the receive, is before it; or whether it isn't.
+/// Whether the event with this number, which is above the receive, is before it (if `before`) or isn't (if not).
 fn comes_so(own: &OwnLine<'_>, index: usize, before: bool) -> bool
     requires begun { 1 ≤ index }
     requires within { index ≤ length own.now.events.now }
@@ -89,7 +89,7 @@ fn comes_so(own: &OwnLine<'_>, index: usize, before: bool) -> bool
     }
 }
 
-/// Adds the numbers of the events above the receive that are before it, or of those that aren't.
+/// Adds the numbers of the events above the receive that are before it (if `before`) or that aren't (if not).
 fn add_above(order: &mut Vec<usize>, own: &OwnLine<'_>, before: bool) -> Result<(), AllocError>
     requires begun { 1 ≤ own.now.receive }
     requires within { own.now.receive ≤ length own.now.events.now }
@@ -119,8 +119,8 @@ fn add_below(order: &mut Vec<usize>, own: &OwnLine<'_>) -> Result<(), AllocError
     Ok(())
 }
 
-/// The numbers of the line's events in the order in which they may be: those before the receive first, then the
-/// receive, and then the others.
+/// The numbers of the line's events in the order in which they may come. The events before the receive are first, then
+/// the receive, and then the others.
 fn order_of(alloc: Global, own: &OwnLine<'_>) -> Result<Vec<usize>, AllocError>
     requires begun { 1 ≤ own.now.receive }
     requires within { own.now.receive ≤ length own.now.events.now }
@@ -135,7 +135,7 @@ fn order_of(alloc: Global, own: &OwnLine<'_>) -> Result<Vec<usize>, AllocError>
     Ok(order)
 }
 
-/// Adds each event of the line beside the one that has its place in this order.
+/// Adds each event of the line with the event that takes its place in this order.
 fn add_rows(sayings: &mut Vec<Saying>, order: &[usize]) -> Result<(), AllocError>
     ensures { OnOk result (sayings.new.items ≡ sayings.old.items ++ rows order.now (length order.now)) }
 {
@@ -148,8 +148,8 @@ fn add_rows(sayings: &mut Vec<Saying>, order: &[usize]) -> Result<(), AllocError
     Ok(())
 }
 
-/// What explains a race of this receive: of each line how many first events are before it, what else of its line is,
-/// and its line as it was and as it may be.
+/// The lines that explain a race of this receive. First comes, for each line, how many of its first events are before
+/// the receive. Then come the other such events of its own line, and this line as it was and as it may be.
 pub(crate) fn race_sayings(
     alloc: Global,
     own: &OwnLine<'_>,
@@ -170,7 +170,7 @@ pub(crate) fn race_sayings(
     Ok(sayings)
 }
 
-/// What explains an enforced pair: the steps of its chain.
+/// The lines that explain an enforced pair: the steps of its chain.
 pub(crate) fn chain_sayings(alloc: Global, links: &[Link]) -> Result<Vec<Saying>, AllocError>
     ensures { IfOk result (λ sayings. sayings.items ≡ chain_sayings links.now) }
 {

@@ -1,4 +1,4 @@
-//! What is found for two events whose other order is looked for.
+//! The search for the other order of two events.
 ghost use Rattle.std.specs.Prelude.{ℕ, ◌≡◌, ◌≤◌, length};
 ghost use Rattle.closure.specs.Faults.{place_of};
 ghost use Rattle.chart.specs.Charts.{chart_lines};
@@ -22,14 +22,14 @@ use schedule_replay::reordered_runs::{
 };
 use std::alloc::Global;
 
-/// The two events that are asked about, and what there is to show of their other order.
+/// The pair of events, and the result of the search for their other order.
 #[derive(Debug, Drop)]
 pub struct Found {
     pub pair: Pair,
     pub shown: Shown,
 }
 
-/// The two events of a possible chart that are asked about.
+/// The two events of a possible chart that the words name.
 fn pair_of_possible(
     alloc: Global,
     names: &Names,
@@ -43,7 +43,7 @@ fn pair_of_possible(
     pair_in(names, chart.lines(), asked)
 }
 
-/// What there is to show of what was found for a pair of the chart.
+/// The result for a pair of the chart, by the run that was found.
 fn found_of(
     alloc: Global,
     names: &Names,
@@ -67,7 +67,7 @@ fn found_of(
     }
 }
 
-/// What is found for two events of the chart.
+/// The result for two events of the chart.
 fn found_in_chart(
     alloc: Global,
     names: &Names,
@@ -84,8 +84,8 @@ fn found_in_chart(
     found_of(alloc, names, chart, &reordered, &pair)
 }
 
-/// The same for two events of the chart that a schedule comes to. What needn't come with the receive stays in the
-/// recorded order.
+/// The same for two events of a schedule's chart. The events that needn't come with the receive stay in the recorded
+/// order.
 fn found_in_run(
     alloc: Global,
     schedule: &Schedule,
@@ -103,9 +103,9 @@ fn found_in_run(
     found_of(alloc, outcome.names(), outcome.chart(), &reordered, &pair)
 }
 
-/// What is found for two events of a chart that was read: a run in which they stand the other way round, as a schedule,
-/// or that there is none, or how many slots one needs. F16, F17 or F18: the chart isn't possible. F31 and F32: there
-/// are no two such events. F6: a growth was refused.
+/// The result for two events of a chart that was read: a schedule with a run that reverses them; or that no run does;
+/// or how many slots a run needs. F16, F17 or F18: the chart isn't possible. F31 or F32: the chart has no such pair.
+/// F6: a growth was refused.
 pub fn found_in(alloc: Global, source: &Source<'_>, asked: &Asked<'_>) -> Result<Found, ViewError>
     requires { ComesFrom source.now }
     ensures { IsFound (named_of source.now) (origin_of source.now) asked.now result }
@@ -146,8 +146,8 @@ fn closes_in(source: &Source<'_>) -> bool
     }
 }
 
-/// What the two events of the source's chart are, by what was found for them. F33: the only runs that turn them round
-/// need more than 64 slots.
+/// The verdict on the two events of the source's chart, by the result for them. F33: all runs that reverse them need
+/// more than 64 slots.
 pub fn judged(source: &Source<'_>, found: &Found) -> Result<Witnessed, ViewError>
     requires { IsPair (chart_lines (named_of source.now).1) found.now.pair }
     ensures { Judges source.now found.now result }

@@ -1,24 +1,27 @@
-//! What `mscview why` and `mscview witness` do with the bytes of a file, and what they say where they can't.
+//! What `mscview why` and `mscview witness` do with the bytes of a file, and their refusals.
 //!
-//! What is promised ([`why`]): the bytes of the file, an instance's name and the numbers of two events decide the
+//! What is promised of [`why`]: the bytes of the file, an instance's name and the numbers of two events determine the
 //! output's bytes.
 //!
-//! - With status 0 the enforced order puts the event before the receive, and exactly a shortest chain of direct steps
-//!   was written, each with its rule.
-//! - With status 1 it doesn't, and exactly what has to come before the receive was written, line by line, and then
-//!   the receive's line as it was beside the line as it may be. No other lines tell that ([`one_explanation_law`]).
-//! - With status 2 the refusal's line was written, or a beginning of it where standard error failed, and nothing went
-//!   to the output before it, unless a write failed (F24).
+//! - With status 0 the enforced order puts the event before the receive. Exactly a shortest chain of direct steps was
+//!   written, each with its rule.
+//! - With status 1 the order doesn't put it there. Exactly the events that have to come before the receive were
+//!   written, line by line. Then come the receive's line as it was and, beside it, the line as it may be. No other such
+//!   lines exist ([`one_explanation_law`]).
+//! - With status 2 the refusal's line was written, or a beginning of it if standard error failed. Nothing went to the
+//!   output before the refusal, unless a write failed (F24).
 //!
-//! And of the other order of the two ([`witness`]), where a run is one of the same events and causes:
+//! What is promised of [`witness`], which looks for the other order of the two. Here a run is one with the same events
+//! and causes.
 //!
-//! - With status 0 no run has the receive before the event, whatever the slots, and nothing was written to the
+//! - With status 0 no run has the receive before the event, with any number of slots, and nothing was written to the
 //!   output.
-//! - With status 1 exactly the text of a schedule was written which refuses no command and means such a run. It has
-//!   the fewest slots that allow one, of a schedule from its own capacity on, and of a chart from 1 on, among those
-//!   over which the chart itself can be. First comes what has to come with the receive, and then the rest, both in
-//!   the order of the schedule's run, or of that run of the chart's lines in which each goes on as long as it can.
-//! - With status 2 the same holds as above. A pair that needs more than 64 slots is refused with their number (F33).
+//! - With status 1 exactly the text of a schedule was written, which refuses no command and describes such a run. It
+//!   has the fewest slots that allow one, among those over which the chart itself is possible. For a schedule these
+//!   begin at its own capacity, and for a chart at 1. The events that have to come with the receive are first, and then
+//!   come the others. For a schedule both have the order of its run. For a chart they have the order of the run of its
+//!   lines in which each instance continues as long as it can.
+//! - With status 2 the same holds as above. A pair that needs more than 64 slots is refused, with their number (F33).
 #![tactic(auto)]
 
 mod answering;

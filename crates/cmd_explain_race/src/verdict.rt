@@ -1,21 +1,21 @@
-//! What a receive and an earlier event of its line are.
+//! Verdicts on a receive and an earlier event of its line.
 ghost use Rattle.std.specs.Prelude.{◌≡◌};
 ghost use Rattle.cmd_explain_race.specs.Verdicts.{code_of, verdict_in};
 
 use cmd_base::NotDone;
 
-/// What a receive and an earlier event of its line are.
+/// The verdict on a receive and an earlier event of its line.
 #[derive(Clone, Copy)]
 pub enum Verdict {
     /// The enforced order puts the event before the receive.
     Enforced,
-    /// It doesn't: a race that is reported.
+    /// The enforced order doesn't: the pair is a race that is reported.
     Race,
-    /// It doesn't, and both are in one coregion, so that no report has them.
+    /// The enforced order doesn't, but both are in one coregion. So no report has the pair.
     Hidden,
 }
 
-/// What was found for a pair of a file's chart.
+/// The result of `why` for a pair of a file's chart.
 #[derive(Clone, Copy)]
 pub struct Explained {
     pub verdict: Verdict,
@@ -23,16 +23,16 @@ pub struct Explained {
     pub not_done: Option<NotDone>,
 }
 
-/// What was found for a pair whose other order was looked for.
+/// The result of `witness` for a pair.
 #[derive(Clone, Copy)]
 pub struct Witnessed {
     pub verdict: Verdict,
-    /// Whether the schedule closes lanes, which no witness does.
+    /// Whether the schedule closes lanes. A witness never does.
     pub has_closes: bool,
 }
 
 impl Verdict {
-    /// The verdict on a pair that isn't enforced, by whether both are in one coregion.
+    /// The verdict on a pair that isn't enforced.
     pub(crate) fn of(in_one_coregion: bool) -> Verdict
         ensures { result ≡ verdict_in in_one_coregion }
     {

@@ -1,4 +1,4 @@
-//! What the program explains of the bytes of a file.
+//! Explanations of pairs in the bytes of a file.
 ghost use Rattle.cmd_base.specs.Answers.{Answers};
 ghost use Rattle.cmd_base.specs.Texts.{named_of};
 ghost use Rattle.cmd_explain_race.specs.Answers.{why_exit, why_file_exit};
@@ -12,7 +12,7 @@ use cmd_base::{Source, Text, answered};
 use std::alloc::Global;
 use texts::Out;
 
-/// Explains two events of what the file says, and answers which commands of its schedule did nothing.
+/// Explains two events of a file's chart, and returns the verdict with the commands of the schedule that did nothing.
 fn why_text<W: Out>(
     alloc: Global,
     bytes: &[u8],
@@ -30,8 +30,7 @@ fn why_text<W: Out>(
     })
 }
 
-/// Explains two events of a chart that was read: the same as [`why`] does with the bytes of the file that it comes
-/// from.
+/// Explains two events of a chart that was read, as [`why`] does for the bytes of the chart's file.
 pub fn why_of_source<W: Out, V: Out>(
     alloc: Global,
     source: &Source<'_>,
@@ -48,11 +47,12 @@ pub fn why_of_source<W: Out, V: Out>(
     )
 }
 
-/// Explains two events of the chart that the bytes of a file say, or of what the schedule comes to that they say:
-/// writes to `out` the chain that enforces the pair, or what has to come before the receive and how its line may be.
-/// Writes the line of a refusal to `err`, or that a coregion hides the pair, and of a schedule how many of its commands
-/// did nothing. Answers the exit status: 0 where the pair is enforced, 1 where it isn't, 2 after a refusal. Nothing is
-/// written to `out` before a refusal, but where writing to it failed (F24). A failed write to `err` changes nothing.
+/// Explains two events of the chart in the bytes of a file, or of the chart of the schedule in them. Writes to `out`
+/// the chain that enforces the pair. If the pair isn't enforced, writes the events that have to come before the
+/// receive, and how its line may be. Writes to `err` the line of a refusal, or that a coregion hides the pair, and how
+/// many commands of a schedule did nothing. Returns the exit status: 0 if the pair is enforced, 1 if it isn't, and 2
+/// after a refusal. Nothing is written to `out` before a refusal, unless a write to it fails (F24). A failed write to
+/// `err` changes nothing.
 pub fn why<W: Out, V: Out>(
     alloc: Global,
     bytes: &[u8],

@@ -25,7 +25,7 @@ fn write_shown<W: Out>(shown: &Shown, out: &mut W) -> Result<(), ViewError>
     }
 }
 
-/// Writes a witness for two events of a file's chart, and answers what they are, with whether closes are left out.
+/// Writes a witness for two events of a file's chart. Returns the verdict, and whether closes were left out.
 fn witness_of<W: Out>(
     alloc: Global,
     source: &Source<'_>,
@@ -41,8 +41,7 @@ fn witness_of<W: Out>(
     Ok(witnessed)
 }
 
-/// Writes a witness for two events of a chart that was read: the same as [`witness`] does with the bytes of the file
-/// that it comes from.
+/// Writes a witness for two events of a chart that was read, as [`witness`] does for the bytes of the chart's file.
 pub fn witness_of_source<W: Out, V: Out>(
     alloc: Global,
     source: &Source<'_>,
@@ -56,7 +55,7 @@ pub fn witness_of_source<W: Out, V: Out>(
     answered(&witness_of(alloc, source, asked, out), err)
 }
 
-/// Writes a witness for two events of what the file says.
+/// Writes a witness for two events of a file's chart.
 fn witness_text<W: Out>(
     alloc: Global,
     bytes: &[u8],
@@ -70,11 +69,11 @@ fn witness_text<W: Out>(
     witness_of(alloc, &source, asked, out)
 }
 
-/// Writes the schedule of a run that turns two events round, of the chart that the bytes of a file say, or of what
-/// the schedule comes to that they say. Writes the line of a refusal to `err`, or what else there is to tell: that
-/// the pair is enforced, that closes are left out, that a coregion hides the pair. Answers the exit status: 0 where
-/// the pair is enforced, 1 where a schedule was written, 2 after a refusal. Nothing is written to `out` before a
-/// refusal, but where writing to it failed (F24). A failed write to `err` changes nothing.
+/// Writes the schedule of a run that reverses two events of the chart in the bytes of a file. If the bytes have a
+/// schedule, the chart is the schedule's. Writes to `err` the line of a refusal, or that the pair is enforced, that
+/// closes were left out, or that a coregion hides the pair. Returns the exit status: 0 if the pair is enforced, 1 if a
+/// schedule was written, and 2 after a refusal. Nothing is written to `out` before a refusal, unless a write to it
+/// fails (F24). A failed write to `err` changes nothing.
 pub fn witness<W: Out, V: Out>(
     alloc: Global,
     bytes: &[u8],

@@ -1,4 +1,4 @@
--- What is answered to an import.
+-- The results of an import.
 use Rattle.std.specs.Prelude.{◌≡◌, ℕ, List, codes, length, Option, None, Some, Result, Ok, Err}
 use Rattle.chart.specs.Charts.{chart_lines, IsPossible}
 use Rattle.diagram_import.specs.Importing.{OptionsView, imported}
@@ -20,28 +20,28 @@ use Rattle.cmd_import_diagram.specs.declared.importing.Diagnostics.{Diagnostics}
 use Rattle.cmd_import_diagram.specs.declared.importing.ImportWriteError.{ImportWriteError}
 use Rattle.cmd_import_diagram.specs.declared.importing.ImportWriteError.TheVariants.{Diagram, Write}
 
--- the chart that is read of the bytes, which is possible
+-- the chart of the bytes, which is possible
 abbrev pub IsChartOf : JoinedChart → Option Tool → List ℕ → OptionsView → Type 0
 IsChartOf built tool bytes options =
     (imported tool bytes options ≡ Ok (joined_chart_view built)) × IsPossible (length built.built.chart) (chart_lines built.built.chart)
 
--- this is told of the chart: what is left out, in its order, the messages that overtake, and the names
+-- the warnings are those about the chart: the skipped constructs, in order, the overtaking messages, and the names
 abbrev pub AreDiagnosticsOf : Diagnostics → JoinedChart → Type 0
 AreDiagnosticsOf diagnostics built = (diagnostics.left_out.items ≡ in_order built.built.left_out.items) × (diagnostics.overtaking ≡ built.overtaking) × (diagnostics.renamed ≡ built.built.renamed)
 
--- the names and the chart are those that are read of the bytes, and what is told is told of it
+-- the names and the chart are those of the bytes, and the warnings are those about the chart
 abbrev pub IsDrawingOf : Drawing → Option Tool → List ℕ → OptionsView → Type 0
 IsDrawingOf drawing tool bytes options = (built : JoinedChart) × IsChartOf built tool bytes options
     × AreDiagnosticsOf drawing.diagnostics built × (drawing.names ≡ built.built.names) × (drawing.chart ≡ built.built.chart)
 
--- the chart is read of the bytes, or they are refused, or memory ran out
+-- the result is the chart of the bytes, or the bytes are refused, or memory ran out
 abbrev pub ReadsDrawing : Result Drawing ImportError → Option Tool → List ℕ → OptionsView → Type 0
 ReadsDrawing (Ok drawing) tool bytes options = IsDrawingOf drawing tool bytes options
 ReadsDrawing (Err error) tool bytes options = Fails error (imported tool bytes options)
 
 module _ {S : Type 0} (sink : S → Sink) where
-  -- the text of the chart was written that is read of the bytes; or a beginning of it, where a put failed; or nothing,
-  -- where the bytes are refused or memory ran out
+  -- the text of the bytes' chart was written; or a beginning of it, if a put failed; or nothing, if the bytes are
+  -- refused or memory ran out
   abbrev pub Imports : S → S → Result Diagnostics ImportWriteError → Option Tool → List ℕ → OptionsView → Type 0
   Imports old new (Ok diagnostics) tool bytes options = (built : JoinedChart) × IsChartOf built tool bytes options
       × AreDiagnosticsOf diagnostics built × Puts sink old new (chart_text built.built.names built.built.chart)
@@ -49,15 +49,15 @@ module _ {S : Type 0} (sink : S → Sink) where
   Imports old new (Err Write) tool bytes options = (built : JoinedChart) × IsChartOf built tool bytes options
       × Breaks sink old new (chart_text built.built.names built.built.chart)
 
--- what is told of a chart that was written
+-- the exit after a chart was written, with its warnings
 abbrev pub diagnostics_exit : Diagnostics → Exit
 diagnostics_exit diagnostics = record { status = 0; diagnostics = Some (diagnostics_text diagnostics.left_out.items diagnostics.overtaking.items diagnostics.renamed.items) }
 
--- what is said of a refusal
+-- the exit after a refusal
 abbrev pub import_write_error_exit : ImportWriteError → Exit
 import_write_error_exit Write = refusal (labelled_text (codes "F24 Write") None)
 import_write_error_exit (Diagram error) = refusal (drawing_refusal_text error)
 
--- what is said of an import
+-- the exit after an import
 abbrev pub imported_exit : Result Diagnostics ImportWriteError → Exit
 imported_exit = exit_of diagnostics_exit import_write_error_exit

@@ -1,9 +1,9 @@
--- What kinds of things are called that are left out of a diagram (this project's words).
+-- The words for the kinds of skipped constructs of a diagram (this project's words).
 use Rattle.std.specs.Prelude.{ℕ, List, codes}
 use Rattle.diagrams.specs.declared.left_out.Kind.{Kind}
 use Rattle.diagrams.specs.declared.left_out.Kind.TheVariants as kinds
 
--- one of its kind
+-- the words for one construct of a kind
 unfoldable pub kind_word : Kind → List ℕ
 kind_word kinds.ArrowBothWays = codes "arrow both ways"
 kind_word kinds.ArrowAtTheEdge = codes "arrow from or to the edge"
@@ -24,7 +24,7 @@ kind_word kinds.Preprocessor = codes "pre-processor line"
 kind_word kinds.Reference = codes "reference"
 kind_word kinds.Return = codes "return"
 
--- several of its kind
+-- the words for several constructs of a kind
 unfoldable pub kind_words : Kind → List ℕ
 kind_words kinds.ArrowBothWays = codes "arrows both ways"
 kind_words kinds.ArrowAtTheEdge = codes "arrows from or to the edge"
@@ -45,7 +45,7 @@ kind_words kinds.Preprocessor = codes "pre-processor lines"
 kind_words kinds.Reference = codes "references"
 kind_words kinds.Return = codes "returns"
 
--- what is read of those that have more than one run: of a frame one
+-- the way in which constructs with more than one run are read: one run of a frame
 unfoldable pub kind_reading : Kind → List ℕ
 kind_reading kinds.Frame = codes ": one run is read, of par each branch in turn, of others the first branch, once"
 kind_reading _ = codes ""

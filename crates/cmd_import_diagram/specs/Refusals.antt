@@ -7,7 +7,7 @@ use Rattle.cmd_base.specs.Refusals.{labelled_text}
 use Rattle.diagram_join.specs.declared.error.JoinError.{JoinError}
 use Rattle.diagram_join.specs.declared.error.JoinError.TheVariants as charts
 
--- the line of F35: where it is, and the words there
+-- the line of F35: its place, and the words there
 unfoldable pub not_read_text : Place → List ℕ → List ℕ
 not_read_text place words =
     codes "refused: F35 NotRead " ++ (decimal place.line ++ (codes " " ++ (decimal place.column ++ (codes " " ++ (words ++ codes "\n")))))

@@ -1,4 +1,4 @@
-//! What is told of a chart beside its text.
+//! The warnings about a chart.
 ghost use Rattle.std.specs.Prelude.{◌≡◌};
 ghost use Rattle.std.specs.List.{flat_map};
 ghost use Rattle.texts.specs.Writing.{Wrote, Adds};
@@ -14,7 +14,7 @@ use diagrams::LeftOut;
 use texts::pieces::{Piece, add_pieces};
 use texts::{Out, TextBuffer, WriteError};
 
-/// Adds that one such thing is left out, with its line, and what is read of it.
+/// Adds the warning about one skipped construct, with its line and the way in which it is read.
 #[tactic(auto, unfolding(crate::specs::Diagnostics::one_line))]
 fn add_one<'x, V: Out>(
     text: &mut TextBuffer<'_, V>,
@@ -37,7 +37,7 @@ fn add_one<'x, V: Out>(
     )
 }
 
-/// Adds that so many are, with the line of the first.
+/// Adds the warning about several of them, with the line of the first.
 #[tactic(auto, unfolding(crate::specs::Diagnostics::several_line))]
 fn add_several<'x, V: Out>(
     text: &mut TextBuffer<'_, V>,
@@ -62,7 +62,7 @@ fn add_several<'x, V: Out>(
     )
 }
 
-/// Adds what is left out of a kind. F24: a put failed.
+/// Adds the warning about the skipped constructs of a kind. F24: a put failed.
 pub fn add_left_out<V: Out>(
     text: &mut TextBuffer<'_, V>,
     left_out: &LeftOut,
@@ -91,7 +91,7 @@ fn add_all_left_out<V: Out>(
     Ok(())
 }
 
-/// Adds a message that overtakes another one. F24: a put failed.
+/// Adds the warning about a message that overtakes another one. F24: a put failed.
 #[tactic(auto, unfolding(crate::specs::Diagnostics::overtaking_line))]
 pub fn add_overtaking<V: Out>(
     text: &mut TextBuffer<'_, V>,
@@ -137,7 +137,7 @@ fn add_diagnostics<V: Out>(
     add_all_renamed(text, renamed)
 }
 
-/// Writes what is told of a chart.
+/// Writes the warnings about a chart.
 #[tactic(auto, using(texts::proofs::Writes::joining))]
 pub(crate) fn write_diagnostics<V: Out>(
     left_out: &[LeftOut],

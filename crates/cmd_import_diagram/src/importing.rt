@@ -1,4 +1,4 @@
-//! What `mscview import` does with the bytes of a file.
+//! The import of the bytes of a file by `mscview import`.
 ghost use Rattle.std.specs.Prelude.{◌≡◌, length, IfOk};
 ghost use Rattle.texts.specs.Writing.{Wrote, Adds};
 ghost use Rattle.cmd_base.specs.Answers.{Answers};
@@ -21,8 +21,8 @@ use std::alloc::Global;
 use texts::pieces::{Piece, add_pieces};
 use texts::{Out, TextBuffer, WriteError};
 
-/// What is told of a chart beside its text: what is left out of its diagram, in the order of the first places, the
-/// messages that overtake another one, and each name that isn't its label's words.
+/// The warnings about a chart. They are the skipped constructs of its diagram, in the order of their first places, the
+/// messages that overtake another one, and each name that differs from its label.
 #[derive(Debug, Drop)]
 pub struct Diagnostics {
     left_out: Vec<LeftOut>,
@@ -30,7 +30,7 @@ pub struct Diagnostics {
     renamed: Vec<Renamed>,
 }
 
-/// The chart that a tool's text says.
+/// The chart of a tool's text, with its warnings.
 #[derive(Debug, Drop)]
 pub struct Drawing {
     /// A name for each line of the chart.
@@ -48,8 +48,8 @@ pub enum ImportWriteError {
     Write,
 }
 
-/// The chart that a tool's text says, of the tool that is named or that the text tells. It is possible. Refusals are
-/// those of [`import_text`].
+/// The chart of a tool's text. The tool is the named one, or otherwise the detected one. The chart is possible.
+/// Refusals are those of [`import_text`].
 pub fn drawing_in(
     alloc: Global,
     tool: Option<Tool>,
@@ -133,7 +133,7 @@ fn write_not_read<V: Out>(place: Place, words: &[u8], err: &mut V) -> Result<(),
     text.finish()
 }
 
-/// Prints the line of F35, and answers the exit status.
+/// Prints the line of F35, and returns the exit status.
 fn refused_words<V: Out>(place: Place, words: &[u8], err: &mut V) -> u8
     ensures status { result ≡ 2 }
     ensures line { Tried V.sink err.old err.new (not_read_text place words.now) }
@@ -142,7 +142,7 @@ fn refused_words<V: Out>(place: Place, words: &[u8], err: &mut V) -> u8
     2
 }
 
-/// Prints the line of a refusal of a diagram without a chart, and answers the exit status.
+/// Prints the line of a refusal of a diagram without a chart, and returns the exit status.
 fn refused_chart<V: Out>(error: JoinError, err: &mut V) -> u8
     ensures status { result ≡ 2 }
     ensures line { Tried V.sink err.old err.new (chart_refusal_text error) }
@@ -157,8 +157,8 @@ fn refused_chart<V: Out>(error: JoinError, err: &mut V) -> u8
     }
 }
 
-/// Prints the line of a refusal of a tool's text, and answers the exit status, which is 2 whether or not the line could
-/// be written.
+/// Prints the line of a refusal of a tool's text. Returns the exit status, which is 2 whether or not the line could be
+/// written.
 pub fn refused_drawing<V: Out>(error: &ImportError, err: &mut V) -> u8
     ensures status { result ≡ 2 }
     ensures line { Tried V.sink err.old err.new (drawing_refusal_text error.now) }
@@ -175,7 +175,7 @@ pub fn refused_drawing<V: Out>(error: &ImportError, err: &mut V) -> u8
     }
 }
 
-/// What is left out, and each name that isn't its label's words, with status 0.
+/// The warnings about a chart, with status 0.
 impl Answer for Diagnostics {
     ghost exit = { diagnostics_exit };
 
@@ -204,11 +204,12 @@ impl Answer for ImportWriteError {
     }
 }
 
-/// Writes the text of the chart that a tool's text says, of the tool that is named or that the text tells. What is left
-/// out is told on `err`, a line for each kind and for each message that overtakes another one, and then each name that
-/// isn't its label's words. Writes the line of a refusal to `err`. Answers the exit status: 0 where it was written, 2
-/// after a refusal. Nothing is written to `out` before a refusal, but where writing to it failed (F24). A failed write
-/// to `err` changes nothing.
+/// Writes the text of the chart of a tool's text. The tool is the named one, or otherwise the detected one. Warnings
+/// are written to `err`: a line for each kind of skipped constructs, for each message that overtakes another one, and
+/// then for each name that differs from its label. The line of a refusal is written to `err` too.
+///
+/// Returns the exit status: 0 if the chart was written, or 2 after a refusal. Nothing is written to `out` before a
+/// refusal, unless writing to it failed (F24). A failed write to `err` changes nothing.
 pub fn import<W: Out, V: Out>(
     alloc: Global,
     tool: Option<Tool>,

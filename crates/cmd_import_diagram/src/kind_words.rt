@@ -1,10 +1,10 @@
-//! What kinds of things are called that are left out.
+//! The words for the kinds of skipped constructs.
 ghost use Rattle.std.specs.Prelude.{◌≡◌};
 ghost use Rattle.cmd_import_diagram.specs.KindWords.{kind_word, kind_words, kind_reading};
 
 use diagrams::Kind;
 
-/// One of its kind.
+/// The words for one construct of a kind.
 #[tactic(auto, unfolding(crate::specs::KindWords::kind_word))]
 pub(crate) fn kind_word(kind: Kind) -> &'static [u8]
     ensures { result.now ≡ kind_word kind }
@@ -31,7 +31,7 @@ pub(crate) fn kind_word(kind: Kind) -> &'static [u8]
     }
 }
 
-/// Several of its kind.
+/// The words for several constructs of a kind.
 #[tactic(auto, unfolding(crate::specs::KindWords::kind_words))]
 pub(crate) fn kind_words(kind: Kind) -> &'static [u8]
     ensures { result.now ≡ kind_words kind }
@@ -58,7 +58,7 @@ pub(crate) fn kind_words(kind: Kind) -> &'static [u8]
     }
 }
 
-/// What is read of it, where it has more than one run.
+/// The way in which a construct with more than one run is read.
 #[tactic(auto, unfolding(crate::specs::KindWords::kind_reading))]
 pub(crate) fn kind_reading(kind: Kind) -> &'static [u8]
     ensures { result.now ≡ kind_reading kind }

@@ -1,9 +1,12 @@
-//! What `mscview import` answers to the bytes of a diagram.
+//! The command `mscview import` for the bytes of a diagram: its chart, its warnings and its refusals.
 //!
-//! What is promised ([`import`]): with status 0 exactly the text of the chart was written that the diagram comes
-//! to, a possible one, and standard error tells what is left out of it, in the order of the first places, and each
-//! name that isn't its label's words. With status 2 the refusal's line was written, or a beginning of it where
-//! standard error failed, and nothing went to the output before it, unless a write failed (F24).
+//! What is promised of [`import`]:
+//!
+//! - With status 0 exactly the text of the diagram's chart was written, and the chart is possible. Standard error has
+//!   the warnings: the skipped constructs, in the order of their first places, the overtaking messages, and each name
+//!   that differs from its label.
+//! - With status 2 the refusal's line was written, or a beginning of it if standard error failed. Nothing was written
+//!   to the output before that, unless a write failed (F24).
 #![tactic(auto)]
 
 mod diagnostics;

@@ -1,11 +1,11 @@
-//! The order in which is told what is left out.
+//! The order of the skipped constructs in the warnings.
 ghost use Rattle.std.specs.Prelude.{◌≡◌, IfOk};
 ghost use Rattle.cmd_import_diagram.specs.Order.{put_in, in_order};
 
 use diagrams::LeftOut;
 use std::alloc::{AllocError, Global};
 
-/// One kind, put in before those of later places.
+/// Inserts a kind before those of later places.
 fn put_in(alloc: Global, kind: &LeftOut, ordered: &[LeftOut]) -> Result<Vec<LeftOut>, AllocError>
     ensures { IfOk result (λ more. more.items ≡ put_in kind.now ordered.now) }
 {
@@ -24,7 +24,7 @@ fn put_in(alloc: Global, kind: &LeftOut, ordered: &[LeftOut]) -> Result<Vec<Left
     Ok(more)
 }
 
-/// All kinds in the order of their first places. F6: a growth was refused.
+/// All kinds, sorted by their first places. F6: a growth was refused.
 #[tactic(auto, unfolding(crate::specs::Order::in_order))]
 pub fn in_order(alloc: Global, left_out: &[LeftOut]) -> Result<Vec<LeftOut>, AllocError>
     ensures { IfOk result (λ ordered. ordered.items ≡ in_order left_out.now) }

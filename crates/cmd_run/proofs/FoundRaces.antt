@@ -1,4 +1,4 @@
--- Races that are written while they are found: what was added so far, and one receive more.
+-- Races that are written while they are found: those so far, and one more receive.
 use Rattle.std.proofs.Common.{◌≡◌, ℕ, zero, suc, ◌==◌, not, All, ap, arith, lt-ltb, List, [], ◌∷◌, ◌++◌, length, Option, Result, Ok, Err, Bool, true, false, ◌||◌, nat_lt, refl, subst, sym, ap₂, ◌∙◌}
 use Rattle.std.proofs.lemmas.Bool.{eqb-true, false_from_ne_true}
 use Rattle.chart.specs.declared.ranges.EventRange.{EventRange}
@@ -17,7 +17,7 @@ use Rattle.texts.specs.Writing.{Buffers, Breaks, Stops, Adds, Wrote}
 use Rattle.texts.specs.declared.text_buffer.TextBuffer.{TextBuffer}
 use Rattle.texts.proofs.Writes.{buffers_then, stops_then, stops_early, adds_early, wrote_then}
 
--- an error says nothing of a value
+-- an error promises nothing about a value
 pub vacuous : {T E : Type 0} (P : T → Type 0) (r : Result T E) → is_err r ≡ true → IfOk r P
 vacuous P (Ok x) failed = cc
 vacuous P (Err e) failed = tt
@@ -39,17 +39,17 @@ not_none : (n : ℕ) → not (n == 0) ≡ nat_lt 0 n
 not_none zero = refl
 not_none (suc n) = ap not (false_from_ne_true (suc n == 0) (λ none. let same : suc n ≡ 0 = eqb-true (suc n) 0 none in absurd (omega (arith, same)))) ∙ sym (lt-ltb 0 (suc n) (omega arith))
 
--- where there is a range there is an event
+-- if there is a range, there is an event
 pub has_events_is : (ranges : List EventRange) → All IsRange ranges → not (length ranges == 0) ≡ nat_lt 0 (length (events_in ranges))
 has_events_is ranges each = ap not (none_of ranges each) ∙ not_none (length (events_in ranges))
 
 module _ {S : Type 0} {sink : S → Sink} (names : List (List ℕ)) where
-  -- the lines of one receive more were added
+  -- the lines of one more receive were added
   pub adds_one : {a b c : TextBuffer S} (reports : List ReportView) (report : ReportView) → Buffers sink a b (races_text names reports) → Buffers sink b c (report_text names report)
       → Buffers sink a c (races_text names (reports ++ report ∷ []))
   adds_one {a} {b} {c} reports report p q = subst (Buffers sink a c) (one_more_text names reports report) (buffers_then p q)
 
-  -- where they stop, all the text stops, whatever comes later
+  -- if these lines stop, the whole text stops, whatever comes later
   pub stops_at_one : {T E : Type 0} {a b c : TextBuffer S} (r : Result T E) (reports : List ReportView) (report : ReportView) (more : List ReportView) → is_err r ≡ true → Buffers sink a b (races_text names reports)
       → Stops sink b c (report_text names report) → Adds sink a c r (races_text names ((reports ++ report ∷ []) ++ more))
   stops_at_one {a = a} {b} {c} r reports report more failed p q =
@@ -57,7 +57,7 @@ module _ {S : Type 0} {sink : S → Sink} (names : List (List ℕ)) where
       subst (Adds sink a c r) (sym (flat_map-append (report_text names) (reports ++ report ∷ []) more)) (adds_early r (races_text names more) failed stopped)
 
 module _ {S : Type 0} {sink : S → Sink} where
-  -- where the end of a text can't be put, the text is written as far as that
+  -- if the end of a text can't be put, the text is written up to there
   pub wrote_failed : {T E : Type 0} {a b : TextBuffer S} {s : List ℕ} (start c : S) (r : Result T E) → is_err r ≡ true → a.out.now ≡ start → a.held ≡ [] → Buffers sink a b s → Breaks sink b.out.now c b.held → Wrote sink start c r s
   wrote_failed start c (Ok x) failed begun none p q = cc
   wrote_failed {T} {E} start c (Err e) failed begun none p q = wrote_then {T = T} {E = E} start c (Err e) begun none p q

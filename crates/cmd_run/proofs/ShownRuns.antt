@@ -1,4 +1,4 @@
--- What is written of a run of a schedule's own scripts.
+-- The output for a run of a schedule's own scripts.
 use Rattle.std.proofs.Common.{◌≡◌, ℕ, List, Option, Result, Ok, Err}
 use Rattle.instances.specs.declared.outcome.Run.{Run}
 use Rattle.texts.specs.Outs.{Sink}

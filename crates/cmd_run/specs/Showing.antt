@@ -1,4 +1,4 @@
--- What the program shows of a run of a schedule on threads.
+-- The output of the program for a run of a schedule on threads.
 use Rattle.std.specs.Prelude.{◌≡◌, ℕ, List, None, Result, Ok, Err}
 use Rattle.instances.specs.declared.outcome.Run.{Run}
 use Rattle.instances.specs.declared.outcome.RunError.{RunError}
@@ -21,8 +21,8 @@ use Rattle.cmd_run.specs.declared.showing.RunShowError.TheVariants.{Program, Inv
 use Rattle.cmd_run.specs.Tasks.{status_of}
 
 module _ {S : Type 0} (sink : S → Sink) where
-  -- the text of what the run comes to was written; or a beginning of it, where a put failed; or nothing, where memory
-  -- ran out, as it did where the run lacked memory
+  -- the text of the run's outcome was written; or a beginning of it, if a put failed; or nothing, if memory ran out,
+  -- here or in the run
   abbrev pub Shows : Plan → Run → S → S → Result Status ProgramError → Type 0
   Shows plan run old new (Ok status) = (o : RunView) × IsRunOutcome plan run o
       × (status ≡ status_of o.outcome.reports) × Puts sink old new (run_text o)
@@ -31,8 +31,9 @@ module _ {S : Type 0} (sink : S → Sink) where
       × Breaks sink old new (run_text o)
   Shows plan run old new (Err _) = ⊥
 
-  -- What is written of a run that a schedule's own scripts came to, each instance doing its own commands in their order;
-  -- or nothing, where the text says no schedule, where no run has so many turns, or where memory ran out.
+  -- The outcome of a run of the schedule's own scripts was written, in which each instance executes its own commands in
+  -- their order. Nothing was written if the text is no schedule, if no run may have this number of turns, or if memory
+  -- ran out.
   abbrev pub RunsScripts : ℕ → S → S → Result Status ProgramError → Result Plan Fault → Type 0
   RunsScripts turns old new (Ok status) reading = (plan : Plan) × (run : Run) × (reading ≡ Ok plan)
       × AreScriptRuns plan turns run × Shows plan run old new (Ok status)
@@ -43,12 +44,12 @@ module _ {S : Type 0} (sink : S → Sink) where
       × AreScriptRuns plan turns run × Shows plan run old new (Err errors.Write)
   RunsScripts turns old new (Err _) reading = ⊥
 
-  -- what is done with the bytes of a schedule whose instances run on threads
+  -- the output for the bytes of a schedule whose instances run on threads
   abbrev pub DoesOnThreads : S → S → ℕ → List ℕ → Result Status ProgramError → Type 0
   DoesOnThreads old new turns bytes done = RunsScripts turns old new done (schedule_of bytes)
 
-  -- What is written of a run. Of one that memory kept from being made, and of one that had no fit posts, behaviours or
-  -- turns, nothing is.
+  -- The outcome of a run was written. Nothing was written for a run that wasn't made, because memory ran out, or
+  -- because the posts, behaviours or turns didn't fit.
   abbrev pub ShowsRun : {P B : Type 0} → S → S → Plan → Result Run (RunError P B) → Result Status RunShowError → Type 0
   ShowsRun old new plan (Ok run) (Ok status) = Shows plan run old new (Ok status)
   ShowsRun old new plan (Ok run) (Err (Program error)) = Shows plan run old new (Err error)
@@ -56,7 +57,7 @@ module _ {S : Type 0} (sink : S → Sink) where
   ShowsRun old new plan (Err (causes.InvalidInput posts behaviours)) (Err InvalidInput) = new ≡ old
   ShowsRun old new plan ran shown = ⊥
 
--- what is said of a run that isn't shown: F25 is never printed
+-- the exit after a run that isn't shown: F25 is never printed
 abbrev pub run_show_error_exit : RunShowError → Exit
 run_show_error_exit (Program error) = program_exit error
 run_show_error_exit InvalidInput = record { status = 2; diagnostics = None }

@@ -1,4 +1,4 @@
--- What the program does with the bytes of a file.
+-- The tasks of the program with the bytes of a file.
 use Rattle.std.specs.Prelude.{◌≡◌, ℕ, List, length, Result, Ok, Err}
 use Rattle.chart.specs.Charts.{chart_lines, IsPossible}
 use Rattle.chart.specs.Reports.{ReportView, AreReports, has_races}
@@ -21,18 +21,18 @@ use Rattle.cmd_run.specs.declared.task.Task.TheVariants.{Replay, Random, Check}
 use Rattle.cmd_base.specs.Answers.{Exit, program_exit, exit_of}
 use Rattle.cmd_base.specs.Statuses.{status_in, status_exit}
 
--- what a task comes to by these reports
+-- the status of a task with these reports
 abbrev pub status_of : List ReportView → Status
 status_of reports = status_in (has_races reports)
 
--- what a seed makes of what a text says
+-- the schedule of a text in the order that the seed draws, or the fault of the text
 abbrev pub drawn_by : ℕ → Result Plan Fault → Result Plan Fault
 drawn_by seed (Ok plan) = Ok (drawn_of plan seed)
 drawn_by seed (Err fault) = Err fault
 
 module _ {S : Type 0} (sink : S → Sink) where
-  -- the text of what the schedule comes to was written; or a beginning of it, where a put failed; or nothing, where the
-  -- text says no schedule, or where memory ran out
+  -- the text of the schedule's outcome was written; or a beginning of it, if a put failed; or nothing, if the text is
+  -- no schedule, or if memory ran out
   abbrev pub Replays : S → S → Result Status ProgramError → Result Plan Fault → Type 0
   Replays old new (Ok status) reading = (plan : Plan) × (o : OutcomeView) × (reading ≡ Ok plan) × IsOutcome plan o
       × (status ≡ status_of o.reports) × Puts sink old new (outcome_text o)
@@ -42,8 +42,8 @@ module _ {S : Type 0} (sink : S → Sink) where
       × Breaks sink old new (outcome_text o)
   Replays old new (Err _) reading = ⊥
 
-  -- the races of the chart were written, which is possible; or a beginning of them, where a put failed; or nothing,
-  -- where the text says no chart, or one that is not possible, or where memory ran out
+  -- the races of the chart were written, which is possible; or a beginning of them, if a put failed; or nothing, if the
+  -- text is no chart, or one that isn't possible, or if memory ran out
   abbrev pub Checks : S → S → Result Status ProgramError → Result Named Fault → Type 0
   Checks old new (Ok status) reading = (named : Named) × (reports : List ReportView) × (reading ≡ Ok named)
       × IsPossible (length named.1) (chart_lines named.1) × AreReports named.1 reports × (status ≡ status_of reports)
@@ -55,7 +55,7 @@ module _ {S : Type 0} (sink : S → Sink) where
       × Breaks sink old new (races_text named.0 reports)
   Checks old new (Err error) reading = (named : Named) × (reading ≡ Ok named) × IsRefused error named × (new ≡ old)
 
-  -- what the task does with the bytes
+  -- the output of the task for the bytes
   abbrev pub Does : S → S → Task → List ℕ → Result Status ProgramError → Type 0
   Does old new Replay bytes done = Replays old new done (schedule_of bytes)
   Does old new (Random seed) bytes done = Replays old new done (drawn_by seed (schedule_of bytes))

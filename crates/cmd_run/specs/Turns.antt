@@ -1,4 +1,4 @@
--- Counts of turns, as a word of a command line says them (this project's profile).
+-- Numbers of turns in words of a command line (this project's profile).
 use Rattle.std.specs.Prelude.{ℕ, ◌≤◌, List}
 use Rattle.cmd_base.specs.Numbers.{IsNumber, number_of}
 use Rattle.instances.specs.declared.threads.TheConstants.{MAX_TURNS}

@@ -1,4 +1,4 @@
-//! Checks charts: whether they are possible, and their races.
+//! Checks of charts: whether they are possible, and their races.
 ghost use Rattle.std.specs.Prelude.{◌≡◌, ◌||◌, [], length, nat_lt, All};
 ghost use Rattle.chart.specs.Ranges.{IsRange, events_in};
 ghost use Rattle.closure.specs.Reported.{HaveReported};
@@ -27,7 +27,7 @@ fn either(first: bool, second: bool) -> bool
     first || second
 }
 
-/// Adds the line of each race as it is found, and answers whether there is one. It takes no memory.
+/// Adds the line of each race as it is found, and returns whether there is one. It takes no memory.
 fn add_found<W: Out>(
     text: &mut TextBuffer<'_, W>,
     names: &Names,
@@ -48,7 +48,7 @@ fn add_found<W: Out>(
     Ok(has_races)
 }
 
-/// Writes the line of each race as it is found, and answers whether there is one.
+/// Writes the line of each race as it is found, and returns whether there is one.
 #[tactic(auto, using(texts::proofs::Writes::joining, crate::proofs::FoundRaces::wrote_failed, crate::proofs::FoundRaces::vacuous))]
 fn write<W: Out>(names: &Names, reporter: Reporter<'_>, out: &mut W) -> Result<bool, WriteError>
     requires reporter { HaveReported reporter.lines reporter.line reporter.place [] }
@@ -61,7 +61,7 @@ fn write<W: Out>(names: &Names, reporter: Reporter<'_>, out: &mut W) -> Result<b
     Ok(has_races)
 }
 
-/// Checks the chart that the text says: writes its races, and answers whether it has some.
+/// Checks the chart of the text: writes its races, and returns whether there are any.
 ///
 /// All memory is taken before the first race is written.
 pub fn check<W: Out>(alloc: Global, text: &[u8], out: &mut W) -> Result<Status, ProgramError>

@@ -1,14 +1,14 @@
-//! What the program `mscrun` does with the bytes of a file, and what it says where it can't.
+//! The tasks of the program `mscrun` with the bytes of a file, and their refusals.
 //!
-//! What is promised ([`perform`]): the bytes of the file, the command and its seed decide the output's bytes.
+//! What is promised of [`perform`]: the bytes of the file, the task and its seed decide the output's bytes.
 //!
-//! - With status 0 or 1 exactly the text of what the schedule means was written, or exactly the races of the chart,
-//!   which is possible; 1 says that there are races.
-//! - With status 2 the refusal's line was written, or a beginning of it where standard error failed, and nothing went
-//!   to the output before it, unless a write failed (F24).
-//! - What is written of a schedule whose instances run on threads is what a run of its own scripts came to
-//!   ([`perform_on_threads`]): each instance does its own commands, in their order. Its parts are there too:
-//!   [`scripts`], [`run_schedule`] and [`show_run`], by which any run decides the output's bytes.
+//! - With status 0 or 1 exactly the text of the schedule's outcome was written, or exactly the races of the chart,
+//!   which is possible. Status 1 means that there are races.
+//! - With status 2 the refusal's line was written, or a beginning of it if standard error failed. Nothing was written
+//!   to the output before that, unless a write failed (F24).
+//! - If the instances of a schedule run on threads, the output is the outcome of a run of its own scripts
+//!   ([`perform_on_threads`]). Each instance executes its own commands, in their order. The parts of this are public
+//!   too: [`scripts`], [`run_schedule`] and [`show_run`], with which any run decides the output's bytes.
 //! - [`turns_in`] reads exactly the words of digits alone whose number is one of turns that a run may have.
 #![tactic(auto)]
 

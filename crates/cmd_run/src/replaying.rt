@@ -1,4 +1,4 @@
-//! Replays schedules, as their text says or in a drawn order.
+//! Replays of schedules, in the order of their text or in a drawn order.
 ghost use Rattle.std.specs.Prelude.{◌≡◌, Result, Ok};
 ghost use Rattle.schedule.specs.Plans.{Plan};
 ghost use Rattle.schedule.specs.Reading.{schedule_of};
@@ -14,7 +14,7 @@ use schedule_replay::replay;
 use std::alloc::Global;
 use texts::Out;
 
-/// The schedule in the order that the seed draws.
+/// The schedule of the text, in the order that the seed draws.
 fn drawn_in(alloc: Global, seed: u64, text: &[u8]) -> Result<Schedule, ProgramError>
     ensures { Reads result (drawn_by seed (schedule_of text.now)) }
 {
@@ -25,7 +25,7 @@ fn drawn_in(alloc: Global, seed: u64, text: &[u8]) -> Result<Schedule, ProgramEr
     }
 }
 
-/// Replays a schedule, writes what comes out, and answers whether it has races.
+/// Replays a schedule, writes its outcome, and returns whether it has races.
 fn replay_and_write<W: Out>(
     alloc: Global,
     schedule: &Schedule,
@@ -44,7 +44,7 @@ fn replay_and_write<W: Out>(
     }
 }
 
-/// Replays the schedule that the text says.
+/// Replays the schedule of the text.
 pub fn replay_text<W: Out>(alloc: Global, text: &[u8], out: &mut W) -> Result<Status, ProgramError>
     ensures { Replays W.sink out.old out.new result (schedule_of text.now) }
 {
@@ -52,7 +52,7 @@ pub fn replay_text<W: Out>(alloc: Global, text: &[u8], out: &mut W) -> Result<St
     replay_and_write(alloc, &schedule, out)
 }
 
-/// Replays it in the order that the seed draws.
+/// Replays the schedule of the text in the order that the seed draws.
 pub fn replay_drawn<W: Out>(
     alloc: Global,
     seed: u64,

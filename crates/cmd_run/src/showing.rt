@@ -1,4 +1,4 @@
-//! Shows runs of schedules on threads.
+//! The outcomes of runs of schedules on threads.
 ghost use Rattle.std.specs.Prelude.{IfOk};
 ghost use Rattle.schedule_threads.specs.RunOutcomes.{IsRunOf};
 ghost use Rattle.cmd_base.specs.Answers.{Answers};
@@ -13,7 +13,7 @@ use std::alloc::Global;
 use std::thread::Threads;
 use texts::Out;
 
-/// Writes what a run comes to, and answers whether it has races.
+/// Writes the outcome of a run, and returns whether it has races.
 fn write_run<W: Out>(
     alloc: Global,
     schedule: &Schedule,
@@ -32,11 +32,11 @@ fn write_run<W: Out>(
     }
 }
 
-/// Why nothing is shown of a run.
+/// Why no outcome of a run is shown.
 #[derive(Clone, Copy, Debug)]
 enum RunShowError {
     Program(ProgramError),
-    /// F25: there were no fit posts, behaviours or turns. It is never printed.
+    /// F25: the posts, behaviours or turns didn't fit. It is never printed.
     InvalidInput,
 }
 
@@ -55,7 +55,7 @@ impl Answer for RunShowError {
     }
 }
 
-/// Writes what a run comes to, if it was made.
+/// Writes the outcome of a run, if the run was made.
 fn write_ran<P: Drop, B: Drop, W: Out>(
     alloc: Global,
     schedule: &Schedule,
@@ -75,13 +75,12 @@ fn write_ran<P: Drop, B: Drop, W: Out>(
     }
 }
 
-/// Shows what the run of a schedule's scripts ([`crate::scripts`]) came to, whose first post, trace and end are those
-/// of instance 1, and so on: writes the chart, the races, the notes and who spent its turns to `out`, or the line of a
-/// refusal to `err`, and answers the exit status: 0, 1 where there are races, or 2 after a refusal.
+/// Shows the outcome of a run of a schedule's scripts ([`crate::scripts`]). The first post, trace and end of the run
+/// are those of instance 1, and so on. Writes the chart, the races, the notes and the instances that spent their turns
+/// to `out`, or the line of a refusal to `err`. Returns the exit status: 0, 1 if there are races, or 2 after a refusal.
 ///
-/// F6 refuses it where a growth was refused, also where an act of the run was answered so, or an end says so: then
-/// nothing of the run is shown. Handed F25, which is never printed, it prints nothing. A failed write to `err` changes
-/// nothing.
+/// F6: a growth was refused, here or in the run, as the answer to an act or as an end. Then nothing of the run is
+/// shown. F25 is never printed: for a run with it nothing is printed. A failed write to `err` changes nothing.
 pub fn show_run<P: Drop, B: Drop, W: Out, V: Out>(
     alloc: Global,
     schedule: &Schedule,
@@ -95,7 +94,7 @@ pub fn show_run<P: Drop, B: Drop, W: Out, V: Out>(
     answered(&write_ran(alloc, schedule, ran, out), err)
 }
 
-/// Runs the scripts of the schedule that the text says, and writes what they come to.
+/// Runs the scripts of the text's schedule, and writes the outcome.
 fn run_text<R: Threads + Sync, W: Out>(
     rt: &R,
     alloc: Global,
@@ -113,12 +112,12 @@ fn run_text<R: Threads + Sync, W: Out>(
     }
 }
 
-/// Lets each instance of the schedule that the bytes of a file say do its own commands, in their order, on a thread of
-/// its own, for so many turns at most. It writes what that came to to `out`, or the line of a refusal to `err`, and
-/// answers the exit status: 0, 1 where there are races, or 2 after a refusal.
+/// Runs each instance of a file's schedule on a thread of its own, for at most `turns` turns. It executes its own
+/// commands, in their order. Writes the outcome to `out`, or the line of a refusal to `err`. Returns the exit status:
+/// 0, 1 if there are races, or 2 after a refusal.
 ///
-/// G1: the turns are none or more than [`instances::MAX_TURNS`], and the text is a schedule. Nothing is written to
-/// `out` before a refusal, but where writing to it failed (F24). A failed write to `err` changes nothing.
+/// G1: `turns` is 0 or more than [`instances::MAX_TURNS`], and the text is a schedule. Nothing is written to `out`
+/// before a refusal, unless writing to it failed (F24). A failed write to `err` changes nothing.
 pub fn perform_on_threads<R: Threads + Sync, W: Out, V: Out>(
     rt: &R,
     alloc: Global,

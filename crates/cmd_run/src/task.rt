@@ -1,4 +1,4 @@
-//! What the program does with the bytes of a file.
+//! The tasks of the program with the bytes of a file.
 ghost use Rattle.cmd_base.specs.Answers.{Answers};
 ghost use Rattle.cmd_run.specs.Tasks.{Does, task_exit};
 
@@ -8,18 +8,18 @@ use cmd_base::{ProgramError, Status, answered};
 use std::alloc::Global;
 use texts::Out;
 
-/// What the program is asked to do with a file.
+/// A task of the program with a file.
 #[derive(Clone, Copy, Debug, PartialEq, Eq)]
 pub enum Task {
-    /// Replay the schedule that it is.
+    /// Replay the file's schedule.
     Replay,
-    /// Replay it in the order that the seed draws.
+    /// Replay the file's schedule in the order that the seed draws.
     Random { seed: u64 },
-    /// Check the chart that it is.
+    /// Check the file's chart.
     Check,
 }
 
-/// Does the task, and answers what it came to.
+/// Does the task, and returns its result.
 fn do_task<W: Out>(
     alloc: Global,
     task: &Task,
@@ -35,9 +35,9 @@ fn do_task<W: Out>(
     }
 }
 
-/// Does the task with the bytes of the file: writes its output to `out`, or the line of a refusal to `err`, and
-/// answers the exit status: 0, 1 where there are races, or 2 after a refusal. Nothing is written to `out` before a
-/// refusal, but where writing to it failed (F24). A failed write to `err` changes nothing.
+/// Does the task with the bytes of the file. Writes its output to `out`, or the line of a refusal to `err`. Returns the
+/// exit status: 0, 1 if there are races, or 2 after a refusal. Nothing is written to `out` before a refusal, unless
+/// writing to it failed (F24). A failed write to `err` changes nothing.
 pub fn perform<W: Out, V: Out>(
     alloc: Global,
     task: &Task,

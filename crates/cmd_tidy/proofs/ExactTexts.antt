@@ -1,4 +1,4 @@
--- Texts that are exact: each of their lines is, and a line feed ends it.
+-- Exact texts: each of their lines is exact, and a line feed ends it.
 use Rattle.std.proofs.Common.{◌≡◌, ℕ, List, [], ◌∷◌, ◌++◌, None, refl, sym, ap, ◌∙◌, append-nil, arith}
 use Rattle.std.specs.List.{join_with_byte, flat_map, AllByRecursion}
 use Rattle.std.proofs.Math.Seq.{take-length}
@@ -34,7 +34,7 @@ line_again word words h =
 
 -- ---- texts
 
--- A text that is left as it is, and whose last line has its line feed.
+-- A text that stays as it is, and whose last line has its line feed.
 pub record IsExact (text : List ℕ) : Type 0 where
   pub ends : end_of text ≡ []
   pub same : exact_text text ≡ text

@@ -1,4 +1,4 @@
--- Words of exact texts: no byte of theirs stands between words or begins a comment, and none is an arrow.
+-- Words of exact texts: none of their bytes separates words or begins a comment, and none of them is an arrow.
 use Rattle.std.proofs.Common.{◌≡◌, ℕ, ◌≤◌, ◌<◌, Bool, true, false, leb, eqb, codes, List, [], ◌∷◌, ◌++◌, length, filter, refl, ap, ◌∙◌, subst, bytes_eq, arith}
 use Rattle.std.specs.List.{slice_split, join_with_byte, list_all, AllByRecursion}
 use Rattle.std.proofs.lemmas.Bool.{and_parts, leb-true, ne_eqb}
@@ -14,7 +14,7 @@ use Rattle.texts.proofs.Results.{name_bytes, name_some}
 use Rattle.texts.specs.Bytes.Classes.{is_blank}
 use Rattle.cmd_tidy.specs.Typing.{send_word, receive_word, written_out}
 
--- each byte is a digit, or comes behind the digits
+-- each byte is a digit, or comes after the digits
 abbrev pub IsFirm : List ℕ → Type 0
 IsFirm word = AllByRecursion (λ b. 48 ≤ b) word
 
@@ -25,7 +25,7 @@ IsFirmWord word = (0 < length word) × IsFirm word
 abbrev pub AreFirm : List (List ℕ) → Type 0
 AreFirm words = AllByRecursion IsFirmWord words
 
--- ---- which words are
+-- ---- firm words
 
 firm_bytes : (word : List ℕ) → list_all (leb 48) word ≡ true → IsFirm word
 firm_bytes [] e = tt
@@ -33,7 +33,7 @@ firm_bytes (b ∷ bs) e =
     let both = and_parts (leb 48 b) (list_all (leb 48) bs) e in
     (leb-true 48 b both.0, firm_bytes bs both.1)
 
--- by a test of each byte
+-- a word that passes a test of each byte
 pub firm_literal : (word : List ℕ) → 0 < length word → list_all (leb 48) word ≡ true → IsFirmWord word
 firm_literal word some e = (some, firm_bytes word e)
 
@@ -58,11 +58,11 @@ longer : (xs ys : List ℕ) → 0 < length xs → 0 < length (xs ++ ys)
 longer [] ys h = absurd (omega (arith, h))
 longer (x ∷ xs) ys h = omega arith
 
--- a word with firm bytes behind it
+-- a word with firm bytes after it
 pub firm_with : (word more : List ℕ) → IsFirmWord word → IsFirm more → IsFirmWord (word ++ more)
 firm_with word more h g = (longer word more h.0, firm_append word more h.1 g)
 
--- a word that the chart text keeps for itself
+-- a reserved word of the chart text
 pub firm_keyword : (word : Keyword) → IsFirmWord (spelled word)
 unfolding spelled
 firm_keyword Msc = firm_literal (spelled Msc) (omega arith) refl
@@ -76,9 +76,9 @@ firm_keyword From = firm_literal (spelled From) (omega arith) refl
 firm_keyword Concurrent = firm_literal (spelled Concurrent) (omega arith) refl
 firm_keyword EndConcurrent = firm_literal (spelled EndConcurrent) (omega arith) refl
 
--- ---- what becomes of them
+-- ---- lines of firm words
 
--- such a word lacks each byte before the digits
+-- a firm word lacks each byte before the digits
 pub firm_lacks : (byte : ℕ) → byte < 48 → (word : List ℕ) → IsFirm word → Lacks byte word
 firm_lacks byte low [] h = tt
 firm_lacks byte low (b ∷ bs) h = (ne_eqb b byte (λ same. omega (arith, h.0)), firm_lacks byte low bs h.1)
@@ -94,7 +94,7 @@ no_blanks : (word : List ℕ) → IsFirm word → AllByRecursion (λ b. is_blank
 no_blanks [] h = tt
 no_blanks (b ∷ bs) h = (no_blank b h.0, no_blanks bs h.1)
 
--- words with a space between each two are cut into these words
+-- words with a space between each two are split into these words
 pub split_again : (word : List ℕ) (words : List (List ℕ)) → AreFirm (word ∷ words) → slice_split is_blank (join_with_byte 32 (word ∷ words)) ≡ word ∷ words
 split_again word [] h = slice_split_none is_blank word (All-from_recursion _ word (no_blanks word h.0.1))
 split_again word (next ∷ words) h =
@@ -104,7 +104,7 @@ split_again word (next ∷ words) h =
 filled : (word : List ℕ) → 0 < length word → is_word word ≡ true
 filled word some = grind (arith, some)
 
--- none is empty
+-- none of the words is empty
 pub all_filled : (words : List (List ℕ)) → AreFirm words → filter is_word words ≡ words
 all_filled [] h = refl
 all_filled (word ∷ words) h = rw (filled word h.0.0) (ap (λ l. word ∷ l) (all_filled words h.1))
@@ -119,7 +119,7 @@ no_send word h = rw (differs word (codes "->") (bytes_eq word (codes "->")) refl
 no_receive : (word : List ℕ) → IsFirm word → receive_word word ≡ word
 no_receive word h = rw (differs word (codes "<-") (bytes_eq word (codes "<-")) refl h (λ firm. omega (arith, firm.1.0))) refl
 
--- none is an arrow
+-- none of the words is an arrow
 pub same_written : (words : List (List ℕ)) → AreFirm words → written_out words ≡ words
 unfolding written_out
 same_written [] h = refl

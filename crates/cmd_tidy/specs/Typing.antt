@@ -1,10 +1,10 @@
--- Texts as people type them, and the exact text that each stands for (this project's profile).
+-- Texts as people type them, and the exact text of each (this project's profile).
 use Rattle.std.specs.Prelude.{ℕ, Bool, not, ◌+◌, ◌==◌, List, [], ◌∷◌, ◌++◌, length, Option, position, take, filter, unwrap_or, is_some, codes, bytes_eq, if◌then◌else◌}
 use Rattle.std.specs.List.{slice_split, flat_map}
 use Rattle.texts.specs.Lines.{lines_of, end_of, ended, is_word}
 use Rattle.texts.specs.Bytes.Classes.{is_blank}
 
--- where the comment of a line begins: at its first `#`
+-- the place of a line's comment: its first `#`
 abbrev pub comment_place : List ℕ → Option ℕ
 comment_place line = position (λ b. b == 35) line
 
@@ -12,11 +12,11 @@ comment_place line = position (λ b. b == 35) line
 unfoldable pub has_comment : List ℕ → Bool
 has_comment line = is_some (comment_place line)
 
--- what stands before it, or all of the line
+-- the line before its comment, or the whole line without one
 abbrev pub uncommented : List ℕ → List ℕ
 uncommented line = take (unwrap_or (comment_place line) (length line)) line
 
--- the words that are typed in a line
+-- the words of a typed line
 unfoldable pub typed_words : List ℕ → List (List ℕ)
 typed_words line = filter is_word (slice_split is_blank (uncommented line))
 
@@ -37,20 +37,20 @@ written_out words = words
 abbrev pub behind_space : List ℕ → List ℕ
 behind_space word = 32 ∷ word
 
--- a line of these words, if there is one: a space stands between each two
+-- a line of these words, if there is one: a space is between each two
 abbrev pub line_of : List (List ℕ) → List ℕ
 line_of [] = []
 line_of (word ∷ words) = ended (word ++ flat_map behind_space words)
 
--- the exact line for a line that is typed; nothing, where it has no word
+-- the exact line of a typed line: nothing, if it has no word
 unfoldable pub exact_line : List ℕ → List ℕ
 exact_line line = line_of (written_out (typed_words line))
 
--- the lines that are typed: what follows the last line feed is one too
+-- the typed lines: the bytes after the last line feed are one too
 abbrev pub typed_lines : List ℕ → List (List ℕ)
 typed_lines typed = lines_of typed ++ end_of typed ∷ []
 
--- The exact text for a text that is typed.
+-- The exact text of a typed text.
 unfoldable pub exact_text : List ℕ → List ℕ
 exact_text typed = flat_map exact_line (typed_lines typed)
 
@@ -62,12 +62,12 @@ has_word line = not (length (typed_words line) == 0)
 abbrev pub counted : Bool → ℕ → List ℕ
 counted counts n = if counts then n ∷ [] else []
 
--- of the lines from number n on, the numbers of those that stay
+-- the numbers of the lines that stay; the first line has number n
 abbrev pub staying_from : ℕ → List (List ℕ) → List ℕ
 staying_from n [] = []
 staying_from n (line ∷ lines) = counted (has_word line) n ++ staying_from (n + 1) lines
 
--- and of those that have a comment
+-- the numbers of the lines with a comment; the first line has number n
 abbrev pub commented_from : ℕ → List (List ℕ) → List ℕ
 commented_from n [] = []
 commented_from n (line ∷ lines) = counted (has_comment line) n ++ commented_from (n + 1) lines

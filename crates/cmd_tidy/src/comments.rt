@@ -1,4 +1,4 @@
-//! What is told of comments that are left out.
+//! The report of dropped comments.
 ghost use Rattle.std.specs.Prelude.{◌≡◌, ◌∷◌, length};
 ghost use Rattle.texts.specs.Writing.{Wrote, Adds};
 ghost use Rattle.cmd_tidy.specs.Tidying.{one_text, several_text, comments_exit};
@@ -7,13 +7,13 @@ use cmd_base::Answer;
 use texts::pieces::{Piece, add_pieces};
 use texts::{Out, TextBuffer, WriteError};
 
-/// The lines whose comments are left out, by their numbers from 1.
+/// The lines whose comments are dropped, by their numbers from 1.
 #[derive(Drop)]
 pub(crate) struct Comments {
     pub(crate) lines: Vec<u64>,
 }
 
-/// Adds that one comment is left out.
+/// Adds the report of one dropped comment.
 #[tactic(auto, unfolding(crate::specs::Tidying::one_text))]
 fn add_one<V: Out>(text: &mut TextBuffer<'_, V>, line: u64) -> Result<(), WriteError>
     ensures { Adds V.sink text.old text.new result (one_text line) }
@@ -28,7 +28,7 @@ fn add_one<V: Out>(text: &mut TextBuffer<'_, V>, line: u64) -> Result<(), WriteE
     )
 }
 
-/// Adds that so many are.
+/// Adds the report of several dropped comments.
 #[tactic(auto, unfolding(crate::specs::Tidying::several_text))]
 fn add_several<V: Out>(
     text: &mut TextBuffer<'_, V>,
@@ -66,7 +66,7 @@ fn write_several<V: Out>(count: u64, line: u64, err: &mut V) -> Result<(), Write
     text.finish()
 }
 
-/// How many are left out is told with the line of the first.
+/// The report of dropped comments: their number, and the line of the first.
 impl Answer for Comments {
     ghost exit = { comments_exit };
 

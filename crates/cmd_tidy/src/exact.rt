@@ -1,4 +1,4 @@
-//! The exact text for a text that is typed.
+//! The exact text of a typed text.
 ghost use Rattle.std.specs.Prelude.{◌≡◌, ◌+◌, ◌<◌, ◌^◌, ◌++◌, ◌∷◌, [], IfOk, OnOk};
 ghost use Rattle.cmd_tidy.specs.Typing.{exact_line, exact_text, typed_lines, has_word, has_comment, counted, staying_from, commented_from};
 
@@ -6,13 +6,13 @@ use crate::line::{add_line, has_comment, has_word, typed_words, write_out};
 use std::alloc::{AllocError, Global};
 use texts::next_line;
 
-/// A text that is exact but for faults of another kind.
+/// A text that is exact, except for faults of other kinds.
 #[derive(Debug, Drop)]
 pub struct ExactText {
     pub bytes: Vec<u8>,
-    /// Of each of its lines the number of the typed line, from 1.
+    /// For each of its lines, the number of the typed line, from 1.
     pub lines: Vec<u64>,
-    /// The numbers of the typed lines whose comments are left out.
+    /// The numbers of the typed lines whose comments are dropped.
     pub comments: Vec<u64>,
 }
 
@@ -26,7 +26,7 @@ fn count(numbers: &mut Vec<u64>, counts: bool, number: u64) -> Result<(), AllocE
     Ok(())
 }
 
-/// Adds what is typed in a line with this number.
+/// Adds the exact line of a typed line with this number.
 #[tactic(auto, unfolding(crate::specs::Typing::exact_line))]
 fn add_typed(
     alloc: Global,
@@ -46,7 +46,7 @@ fn add_typed(
     add_line(&mut text.bytes, &words)
 }
 
-/// The exact text for a text that is typed. It takes time in proportion to the text.
+/// The exact text of a typed text. The time is in proportion to the text.
 #[tactic(auto, unfolding(crate::specs::Typing::exact_text))]
 pub fn exact_text(alloc: Global, typed: &[u8]) -> Result<ExactText, AllocError>
     ensures bytes { IfOk result (λ t. t.bytes.items ≡ exact_text typed.now) }

@@ -6,7 +6,7 @@ ghost use Rattle.cmd_tidy.specs.Typing.{comment_place, has_comment, uncommented,
 use std::alloc::{AllocError, Global};
 use texts::bytes::is_blank;
 
-/// Where its comment begins, if it has one.
+/// The place of the line's comment, if it has one.
 fn comment_place(line: &[u8]) -> Option<usize>
     ensures { result ≡ comment_place line.now }
 {
@@ -21,7 +21,7 @@ pub(crate) fn has_comment(line: &[u8]) -> bool
     comment_place(line).is_some()
 }
 
-/// What stands before its comment, or all of it.
+/// The line before its comment, or the whole line without one.
 fn uncommented(line: &[u8]) -> &[u8]
     ensures { result.now ≡ uncommented line.now }
 {
@@ -31,7 +31,7 @@ fn uncommented(line: &[u8]) -> &[u8]
     }
 }
 
-/// The words that are typed in a line.
+/// The words of a typed line.
 pub(crate) fn typed_words(alloc: Global, line: &[u8]) -> Result<Vec<&[u8]>, AllocError>
     ensures { IfOk result (λ v. map (λ w. w.now) v.items ≡ typed_words line.now) }
 {
@@ -44,7 +44,7 @@ pub(crate) fn typed_words(alloc: Global, line: &[u8]) -> Result<Vec<&[u8]>, Allo
     Ok(words)
 }
 
-/// Whether there is a word in a line that has these.
+/// Whether a line with these words has one.
 #[tactic(auto, unfolding(crate::specs::Typing::has_word))]
 pub(crate) fn has_word(words: &[&[u8]], line: &[u8]) -> bool
     requires { map (λ w. w.now) words.now ≡ typed_words line.now }
@@ -73,7 +73,7 @@ pub(crate) fn write_out(words: &mut [&[u8]])
     }
 }
 
-/// Adds each of the words behind a space.
+/// Adds each of the words after a space.
 fn add_behind(text: &mut Vec<u8>, words: &[&[u8]]) -> Result<(), AllocError>
     ensures { OnOk result (text.new.items ≡ text.old.items ++ flat_map behind_space (map (λ w. w.now) words.now)) }
 {

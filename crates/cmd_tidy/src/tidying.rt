@@ -1,4 +1,4 @@
-//! Texts as people type them, written as exact ones.
+//! Typed texts, written as exact ones.
 ghost use Rattle.std.specs.Prelude.{◌≡◌};
 ghost use Rattle.cmd_base.specs.Answers.{Answers};
 ghost use Rattle.texts.specs.Writing.{Wrote};
@@ -10,7 +10,7 @@ use cmd_base::{ProgramError, Text, answered};
 use std::alloc::Global;
 use texts::{Fault, Out, TextBuffer, WriteError};
 
-/// The number of the typed line for that of a line of the exact text, by the numbers of the lines that stay
+/// The number of the typed line for a line of the exact text. `lines` has the numbers of the typed lines that stay
 /// ([`ExactText::lines`](crate::ExactText)).
 pub fn typed_line(lines: &[u64], number: u64) -> u64
     ensures { result ≡ typed_line lines.now number }
@@ -40,7 +40,7 @@ fn write_text<W: Out>(text: &[u8], out: &mut W) -> Result<(), WriteError>
     buffer.finish()
 }
 
-/// Writes the exact text, if it says something. All memory is taken before the first byte is written.
+/// Writes the exact text, if it is a schedule or a chart. All memory is taken before the first byte is written.
 fn write_exact<W: Out>(alloc: Global, typed: &[u8], out: &mut W) -> Result<Comments, ProgramError>
     ensures { Tidies W.sink out.old out.new typed.now result }
 {
@@ -62,11 +62,12 @@ fn write_exact<W: Out>(alloc: Global, typed: &[u8], out: &mut W) -> Result<Comme
     }
 }
 
-/// Writes the exact text of what is typed in a file, a schedule or a chart: without comments and without blanks that
-/// aren't between words, and with `a -> b m` and `b <- a` written out. Tells on `err` how many comments are left out.
-/// Writes the line of a refusal to `err`: the first fault of the exact text, at the line as it is typed, or F6. Answers
-/// the exit status: 0 where it was written, 2 after a refusal. Nothing is written to `out` before a refusal, but where
-/// writing to it failed (F24). A failed write to `err` changes nothing.
+/// Writes the exact text of a file's typed schedule or chart. It has no comments, and no blanks except between words,
+/// and `a -> b m` and `b <- a` are written out. The number of dropped comments is reported on `err`. The line of a
+/// refusal is written to `err` too: the first fault of the exact text, at its typed line, or F6.
+///
+/// Returns the exit status: 0 if the text was written, or 2 after a refusal. Nothing is written to `out` before a
+/// refusal, unless writing to it failed (F24). A failed write to `err` changes nothing.
 pub fn tidy<W: Out, V: Out>(alloc: Global, typed: &[u8], out: &mut W, err: &mut V) -> u8
     ensures { Answers (Tidies W.sink out.old out.new typed.now) tidy_exit V.sink err.old err.new result }
 {

@@ -1,5 +1,5 @@
--- The earlier events that a receive may come before, each by its message: another tool doesn't draw their numbers (this
--- project's profile).
+-- The earlier events that a receive may come before. Each is named by its message, because another tool doesn't draw
+-- event numbers (this project's profile).
 use Rattle.std.specs.Prelude.{ℕ, ◌+◌, ◌-◌, ◌==◌, List, [], ◌∷◌, ◌++◌, Option, None, Some, if◌then◌else◌}
 use Rattle.std.specs.List.{flat_map}
 use Rattle.chart.specs.declared.event.Event.{Event}
@@ -38,7 +38,7 @@ up_to v first last = event_named v first ++ (spelled words.UpTo ++ event_named v
 unfoldable pub range_named : ExportView → EventRange → List ℕ
 range_named v r = if r.count == 1 then event_named v r.first else up_to v r.first (last_of r)
 
--- the same behind those of another range
+-- the events of a range after those of another one
 unfoldable pub next_named : ExportView → EventRange → List ℕ
 next_named v r = spelled words.Comma ++ range_named v r
 

@@ -26,7 +26,7 @@ end Mscgen = codes "}\n"
 end PlantUml = codes "@enduml\n"
 end Mermaid = codes ""
 
--- an instance is declared
+-- the declaration of an instance
 unfoldable pub comma_before : ℕ → List ℕ
 comma_before p = if p == 1 then codes "  " else codes ",\n  "
 
@@ -48,18 +48,18 @@ declared_in Mermaid v p = in_mermaid v p
 abbrev pub participant : ExportView → LineView → List ℕ
 participant v line = declared_in v.tool v line.instance
 
--- behind all of them
+-- the text after all participants
 unfoldable pub participants_end : Tool → List ℕ
 participants_end Mscgen = codes ";\n"
 participants_end PlantUml = codes ""
 participants_end Mermaid = codes ""
 
--- the event of a row that may have races: the receive of a message, or the event that is alone
+-- the event of a row that may have races: the receive of a message, or the single event
 abbrev pub noted : Row → EventNo
 noted (Message send receive) = receive
 noted (Event e) = e
 
--- how many events they are; what is more than 64 bits hold isn't counted
+-- the number of earlier events, up to the greatest number of 64 bits
 abbrev pub counted : ReportView → ℕ
 counted report = min (length report.earlier) (2 ^ 64 - 1)
 
@@ -67,11 +67,11 @@ abbrev pub note_text : ExportView → Option ReportView → List ℕ
 note_text v None = []
 note_text v (Some report) = races v report (counted report)
 
--- a row: what it says, and below it the races of its receive
+-- a row: its saying, and below it the races of its receive
 unfoldable pub row_text : ExportView → Row → List ℕ
 row_text v row = saying_text v (saying_of v row) ++ note_text v (note_of v (noted row))
 
--- where a chart has no events mscgen wants a row nevertheless
+-- without events mscgen still needs a row
 abbrev pub no_rows : Tool → List ℕ
 no_rows Mscgen = space
 no_rows PlantUml = []

@@ -1,5 +1,5 @@
--- The text of a chart as a log with vector clocks, as ShiViz reads it: in the first line the parser's expression, then
--- an empty one, and then each event on a line of its own (which words say an event is this project's profile).
+-- The text of a chart as a log with vector clocks, as ShiViz reads it. The first line is the parser's expression, and
+-- the second is empty. Then each event has a line of its own (the words for an event are this project's profile).
 use Rattle.std.specs.Prelude.{ℕ, ◌==◌, ◌||◌, List, [], ◌++◌, Option, None, Some, codes, decimal, length, nat_le, if◌then◌else◌}
 use Rattle.std.specs.List.{flat_map}
 use Rattle.chart.specs.Charts.{LineView}
@@ -60,7 +60,7 @@ sent_text v to name = spelled words.Out ++ (name ++ (spelled words.To ++ name_at
 unfoldable pub in_text : ExportView → ℕ → List ℕ → List ℕ
 in_text v from name = spelled words.In ++ (name ++ (spelled words.From ++ name_at v.names from))
 
--- and behind a receive its races
+-- a receive is followed by its races
 unfoldable pub received_text : ExportView → Stamped → ℕ → List ℕ → List ℕ
 received_text v stamped from name = in_text v from name ++ races_of v (note_of v stamped.event)
 

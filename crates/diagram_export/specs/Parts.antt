@@ -1,4 +1,4 @@
--- Parts that lines are put together from (this project's own), each with its text as `Spelling` has it.
+-- The parts of lines (this project's own), each with its text as defined in `Spelling`.
 use Rattle.std.specs.Prelude.{ℕ, List, [], Option, None, Some, decimal}
 use Rattle.diagram_tool.specs.declared.Tool.{Tool}
 use Rattle.diagram_tool.specs.declared.Tool.TheVariants.{Mscgen, PlantUml, Mermaid}
@@ -24,7 +24,7 @@ who_text Mscgen name p = named_text name
 who_text PlantUml name p = named_text name
 who_text Mermaid name p = numbered p
 
--- between the ends of a message
+-- the sign between the ends of a message
 abbrev pub sign_text : Tool → Sign → List ℕ
 sign_text tool Received = arrow_sign tool
 sign_text tool Lost = lost_sign tool

@@ -1,4 +1,4 @@
--- What an export needs to know of a chart before it is written (this project's profile).
+-- The notes of an export's rows and the tool's rows above them (this project's profile).
 use Rattle.std.specs.Prelude.{◌≡◌, ℕ, ◌+◌, ◌-◌, ◌^◌, ◌==◌, min, List, [], ◌∷◌, length, replicate, slice_set, Option, None, Some, if◌then◌else◌}
 use Rattle.chart.specs.Charts.{LineView}
 use Rattle.chart.specs.Reports.{ReportView}
@@ -9,36 +9,36 @@ use Rattle.chart_layout.specs.Layouts.{row_of}
 use Rattle.diagram_tool.specs.declared.Tool.{Tool}
 use Rattle.diagram_export.specs.Exports.{ExportView}
 
--- the notes of rows, with that of one row more
+-- the notes of rows, with one more in this row
 abbrev pub put_in : List (Option ℕ) → ℕ → Option ℕ → List (Option ℕ)
 put_in notes place None = notes
 put_in notes place (Some row) = slice_set notes row (Some place)
 
--- with the report at this place, which has its note in the row of its receive, if it has races
+-- with the report at this place, whose note is in the row of its receive, if it has races
 abbrev pub put_report : List Row → List (Option ℕ) → ℕ → ReportView → List (Option ℕ)
 put_report rows notes place report = if length report.earlier == 0 then notes else
     put_in notes place (row_of rows (place_of report.receive))
 
--- with those from this place on
+-- with the reports from this place on
 abbrev pub notes_from : List Row → ℕ → List (Option ℕ) → List ReportView → List (Option ℕ)
 notes_from rows place notes [] = notes
 notes_from rows place notes (report ∷ reports) =
     notes_from rows (place + 1) (put_report rows notes place report) reports
 
--- for each row, the place among the reports of that of its receive, if it has races
+-- for each row, the place of its receive's report among the reports, if it has races
 abbrev pub notes_of : List Row → List ReportView → List (Option ℕ)
 notes_of rows reports = notes_from rows 0 (replicate (length rows) None) reports
 
--- how many rows of the tool's a row has: one, and one for its note
+-- the number of the tool's rows that a row has: one, and one more for its note
 abbrev pub height : Option ℕ → ℕ
 height None = 1
 height (Some place) = 2
 
--- below so many rows of the tool's a row more; what is more than 32 bits hold isn't counted
+-- the number of the tool's rows down to the end of one more row, up to the greatest number of 32 bits
 abbrev pub below : ℕ → Option ℕ → ℕ
 below n note = min (n + height note) (2 ^ 32 - 1)
 
--- for each row how many of the tool's stand above it, where n stand above the first
+-- for each row, the number of the tool's rows above it; n are above the first row
 abbrev pub starts_from : ℕ → List (Option ℕ) → List ℕ
 starts_from n [] = []
 starts_from n (note ∷ notes) = n ∷ starts_from (below n note) notes

@@ -1,4 +1,4 @@
--- What the rows of a layout say, each in the terms of a tool (this project's own).
+-- The sayings of the rows of a layout, each in the terms of a tool (this project's own).
 use Rattle.std.specs.Prelude.{ℕ, List, Bool, true, false, Option, None, Some, if◌then◌else◌}
 use Rattle.std.specs.List.{list_any}
 use Rattle.chart.specs.declared.event.Event.{Event}
@@ -24,7 +24,7 @@ abbrev pub level : EventNo → EventNo → Option Event → Saying
 level send receive None = Space
 level send receive (Some event) = Arrow send.instance receive.instance (name_of event)
 
--- a send alone, by its receive
+-- a send alone, given its receive
 abbrev pub sent : ExportView → EventNo → ℕ → List ℕ → Option EventNo → Saying
 sent v e to name None = Lost e.instance to name
 sent v e to name (Some receive) = if has_late v.tool then Late e.instance to name (skip v e receive) else
@@ -40,12 +40,12 @@ alone v e None = Space
 alone v e (Some (events.Send to name)) = sent v e to name (end_of v e)
 alone v e (Some (events.Receive from name region)) = received v.tool e.instance from name
 
--- what a row says
+-- the saying of a row
 abbrev pub saying_of : ExportView → Row → Saying
 saying_of v (rows.Message send receive) = level send receive (event_of v send)
 saying_of v (rows.Event e) = alone v e (event_of v e)
 
--- it is one end of a message alone
+-- a saying is one end of a message alone
 abbrev pub is_end : Saying → Bool
 is_end (Sends at to name) = true
 is_end (Receives at from name) = true
@@ -54,6 +54,6 @@ is_end (Lost from to name) = false
 is_end (Late from to name skip) = false
 is_end Space = false
 
--- there is a message of which each end is a note of its own
+-- the two ends of some message are separate notes
 abbrev pub has_parted : ExportView → Bool
 has_parted v = list_any (λ row. is_end (saying_of v row)) v.rows

@@ -1,5 +1,5 @@
--- How each tool spells what a chart says: mscgen 0.20, and the sequence diagrams of PlantUML and of Mermaid (which
--- events are notes is this project's profile).
+-- The spelling of a chart's content in each tool: mscgen 0.20, and the sequence diagrams of PlantUML and of Mermaid
+-- (the choice of the events that are notes is this project's profile).
 use Rattle.std.specs.Prelude.{ℕ, List, ◌++◌, codes, decimal}
 use Rattle.chart.specs.Ranges.{ranges_of}
 use Rattle.chart.specs.Reports.{ReportView}
@@ -14,25 +14,25 @@ use Rattle.diagram_export.specs.declared.word.Word.TheVariants as words
 use Rattle.diagram_export.specs.Exports.{ExportView}
 use Rattle.diagram_export.specs.Words.{spelled}
 
--- what stands before each line of a chart
+-- the indent of each line of a chart
 unfoldable pub indent : Tool → List ℕ
 indent Mscgen = codes "  "
 indent PlantUml = codes ""
 indent Mermaid = codes "    "
 
--- between the ends of a message
+-- the sign between the ends of a message
 unfoldable pub arrow_sign : Tool → List ℕ
 arrow_sign Mscgen = codes " -> "
 arrow_sign PlantUml = codes " -> "
 arrow_sign Mermaid = codes "->>"
 
--- between them where nobody receives it
+-- the sign between them if nobody receives the message
 unfoldable pub lost_sign : Tool → List ℕ
 lost_sign Mscgen = codes " -x "
 lost_sign PlantUml = codes " ->x "
 lost_sign Mermaid = codes " -x "
 
--- before a label, and behind it
+-- the text before a label, and after it
 unfoldable pub label_start : Tool → List ℕ
 label_start Mscgen = codes " [label=\""
 label_start PlantUml = codes " : "
@@ -58,7 +58,7 @@ who_in Mermaid names p = numbered p
 abbrev pub who : ExportView → ℕ → List ℕ
 who v p = who_in v.tool v.names p
 
--- an arrow without what stands behind its label
+-- an arrow without the text after its label
 unfoldable pub arrow : ExportView → List ℕ → ℕ → ℕ → List ℕ → List ℕ
 arrow v sign from to name = indent v.tool ++ (who v from ++ (sign ++ (who v to ++ (label_start v.tool ++ name))))
 
@@ -66,12 +66,12 @@ arrow v sign from to name = indent v.tool ++ (who v from ++ (sign ++ (who v to +
 unfoldable pub whole_arrow : ExportView → List ℕ → ℕ → ℕ → List ℕ → List ℕ
 whole_arrow v sign from to name = arrow v sign from to name ++ label_end v.tool
 
--- a message that ends so many rows further down, in mscgen
+-- a message that ends this many rows further down, in mscgen
 unfoldable pub late_arrow : ExportView → ℕ → ℕ → List ℕ → ℕ → List ℕ
 late_arrow v from to name rows =
     arrow v (arrow_sign v.tool) from to name ++ (spelled words.ArcSkip ++ (decimal rows ++ label_end v.tool))
 
--- a row of mscgen without anything
+-- an empty row of mscgen
 unfoldable pub space : List ℕ
 space = codes "  |||;\n"
 
@@ -81,7 +81,7 @@ note_front Mscgen = codes ""
 note_front PlantUml = codes "note over "
 note_front Mermaid = codes "Note over "
 
--- in mscgen the instance stands on both sides of its word
+-- in mscgen the instance is on both sides of the word for a note
 unfoldable pub between : ExportView → ℕ → List ℕ
 between v p = who v p ++ spelled words.Note
 
@@ -107,7 +107,7 @@ unfoldable pub races : ExportView → ReportView → ℕ → List ℕ
 races v report events = note_start v report.receive.instance ++ (spelled words.MayComeBefore ++ (amount events
     ++ (ranges_named v (ranges_of report.earlier) ++ label_end v.tool)))
 
--- what is said, as the tool spells it
+-- a saying in the tool's spelling
 abbrev pub saying_text : ExportView → Saying → List ℕ
 saying_text v (Arrow from to name) = whole_arrow v (arrow_sign v.tool) from to name
 saying_text v (Lost from to name) = whole_arrow v (lost_sign v.tool) from to name

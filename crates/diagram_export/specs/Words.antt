@@ -1,5 +1,5 @@
--- Words that stand between the parts of an export (those of mscgen 0.20, PlantUML and Mermaid, and this project's own
--- for events and races).
+-- The words between the parts of an export: those of mscgen 0.20, PlantUML and Mermaid, and this project's own for
+-- events and races.
 use Rattle.std.specs.Prelude.{ℕ, List, codes}
 use Rattle.diagram_export.specs.declared.word.Word.{Word}
 use Rattle.diagram_export.specs.declared.word.Word.TheVariants.{Quote, Number, ArcSkip, Note, Out, To, In, From, MayComeBefore, Participant, As, LineEnd, ClockStart, ClockEnd, Colon, Comma, UpTo}

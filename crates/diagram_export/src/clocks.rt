@@ -10,7 +10,7 @@ use clock::Clock;
 use std::alloc::{AllocError, Global};
 use std::marker::Model;
 
-/// The clock of each instance, and the one that each message carries. A contract sees both lists.
+/// The clock of each instance, and the clock that each message carries. A contract sees both lists.
 #[derive(Drop)]
 pub(crate) struct Times {
     clocks: Vec<Clock>,
@@ -30,7 +30,7 @@ impl Model for Times {
         × AreClocks (length t.clocks.items) t.carried.items };
 }
 
-/// So many clocks of so many instances that know of nothing.
+/// This number of clocks, all zero, for this number of instances.
 fn zeros(alloc: Global, instances: usize, clocks: usize) -> Result<Vec<Clock>, AllocError>
     requires at_least_two { 2 ≤ instances }
     requires at_most { instances ≤ MAX_INSTANCES }
@@ -44,7 +44,7 @@ fn zeros(alloc: Global, instances: usize, clocks: usize) -> Result<Vec<Clock>, A
 }
 
 impl Times {
-    /// Nothing has happened yet.
+    /// The clocks before the first event.
     pub(crate) fn at_first(alloc: Global, export: &Export<'_>) -> Result<Times, AllocError>
         ensures { IfOk result (λ times. times ≡ at_first export.now) }
     {
@@ -64,7 +64,7 @@ impl Times {
         self.clocks.get(instance.place())
     }
 
-    /// What the message of this send carries.
+    /// The clock that the message of this send carries.
     fn carried_by(&self, export: &Export<'_>, send: Option<EventNo>) -> Option<&Clock>
         ensures value { option_map (λ clock. clock.now) result ≡ carried_by export.now self.now.carried send }
         ensures len { IfSome result (λ clock. length clock.now ≡ length self.now.clocks) }
@@ -78,7 +78,7 @@ impl Times {
         }
     }
 
-    /// Lets a clock take what an event takes from its message.
+    /// Merges the clock of an event's message into this clock, if the event is a receive.
     fn hear(&self, export: &Export<'_>, at: &EventNo, event: &Event, clock: &mut Clock)
         requires { length clock.old ≡ length self.now.clocks }
         ensures value { clock.new ≡ heard export.now self.now at.now event.now clock.old }
@@ -91,7 +91,7 @@ impl Times {
         }
     }
 
-    /// Lets the message of a send carry a clock.
+    /// Sets the clock that the message of a send carries.
     fn carry(&mut self, row: Option<usize>, clock: Clock)
         requires { length clock ≡ length self.old.clocks }
         ensures carried { self.new.carried ≡ with_carried self.old.carried row clock }
@@ -104,7 +104,7 @@ impl Times {
         }
     }
 
-    /// Puts an instance's clock in place of the one before.
+    /// Sets an instance's clock.
     fn put(&mut self, instance: InstanceNo, clock: Clock)
         requires len { length clock ≡ length self.old.clocks }
         requires within { instance ≤ length self.old.clocks }
@@ -114,7 +114,7 @@ impl Times {
         self.clocks[instance.place()] = clock;
     }
 
-    /// An event's clock, if there is its instance.
+    /// An event's clock, if its instance exists.
     fn stamp(
         &self,
         alloc: Global,
@@ -136,7 +136,7 @@ impl Times {
         Ok(Some(clock))
     }
 
-    /// An event's clock, which is its instance's from now on, and a send's message's.
+    /// An event's clock. From now on it is the clock of its instance and, for a send, of its message.
     pub(crate) fn tick(
         &mut self,
         alloc: Global,

@@ -1,4 +1,4 @@
-//! The earlier events that a receive may come before, each by its message.
+//! The earlier events that a receive may come before, each named by its message.
 ghost use Rattle.std.specs.Prelude.{All};
 ghost use Rattle.std.specs.List.{flat_map};
 ghost use Rattle.chart.specs.Ranges.{IsRange};
@@ -49,7 +49,7 @@ fn add_received_from<W: Out>(
     )
 }
 
-/// Adds an event by its message, if there is one.
+/// Adds an event, named by its message, if there is one.
 fn add_words<W: Out>(
     text: &mut TextBuffer<'_, W>,
     export: &Export<'_>,
@@ -66,7 +66,7 @@ fn add_words<W: Out>(
     }
 }
 
-/// Adds an event of the chart by its message.
+/// Adds an event of the chart, named by its message.
 fn add_event<W: Out>(
     text: &mut TextBuffer<'_, W>,
     export: &Export<'_>,
@@ -109,7 +109,7 @@ fn add_range<W: Out>(
     }
 }
 
-/// The same behind those of another range.
+/// Adds the events of a range after those of another one.
 #[tactic(auto, using(texts::proofs::Writes::joining), unfolding(crate::specs::Earlier::next_named))]
 fn add_next_range<W: Out>(
     text: &mut TextBuffer<'_, W>,

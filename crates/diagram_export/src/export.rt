@@ -1,4 +1,4 @@
-//! What an export is written from.
+//! The input of an export.
 ghost use Rattle.std.specs.Prelude.{◌≡◌, ◌≤◌, length, None, option_map};
 ghost use Rattle.chart.specs.declared.instance.TheConstants.{MAX_INSTANCES};
 ghost use Rattle.closure.specs.Faults.{place_of};
@@ -20,9 +20,9 @@ pub struct Export<'a> {
     pub(crate) layout: &'a Layout,
     /// The other end of each event's message.
     pub(crate) ends: &'a Ends,
-    /// For each row, the place among the reports of that of its receive, if it has races.
+    /// For each row, the place of its receive's report among the reports, if it has races.
     pub(crate) notes: Vec<Option<usize>>,
-    /// For each row, how many rows of the tool's stand above it.
+    /// For each row, the number of the tool's rows above it.
     pub(crate) starts: Vec<u32>,
 }
 
@@ -65,7 +65,7 @@ impl<'a> Export<'a> {
         self.lines
     }
 
-    /// How many instances there are.
+    /// The number of instances.
     pub(crate) fn instances(&self) -> usize
         ensures value { result ≡ length self.now.lines }
         ensures at_least_two { 2 ≤ result }
@@ -87,7 +87,7 @@ impl<'a> Export<'a> {
         self.layout.rows()
     }
 
-    /// The event of this number.
+    /// The event with this number.
     pub(crate) fn event_of(&self, event: &EventNo) -> Option<Event>
         ensures { result ≡ event_of self.now event.now }
     {
@@ -101,7 +101,7 @@ impl<'a> Export<'a> {
         self.ends.of_event(*event)
     }
 
-    /// How many rows of the tool's stand above that of an event.
+    /// The number of the tool's rows above the row of an event.
     fn start_of(&self, event: &EventNo) -> u32
         ensures { result ≡ start_of self.now event.now }
     {
@@ -111,14 +111,14 @@ impl<'a> Export<'a> {
         }
     }
 
-    /// How many rows of the tool's further down a receive stands than its send.
+    /// How many of the tool's rows a receive is below its send.
     pub(crate) fn skip(&self, send: &EventNo, receive: &EventNo) -> u32
         ensures { result ≡ skip self.now send.now receive.now }
     {
         self.start_of(receive).saturating_sub(self.start_of(send))
     }
 
-    /// The place among the reports of the one whose note the row of an event has.
+    /// The place among the reports of the one whose note is in the row of an event.
     fn note_place(&self, event: &EventNo) -> Option<usize>
         ensures { result ≡ in_row None self.now.notes (row_of self.now.rows (place_of event.now)) }
     {
@@ -128,7 +128,7 @@ impl<'a> Export<'a> {
         }
     }
 
-    /// The report of the races of the row that has the event, if it has some.
+    /// The report of the races in the row of the event, if it has races.
     pub(crate) fn note_of(&self, event: &EventNo) -> Option<&Report>
         ensures { option_map (λ r. r.now) result ≡ note_of self.now event.now }
     {

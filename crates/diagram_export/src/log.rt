@@ -74,9 +74,9 @@ impl Model for Log {
 }
 
 impl Log {
-    /// The log of what is exported.
+    /// The log of an export.
     ///
-    /// F6: it fails only where there is no memory.
+    /// F6: it fails only if memory runs out.
     pub fn of(alloc: Global, export: &Export<'_>) -> Result<Log, AllocError>
         ensures { IfOk result (λ log. log ≡ log_of export.now) }
     {

@@ -126,7 +126,7 @@ fn add_races_text<W: Out>(
     add_ranges(text, export, earlier.as_slice())
 }
 
-/// The same, if there are some.
+/// Adds the earlier events of a report, if there is one.
 fn add_races_of<W: Out>(
     text: &mut TextBuffer<'_, W>,
     export: &Export<'_>,
@@ -196,7 +196,7 @@ fn add_received<W: Out>(
     add_races_of(text, export, export.note_of(&stamped.event))
 }
 
-/// Adds what happens at an event.
+/// Adds the words of an event.
 fn add_event<W: Out>(
     text: &mut TextBuffer<'_, W>,
     export: &Export<'_>,
@@ -258,8 +258,8 @@ fn add_log<W: Out>(
     add_log_lines(text, export, log.entries())
 }
 
-/// Writes the log's text, as ShiViz reads it, and nothing else. It takes no memory. Where a put fails (F24), a
-/// beginning of the text was written, and no other put is tried.
+/// Writes the log's text, as ShiViz reads it, and nothing else. It takes no memory. If a put fails (F24), a beginning
+/// of the text was written, and no other put is tried.
 #[tactic(auto, using(texts::proofs::Writes::joining))]
 pub fn write_log<W: Out>(export: &Export<'_>, log: &Log, out: &mut W) -> Result<(), WriteError>
     ensures { Wrote W.sink out.old out.new result (log_text export.now log.now) }

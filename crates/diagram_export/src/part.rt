@@ -1,4 +1,4 @@
-//! Parts that lines are put together from, by one call for each line.
+//! The parts of lines: one call adds all parts of a line.
 ghost use Rattle.std.specs.Prelude.{◌≡◌};
 ghost use Rattle.std.specs.List.{flat_map};
 ghost use Rattle.texts.specs.Instances.{name_at};
@@ -13,38 +13,38 @@ use diagram_tool::Tool;
 use itoa::Buffer;
 use texts::{Out, TextBuffer, WriteError};
 
-/// Which sign an arrow has.
+/// The sign of an arrow.
 #[derive(Clone, Copy)]
 pub(crate) enum Sign {
-    /// Of a message that is received.
+    /// The message is received.
     Received,
-    /// Of one that nobody receives.
+    /// Nobody receives the message.
     Lost,
 }
 
-/// A part of a line. It holds no reference, so that one list takes parts of any lifetime.
+/// A part of a line. It holds no reference, so that one list can have parts of any lifetime.
 #[derive(Clone, Copy)]
 pub(crate) enum Part {
     Word(Word),
     /// In decimal.
     Number(u64),
-    /// Nothing, where there is no name.
+    /// The name, or nothing without a name.
     Name(Option<Name>),
     /// The name between quotation marks.
     Quoted(Option<Name>),
     /// The instance as an arrow names it: by its name between quotation marks, or by its number.
     Who(Tool, Option<Name>, InstanceNo),
-    /// What stands before each line of a chart.
+    /// The indent of each line of a chart.
     Indent(Tool),
-    /// What stands between the ends of a message.
+    /// The sign between the ends of a message.
     Sign(Tool, Sign),
-    /// What stands before a label.
+    /// The text before a label.
     LabelStart(Tool),
-    /// What stands behind it.
+    /// The text after a label.
     LabelEnd(Tool),
 }
 
-/// What stands before each line of a chart.
+/// The indent of each line of a chart.
 #[tactic(auto, unfolding(crate::specs::Spelling::indent))]
 fn indent(tool: Tool) -> &'static [u8]
     ensures { result.now ≡ indent tool }
@@ -56,7 +56,7 @@ fn indent(tool: Tool) -> &'static [u8]
     }
 }
 
-/// What stands between the ends of a message.
+/// The sign between the ends of a message.
 #[tactic(auto, unfolding(crate::specs::Spelling::arrow_sign, crate::specs::Spelling::lost_sign))]
 fn spelled_sign(tool: Tool, sign: Sign) -> &'static [u8]
     ensures { result.now ≡ sign_text tool sign }
@@ -73,7 +73,7 @@ fn spelled_sign(tool: Tool, sign: Sign) -> &'static [u8]
     }
 }
 
-/// What stands before a label.
+/// The text before a label.
 #[tactic(auto, unfolding(crate::specs::Spelling::label_start))]
 fn label_start(tool: Tool) -> &'static [u8]
     ensures { result.now ≡ label_start tool }
@@ -85,7 +85,7 @@ fn label_start(tool: Tool) -> &'static [u8]
     }
 }
 
-/// What stands behind it.
+/// The text after a label.
 #[tactic(auto, unfolding(crate::specs::Spelling::label_end))]
 fn label_end(tool: Tool) -> &'static [u8]
     ensures { result.now ≡ label_end tool }
@@ -96,7 +96,7 @@ fn label_end(tool: Tool) -> &'static [u8]
     }
 }
 
-/// The bytes of a name, none where there is none.
+/// The bytes of a name, or none without a name.
 fn bytes_of(name: &Option<Name>) -> &[u8]
     ensures { result.now ≡ bytes_of name.now }
 {
@@ -166,7 +166,7 @@ fn add_part<W: Out>(text: &mut TextBuffer<'_, W>, part: &Part) -> Result<(), Wri
     }
 }
 
-/// Adds the parts, in their order.
+/// Adds the parts in their order.
 pub(crate) fn add_parts<W: Out>(
     text: &mut TextBuffer<'_, W>,
     parts: &[Part],
@@ -179,7 +179,7 @@ pub(crate) fn add_parts<W: Out>(
     Ok(())
 }
 
-/// Adds a part alone.
+/// Adds a single part.
 pub(crate) fn add_one<W: Out>(text: &mut TextBuffer<'_, W>, part: Part) -> Result<(), WriteError>
     ensures { Adds W.sink text.old text.new result (part_text part) }
 {

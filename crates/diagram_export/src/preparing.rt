@@ -1,4 +1,4 @@
-//! What an export needs to know of a chart before it is written.
+//! The notes of an export's rows and the tool's rows above them, found before anything is written.
 ghost use Rattle.std.specs.Prelude.{◌≡◌, length, replicate, None, Some, slice_set, IfOk};
 ghost use Rattle.diagram_export.specs.Preparing.{put_in, put_report, notes_of, height, below, starts_from, IsExportOf};
 
@@ -30,7 +30,7 @@ fn put_report(notes: &mut [Option<usize>], layout: &Layout, place: usize, report
     put(notes, place, layout.row_of(&report.receive()));
 }
 
-/// For each row, the place among the reports of that of its receive, if it has races.
+/// For each row, the place of its receive's report among the reports, if it has races.
 fn notes_of(
     alloc: Global,
     layout: &Layout,
@@ -45,7 +45,7 @@ fn notes_of(
     Ok(notes)
 }
 
-/// How many rows of the tool's a row has.
+/// The number of the tool's rows that a row has.
 fn height(note: &Option<usize>) -> u32
     ensures { result ≡ height note.now }
 {
@@ -55,7 +55,7 @@ fn height(note: &Option<usize>) -> u32
     }
 }
 
-/// For each row how many of the tool's stand above it.
+/// For each row, the number of the tool's rows above it.
 fn starts_of(alloc: Global, notes: &[Option<usize>]) -> Result<Vec<u32>, AllocError>
     ensures { IfOk result (λ starts. starts.items ≡ starts_from 0 notes.now) }
 {
@@ -71,7 +71,7 @@ fn starts_of(alloc: Global, notes: &[Option<usize>]) -> Result<Vec<u32>, AllocEr
 impl<'a> Export<'a> {
     /// The export of a chart to a tool.
     ///
-    /// F6: it fails only where there is no memory.
+    /// F6: it fails only if memory runs out.
     pub fn of(alloc: Global, tool: Tool, source: ExportSource<'a>) -> Result<Export<'a>, AllocError>
         ensures { IfOk result (IsExportOf tool source.entry.names.now source.entry.closure.now
             source.entry.layout.now source.entry.reports.now source.entry.ends.now) }

@@ -1,4 +1,4 @@
-//! What the rows of a layout say.
+//! The sayings of the rows of a layout.
 ghost use Rattle.std.specs.Prelude.{◌≡◌};
 ghost use Rattle.diagram_export.specs.Sayings.{has_late, level, sent, received, alone, saying_of, is_end, has_parted};
 
@@ -7,10 +7,10 @@ use chart::{Event, EventNo, InstanceNo, Name};
 use chart_layout::Row;
 use diagram_tool::Tool;
 
-/// What a row says.
+/// The saying of a row: its content, in the terms of a tool.
 #[derive(Clone, Copy)]
 pub(crate) enum Saying {
-    /// A message whose ends are both here.
+    /// A message with both ends in this row.
     Arrow {
         from: InstanceNo,
         to: InstanceNo,
@@ -22,7 +22,7 @@ pub(crate) enum Saying {
         to: InstanceNo,
         name: Name,
     },
-    /// A message that ends so many rows of the tool's further down.
+    /// A message that ends this many of the tool's rows further down.
     Late {
         from: InstanceNo,
         to: InstanceNo,
@@ -55,7 +55,7 @@ fn has_late(tool: Tool) -> bool
     }
 }
 
-/// What a message says that is level.
+/// The saying of a level message.
 fn level(send: &EventNo, receive: &EventNo, event: Option<Event>) -> Saying
     ensures { result ≡ level send.now receive.now event }
 {
@@ -69,7 +69,7 @@ fn level(send: &EventNo, receive: &EventNo, event: Option<Event>) -> Saying
     }
 }
 
-/// What a send alone says, by its receive.
+/// The saying of a send alone, given its receive.
 fn sent(
     export: &Export<'_>,
     send: &EventNo,
@@ -92,7 +92,7 @@ fn sent(
     }
 }
 
-/// What a receive alone says.
+/// The saying of a receive alone.
 fn received(tool: Tool, at: InstanceNo, from: InstanceNo, name: Name) -> Saying
     ensures { result ≡ received tool at from name }
 {
@@ -103,7 +103,7 @@ fn received(tool: Tool, at: InstanceNo, from: InstanceNo, name: Name) -> Saying
     }
 }
 
-/// What an event alone says.
+/// The saying of an event alone.
 fn alone(export: &Export<'_>, at: &EventNo, event: Option<Event>) -> Saying
     ensures { result ≡ alone export.now at.now event }
 {
@@ -116,7 +116,7 @@ fn alone(export: &Export<'_>, at: &EventNo, event: Option<Event>) -> Saying
     }
 }
 
-/// What a row says.
+/// The saying of a row.
 pub(crate) fn saying_of(export: &Export<'_>, row: &Row) -> Saying
     ensures { result ≡ saying_of export.now row.now }
 {
@@ -126,7 +126,7 @@ pub(crate) fn saying_of(export: &Export<'_>, row: &Row) -> Saying
     }
 }
 
-/// Whether it is one end of a message alone.
+/// Whether a saying is one end of a message alone.
 fn is_end(saying: &Saying) -> bool
     ensures { result ≡ is_end saying.now }
 {
@@ -136,7 +136,7 @@ fn is_end(saying: &Saying) -> bool
     }
 }
 
-/// Whether there is a message of which each end is a note of its own, since the tool can't say it by an arrow.
+/// Whether the two ends of some message are separate notes, because the tool can't draw the message as an arrow.
 pub fn has_parted(export: &Export<'_>) -> bool
     ensures { result ≡ has_parted export.now }
 {

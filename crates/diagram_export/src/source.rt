@@ -1,4 +1,4 @@
-//! What is exported.
+//! The source of an export.
 use chart::{Names, Report};
 use chart_layout::{Ends, Layout};
 use closure::Closure;

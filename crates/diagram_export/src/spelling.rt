@@ -1,4 +1,4 @@
-//! How each tool spells what a chart says.
+//! The spelling of a chart's content in each tool.
 ghost use Rattle.std.specs.Prelude.{◌≡◌, ◌++◌, decimal};
 ghost use Rattle.texts.specs.Instances.{name_at};
 ghost use Rattle.texts.specs.Writing.{Adds};
@@ -20,7 +20,7 @@ use diagram_tool::Tool;
 use texts::pieces::add_amount;
 use texts::{Out, TextBuffer, WriteError};
 
-/// What stands before the instance of a note.
+/// The text before the instance of a note.
 #[tactic(auto, unfolding(crate::specs::Spelling::note_front))]
 fn note_front(tool: Tool) -> &'static [u8]
     ensures { result.now ≡ note_front tool }
@@ -32,7 +32,7 @@ fn note_front(tool: Tool) -> &'static [u8]
     }
 }
 
-/// Adds an arrow without what stands behind its label.
+/// Adds an arrow without the text after its label.
 #[tactic(auto, unfolding(crate::specs::Spelling::arrow))]
 fn add_arrow<W: Out>(
     text: &mut TextBuffer<'_, W>,
@@ -76,7 +76,7 @@ fn add_whole_arrow<W: Out>(
     add_one(text, Part::LabelEnd(export.tool()))
 }
 
-/// Adds so many rows behind an arrow's label, and its end.
+/// Adds the number of rows after an arrow's label, and the end of the attributes.
 fn add_skip<W: Out>(text: &mut TextBuffer<'_, W>, tool: Tool, rows: u32) -> Result<(), WriteError>
     ensures { Adds W.sink text.old text.new result (spelled words.ArcSkip ++ (decimal rows ++ label_end tool)) }
 {
@@ -87,7 +87,7 @@ fn add_skip<W: Out>(text: &mut TextBuffer<'_, W>, tool: Tool, rows: u32) -> Resu
     )
 }
 
-/// Adds a message that ends so many rows further down, in mscgen.
+/// Adds a message that ends this many rows further down, in mscgen.
 #[tactic(auto, using(texts::proofs::Writes::joining), unfolding(crate::specs::Spelling::late_arrow))]
 fn add_late_arrow<W: Out>(
     text: &mut TextBuffer<'_, W>,
@@ -103,7 +103,7 @@ fn add_late_arrow<W: Out>(
     add_skip(text, export.tool(), rows)
 }
 
-/// Adds a row of mscgen without anything.
+/// Adds an empty row of mscgen.
 #[tactic(auto, unfolding(crate::specs::Spelling::space))]
 pub(crate) fn add_space<W: Out>(text: &mut TextBuffer<'_, W>) -> Result<(), WriteError>
     ensures { Adds W.sink text.old text.new result space }
@@ -122,7 +122,7 @@ fn add_between<W: Out>(
     add_parts(text, &[who_part(export, at), Part::Word(Word::Note)])
 }
 
-/// Adds what stands before the instance of a note that says it once more.
+/// Adds the text before the instance of a note. In mscgen it names the instance too.
 fn add_note_place<W: Out>(
     text: &mut TextBuffer<'_, W>,
     export: &Export<'_>,
@@ -136,7 +136,7 @@ fn add_note_place<W: Out>(
     }
 }
 
-/// Adds the instance of a note, and what stands before its label.
+/// Adds the instance of a note, and the text before its label.
 fn add_noted<W: Out>(
     text: &mut TextBuffer<'_, W>,
     export: &Export<'_>,
@@ -166,7 +166,8 @@ fn add_note_start<W: Out>(
     add_noted(text, export, at)
 }
 
-/// Adds what such a note says, and its end: a word, a message, another word and a name.
+/// Adds the label of a note that states one event, and its end. The label has a word, a message, another word and a
+/// name.
 fn add_words<W: Out>(
     text: &mut TextBuffer<'_, W>,
     export: &Export<'_>,
@@ -190,7 +191,7 @@ fn add_words<W: Out>(
     )
 }
 
-/// Adds a note that says a send alone.
+/// Adds a note that states a send alone.
 #[tactic(auto, using(texts::proofs::Writes::joining), unfolding(crate::specs::Spelling::sending))]
 fn add_sending<W: Out>(
     text: &mut TextBuffer<'_, W>,
@@ -205,7 +206,7 @@ fn add_sending<W: Out>(
     add_words(text, export, Word::Out, name, Word::To, to)
 }
 
-/// Adds a note that says a receive alone.
+/// Adds a note that states a receive alone.
 #[tactic(auto, using(texts::proofs::Writes::joining), unfolding(crate::specs::Spelling::receiving))]
 fn add_receiving<W: Out>(
     text: &mut TextBuffer<'_, W>,
@@ -220,7 +221,7 @@ fn add_receiving<W: Out>(
     add_words(text, export, Word::In, name, Word::From, from)
 }
 
-/// Adds a note that says which earlier events a receive may come before.
+/// Adds a note of the earlier events that a receive may come before.
 #[tactic(auto, using(texts::proofs::Writes::joining), unfolding(crate::specs::Spelling::races))]
 pub(crate) fn add_races<W: Out>(
     text: &mut TextBuffer<'_, W>,
@@ -237,7 +238,7 @@ pub(crate) fn add_races<W: Out>(
     add_one(text, Part::LabelEnd(export.tool()))
 }
 
-/// Adds what is said, as the tool spells it.
+/// Adds a saying in the tool's spelling.
 pub(crate) fn add_saying<W: Out>(
     text: &mut TextBuffer<'_, W>,
     export: &Export<'_>,

@@ -1,8 +1,8 @@
-//! Words that stand between the parts of an export.
+//! The words between the parts of an export.
 ghost use Rattle.std.specs.Prelude.{◌≡◌};
 ghost use Rattle.diagram_export.specs.Words.{spelled};
 
-/// A word of a tool's text, or what stands between two of its parts.
+/// A word of a tool's text, or the text between two of its parts.
 #[derive(Clone, Copy)]
 pub(crate) enum Word {
     Quote,
@@ -19,7 +19,7 @@ pub(crate) enum Word {
     Participant,
     As,
     LineEnd,
-    /// Before a clock, and behind it.
+    /// Before a clock, and after it.
     ClockStart,
     ClockEnd,
     Colon,

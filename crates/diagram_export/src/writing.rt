@@ -40,7 +40,7 @@ fn end(tool: Tool) -> &'static [u8]
     }
 }
 
-/// What stands behind the participants.
+/// The text after the participants.
 #[tactic(auto, unfolding(crate::specs::ExportText::participants_end))]
 fn participants_end(tool: Tool) -> &'static [u8]
     ensures { result.now ≡ participants_end tool }
@@ -192,7 +192,7 @@ fn add_rows<W: Out>(
     Ok(())
 }
 
-/// Adds the rows, or what stands in their place.
+/// Adds the rows, or the text in their place.
 fn add_all_rows<W: Out>(text: &mut TextBuffer<'_, W>, export: &Export<'_>) -> Result<(), WriteError>
     ensures { Adds W.sink text.old text.new result (rows_text export.now) }
 {
@@ -218,7 +218,7 @@ fn add_export<W: Out>(text: &mut TextBuffer<'_, W>, export: &Export<'_>) -> Resu
     text.add(end(export.tool()))
 }
 
-/// Writes the export's text and nothing else. It takes no memory. Where a put fails (F24), a beginning of the text was
+/// Writes the export's text and nothing else. It takes no memory. If a put fails (F24), a beginning of the text was
 /// written, and no other put is tried.
 #[tactic(auto, using(texts::proofs::Writes::joining))]
 pub fn write_export<W: Out>(export: &Export<'_>, out: &mut W) -> Result<(), WriteError>

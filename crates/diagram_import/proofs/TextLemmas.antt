@@ -10,11 +10,11 @@ use Rattle.diagram_import.specs.Shown.{without_lines}
 use Rattle.diagram_import.specs.Skipping.{read_byte, line_behind, blanked_from, lines_from}
 use Rattle.diagram_import.specs.declared.skipping.Skip.{Skip}
 
--- what is left from a byte on
+-- the bytes from one on
 pub from_byte : (bytes : List ℕ) (n : ℕ) → n < length bytes → drop n bytes ≡ get_or bytes n 0 ∷ drop (n + 1) bytes
 from_byte bytes n within = rw add-one (drop-cons bytes n 0 within)
 
--- one line more
+-- one more line
 pub line_more : (count n : ℕ) (rest next : List ℕ) → n < count → next ≡ drop (suc (line_length rest)) rest → without_lines (count - (n + 1)) next ≡ without_lines (count - n) rest
 unfolding without_lines
 line_more count n rest next less e =
@@ -25,7 +25,7 @@ pub lines_all : (count n : ℕ) (rest : List ℕ) → count ≤ n → without_li
 unfolding without_lines
 lines_all count n rest past = let left : count - n ≡ 0 = omega arith in rw left refl
 
--- one byte more
+-- one more byte
 pub count_more : (count next n : ℕ) (begun is_begun : Bool) (bytes : List ℕ) → n < length bytes → next ≡ line_behind count (get_or bytes n 0) → is_begun ≡ not (get_or bytes n 0 == 10)
     → lines_from next is_begun (drop (n + 1) bytes) ≡ lines_from count begun (drop n bytes)
 unfolding lines_from
@@ -39,7 +39,7 @@ pub ended_end : (count n : ℕ) (begun : Bool) (bytes : List ℕ) → length byt
 unfolding lines_from
 ended_end count n begun bytes past is = rw (drop_all n bytes past, is) refl
 
--- the same for the bytes that are left
+-- the same for the blanked bytes
 pub byte_kept : (skips : List Skip) (line next n : ℕ) (bytes done more : List ℕ) (b : ℕ) → n < length bytes
     → b ≡ read_byte skips line (get_or bytes n 0) → more ≡ done ++ b ∷ [] → next ≡ line_behind line (get_or bytes n 0)
     → more ++ blanked_from skips next (drop (n + 1) bytes) ≡ done ++ blanked_from skips line (drop n bytes)
@@ -50,7 +50,7 @@ pub kept_end : (skips : List Skip) (line n : ℕ) (bytes done : List ℕ) → le
 unfolding blanked_from
 kept_end skips line n bytes done past = rw (drop_all n bytes past) (append-nil done)
 
--- one kind more that is left out
+-- one more kind of skipped constructs
 pub place_more : (so_far next : Option Place) (n : ℕ) (left_out : List LeftOut) (d : LeftOut) → n < length left_out → next ≡ with_place so_far (get_or left_out n d).first
     → first_place next (drop (n + 1) left_out) ≡ first_place so_far (drop n left_out)
 unfolding first_place
@@ -60,7 +60,7 @@ pub place_end : (so_far : Option Place) (n : ℕ) (left_out : List LeftOut) → 
 unfolding first_place
 place_end so_far n left_out past = rw (drop_all n left_out past) refl
 
--- one message more that overtakes
+-- one more overtaking message
 pub overtaking_more : (so_far next : Option Place) (n : ℕ) (overtaking : List Overtaking) (d : Overtaking) → n < length overtaking → next ≡ with_place so_far (get_or overtaking n d).place
     → first_overtaking next (drop (n + 1) overtaking) ≡ first_overtaking so_far (drop n overtaking)
 unfolding first_overtaking

@@ -1,4 +1,4 @@
--- A text, read whole, and the chart that it comes to.
+-- A whole text, and its chart.
 use Rattle.std.specs.Prelude.{ℕ, Bool, true, false, List, [], ◌∷◌, Option, None, Some, Result, Ok, Err, map, drop, if◌then◌else◌, nat_eq}
 use Rattle.std.specs.List.{starts_with}
 use Rattle.diagrams.specs.Diagrams.{DiagramView}
@@ -17,7 +17,7 @@ use Rattle.diagram_import.specs.Skipping.{blanked_from, lines_from, is_beyond}
 use Rattle.diagram_import.specs.declared.importing.Options.{Options}
 use Rattle.diagram_import.specs.declared.skipping.Skip.{Skip}
 
--- which lines are skipped, which lines of the diagram are joined, and whether nothing may be left out
+-- the lines to skip, the lines of the diagram to join, and whether a skipped construct is refused
 pub record OptionsView : Type 0 where
   pub skipped : List Skip
   pub joins : List JoinView
@@ -26,11 +26,11 @@ pub record OptionsView : Type 0 where
 abbrev pub options_view : Options → OptionsView
 options_view o = record { skipped = o.skipped.now; joins = map join_view o.joins.now; is_strict = o.is_strict }
 
--- the text behind its byte order mark, if it begins with one
+-- the text after its byte order mark, if it begins with one
 unfoldable pub behind_mark : List ℕ → List ℕ
 behind_mark text = if starts_with nat_eq text (239 ∷ 187 ∷ 191 ∷ []) then drop 3 text else text
 
--- the first of these places
+-- the earlier of two places: the one so far, if there is one, and this one
 abbrev pub with_place : Option Place → Place → Option Place
 with_place None place = Some place
 with_place (Some first) place = Some (earlier first place)
@@ -39,12 +39,12 @@ unfoldable pub first_place : Option Place → List LeftOut → Option Place
 first_place so_far [] = so_far
 first_place so_far (l ∷ left_out) = first_place (with_place so_far l.first) left_out
 
--- the same, with messages that are left out since they overtake another one
+-- the same, with messages that are skipped because they overtake another one
 unfoldable pub first_overtaking : Option Place → List Overtaking → Option Place
 first_overtaking so_far [] = so_far
 first_overtaking so_far (o ∷ overtaking) = first_overtaking (with_place so_far o.place) overtaking
 
--- where nothing may be left out, the first thing that is decides
+-- the chart, or the refusal of the first skipped construct
 abbrev pub strictly_at : List ℕ → JoinedChartView → Option Place → Result JoinedChartView Refusal
 strictly_at text d None = Ok d
 strictly_at text d (Some place) = Err (NotRead place (words_at text place))
@@ -53,7 +53,7 @@ unfoldable pub strictly : Bool → List ℕ → JoinedChartView → Result Joine
 strictly true text d = strictly_at text d (first_overtaking (first_place None d.built.left_out) d.overtaking)
 strictly false text d = Ok d
 
--- a text without skipped lines and without a byte order mark
+-- the chart of a text without skipped lines and without a byte order mark
 unfoldable pub imported_from : Option Tool → List JoinView → Bool → List ℕ → Result JoinedChartView Refusal
 imported_from tool joins is_strict text = do
   own ← tool_in tool text
@@ -61,7 +61,7 @@ imported_from tool joins is_strict text = do
   chart ← refused_as NoChart (built_joined diagram joins)
   strictly is_strict text chart
 
--- what a text is imported as
+-- the chart of a text
 unfoldable pub imported : Option Tool → List ℕ → OptionsView → Result JoinedChartView Refusal
 imported tool text options =
     if is_beyond options.skipped (lines_from 0 false text) then Err Usage

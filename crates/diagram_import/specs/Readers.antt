@@ -1,4 +1,4 @@
--- The diagram that a text says, in the language of its tool.
+-- The diagram of a text, in the language of its tool.
 use Rattle.std.specs.Prelude.{ℕ, List, Option, None, Some, Result, Ok, Err}
 use Rattle.diagrams.specs.Diagrams.{DiagramView}
 use Rattle.diagrams.specs.Drawing.{◌>>=◌}
@@ -22,7 +22,7 @@ use Rattle.diagram_tool.specs.declared.Tool.TheVariants.{Mscgen, PlantUml, Merma
 use Rattle.diagram_import.specs.Refusals.{Refusal, NotRead, Unfinished, UnknownInstance, NoChart}
 use Rattle.diagram_import.specs.Shown.{words_at}
 
--- the words at a place can't be read
+-- the refusal of words at a place that can't be read
 abbrev pub not_read : List ℕ → ℕ → ℕ → Refusal
 not_read text line column = NotRead (record { line = line; column = column }) (words_at text (record { line = line; column = column }))
 
@@ -33,12 +33,12 @@ of_mscgen text mscgen_faults.Unfinished = Unfinished
 of_mscgen text mscgen_faults.Instances = NoChart Instances
 of_mscgen text (mscgen_faults.UnknownEntity line) = UnknownInstance line
 
--- the refusal of a fault in a text of lines
+-- the refusal of a fault in a text of PlantUML or Mermaid
 abbrev pub of_lines : List ℕ → Fault → Refusal
 of_lines text (faults.NotRead place) = not_read text place.line place.column
 of_lines text faults.Unfinished = Unfinished
 
--- the refusal of a text that tells no tool
+-- the refusal of a text without a detected tool
 abbrev pub of_no_tool : List ℕ → ToolError → Refusal
 of_no_tool text (no_tool.NotRead place) = not_read text place.line place.column
 of_no_tool text no_tool.Unfinished = Unfinished
@@ -47,16 +47,16 @@ abbrev pub refused_as : {A E : Type 0} → (E → Refusal) → Result A E → Re
 refused_as refusal (Ok x) = Ok x
 refused_as refusal (Err e) = Err (refusal e)
 
--- the tool of a text: the one that was named, or that the text tells
+-- the tool of a text: the named one, or otherwise the detected one
 unfoldable pub tool_in : Option Tool → List ℕ → Result Tool Refusal
 tool_in (Some tool) text = Ok tool
 tool_in None text = refused_as (of_no_tool text) (detected_tool text)
 
--- the diagram of what is read of a text of lines
+-- the diagram of the statements of a text of PlantUML or Mermaid
 abbrev pub lines_in : Breaks → List ℕ → ReadView → Result DiagramView Refusal
 lines_in breaks text read = refused_as (of_lines text) (folds.diagram_of breaks read)
 
--- the diagram that a text says
+-- the diagram of a text
 unfoldable pub diagram_in : Tool → List ℕ → Result DiagramView Refusal
 diagram_in Mscgen text = refused_as (of_mscgen text) (mscgen.diagram_of text)
 diagram_in Mermaid text = lines_in breaks.Mermaid text (mermaid.diagram_of text)

@@ -5,8 +5,8 @@ use Rattle.diagram_join.specs.declared.error.JoinError.{JoinError}
 use Rattle.diagram_import.specs.declared.error.ImportError.{ImportError}
 use Rattle.diagram_import.specs.declared.error.ImportError.TheVariants as errors
 
--- a line that is skipped isn't there; the words at a place can't be read, or may not be left out; the text ends too
--- early; an arc names no entity; there is no chart
+-- a line to skip doesn't exist; the words at a place can't be read, or may not be skipped; the text ends too early; an
+-- arc names an unknown entity; there is no chart
 pub data Refusal : Type 0 where
   Usage : Refusal
   NotRead : Place → List ℕ → Refusal
@@ -23,7 +23,7 @@ IsOf errors.Unfinished refusal = refusal ≡ Unfinished
 IsOf (errors.UnknownInstance line) refusal = refusal ≡ UnknownInstance line
 IsOf (errors.NoChart error) refusal = refusal ≡ NoChart error
 
--- an error is the refusal of what is read, unless memory ran out
+-- an error is the refusal, unless memory ran out
 abbrev pub Fails : {Y : Type 0} → ImportError → Result Y Refusal → Type 0
 Fails errors.Memory read = Unit {0}
 Fails errors.Usage read = read ≡ Err Usage
@@ -32,7 +32,7 @@ Fails errors.Unfinished read = read ≡ Err Unfinished
 Fails (errors.UnknownInstance line) read = read ≡ Err (UnknownInstance line)
 Fails (errors.NoChart error) read = read ≡ Err (NoChart error)
 
--- what was returned, seen by view, is what reading gives, unless memory ran out
+-- the result, seen through view, is the defined one, unless memory ran out
 abbrev pub Gives : {X Y : Type 0} → (X → Y) → Result X ImportError → Result Y Refusal → Type 0
 Gives view (Ok x) read = read ≡ Ok (view x)
 Gives view (Err e) read = Fails e read

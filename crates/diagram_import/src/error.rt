@@ -11,16 +11,16 @@ use std::alloc::{AllocError, AllocFailed};
 pub enum ImportError {
     /// F6: a growth was refused.
     Memory,
-    /// G1: a line that is to be skipped isn't there.
+    /// G1: a line to skip doesn't exist.
     Usage,
-    /// F35: the words at this place can't be read, or may not be left out. They are at most 40 bytes, with `?` for each
-    /// that doesn't print.
+    /// F35: the words at this place can't be read, or may not be skipped. They are at most 40 bytes, with `?` for each
+    /// byte that doesn't print.
     NotRead(Place, Vec<u8>),
     /// F21: the text ends too early.
     Unfinished,
-    /// F23: in the line with this number an arc of mscgen names an entity that there isn't.
+    /// F23: in the line with this number an arc of mscgen names an entity that doesn't exist.
     UnknownInstance(u64),
-    /// F7, F8, F22, F34 or F37: there is no such chart.
+    /// F7, F8, F22, F34 or F37: the diagram has no chart.
     NoChart(JoinError),
 }
 

@@ -1,4 +1,4 @@
-//! Texts, read whole.
+//! Whole texts.
 ghost use Rattle.std.specs.Prelude.{◌≡◌, None, length, map, IfOk};
 ghost use Rattle.chart.specs.Charts.{chart_lines, IsPossible};
 ghost use Rattle.diagram_join.specs.Drawing.{joined_chart_view};
@@ -18,15 +18,15 @@ use std::alloc::Global;
 /// How a text is imported.
 #[derive(Clone, Copy, Debug)]
 pub struct Options<'a> {
-    /// The lines that are skipped.
+    /// The lines to skip.
     pub skipped: &'a [Skip],
-    /// The lines of the diagram that are joined.
+    /// The lines of the diagram to join.
     pub joins: &'a [Join<'a>],
-    /// Whether nothing may be left out.
+    /// Whether the first construct that would be skipped is refused.
     pub is_strict: bool,
 }
 
-/// The text behind its byte order mark, if it begins with one.
+/// The text after its byte order mark, if it begins with one.
 #[tactic(auto, unfolding(crate::specs::Importing::behind_mark))]
 pub fn behind_mark(text: &[u8]) -> &[u8]
     ensures { result.now ≡ behind_mark text.now }
@@ -38,7 +38,7 @@ pub fn behind_mark(text: &[u8]) -> &[u8]
     }
 }
 
-/// The first of these places.
+/// The earlier of two places: the one so far, if there is one, and this one.
 fn with_place(so_far: Option<Place>, place: Place) -> Option<Place>
     ensures { result ≡ with_place so_far place }
 {
@@ -54,7 +54,7 @@ fn with_place(so_far: Option<Place>, place: Place) -> Option<Place>
     }
 }
 
-/// The place of the first thing that is left out.
+/// The place of the first skipped construct.
 fn first_place(left_out: &[LeftOut]) -> Option<Place>
     ensures { result ≡ first_place None left_out.now }
 {
@@ -65,7 +65,7 @@ fn first_place(left_out: &[LeftOut]) -> Option<Place>
     first
 }
 
-/// The first of this place and those of messages that overtake another one.
+/// The earliest of this place and the places of overtaking messages.
 fn first_overtaking(so_far: Option<Place>, overtaking: &[Overtaking]) -> Option<Place>
     ensures { result ≡ first_overtaking so_far overtaking.now }
 {
@@ -76,7 +76,7 @@ fn first_overtaking(so_far: Option<Place>, overtaking: &[Overtaking]) -> Option<
     first
 }
 
-/// The chart, unless nothing may be left out and something is.
+/// The chart, unless the import is strict and something is skipped.
 #[tactic(auto, unfolding(crate::specs::Importing::strictly))]
 fn strictly(
     alloc: Global,
@@ -121,13 +121,13 @@ fn imported_from(
     }
 }
 
-/// The chart that a diagram says which was drawn for another tool, or the first of its refusals. It takes time in
-/// proportion to n log n for a text of n bytes, and memory in proportion to n.
+/// The chart of another tool's diagram, or its first refusal. The time is in proportion to n log n for a text of n
+/// bytes, and the memory in proportion to n.
 ///
-/// The tool is the one that is named, or that the text tells. G1 refuses lines to be skipped that aren't there. Then
-/// F35 and F21 refuse what can't be read, F23 an arc of mscgen with an entity that there isn't, and F8, F34, F22, F37
-/// and F7 a diagram without a chart. Where nothing may be left out, F35 refuses the first thing that would be. F6 may
-/// come at any point.
+/// The tool is the named one, or otherwise the detected one. G1 refuses lines to skip that don't exist. Then F35 and
+/// F21 refuse text that can't be read, and F23 an arc of mscgen with an entity that doesn't exist. F8, F34, F22, F37
+/// and F7 refuse a diagram without a chart. A strict import refuses the first construct that would be skipped, as F35.
+/// F6 may come at any point.
 #[tactic(auto, unfolding(crate::specs::Importing::imported))]
 pub fn import_text(
     alloc: Global,

@@ -1,13 +1,15 @@
-//! Charts from sequence diagrams that were drawn for other tools.
+//! Charts from sequence diagrams of other tools.
 //!
-//! What is promised, unless an allocation is refused ([`import_text`]): the chart, what is left out and what is
-//! told of names are a function of the text's bytes and of the options (`specs/Importing`), and any other text gets
-//! its first refusal. Lines that are skipped are blanks before anything is read. Where nothing may be left out, the
-//! first thing that would be is refused. What a text says before any chart is drawn is a function of them too
-//! ([`diagram_of_text`], `specs/Reading`). What else reads the text reads it without skipped lines and byte order
-//! mark too ([`blanked`], [`behind_mark`]), and finds a place in it ([`without_lines`], [`from_column`]).
+//! [`import_text`] promises this, unless an allocation is refused. The chart, the skipped constructs and the reported
+//! names depend only on the text's bytes and on the options (`specs/Importing`). If a text has no chart, the result is
+//! its first refusal. Skipped lines become blanks before anything is read. A strict import refuses the first construct
+//! that would be skipped.
 //!
-//! [`margin`] has the notes and dividers that stand in a picture's margin.
+//! The diagram of a text depends only on them too ([`diagram_of_text`], `specs/Reading`). Other readers also use the
+//! text without skipped lines and byte order mark ([`blanked`], [`behind_mark`]), and find a place in it
+//! ([`without_lines`], [`from_column`]).
+//!
+//! [`margin`] has the notes and dividers in a picture's margin.
 #![tactic(auto)]
 
 mod error;

@@ -1,7 +1,7 @@
-//! The notes and dividers of another tool's diagram, and where they stand among its messages.
+//! The notes and dividers of another tool's diagram, and their places among its messages.
 //!
-//! What is promised: the notes are those of the text that are no sends or receives, and its dividers, each by its
-//! own words and with the number of the messages above it in the text ([`notes_of_text`], `specs/Margin/Texts`,
+//! [`notes_of_text`] promises this. The notes are those of the text that are neither sends nor receives. Each note and
+//! each divider has its own words and the number of messages above it in the text (`specs/Margin/Texts`,
 //! `specs/Margin/Placing`). Memory is the only refusal.
 
 mod arcs;

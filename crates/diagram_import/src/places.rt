@@ -1,4 +1,4 @@
-//! The words that are told of a place.
+//! The words that are reported for a place.
 ghost use Rattle.std.specs.Prelude.{◌≡◌, ◌<◌, ◌-◌, ◌==◌, length, position, IfOk, IfSome};
 ghost use Rattle.diagram_import.specs.Shown.{before, without_lines, from_column, shown_from, words_at};
 
@@ -7,7 +7,7 @@ use diagrams::Place;
 use std::alloc::{AllocError, Global};
 use texts::bytes::printable;
 
-/// The place of the first such byte.
+/// The place of the first byte with this value.
 fn place_of(text: &[u8], byte: u8) -> Option<usize>
     ensures value { result ≡ position (λ b. b == byte) text.now }
     ensures within { IfSome result (λ place. place < length text.now) }
@@ -15,7 +15,7 @@ fn place_of(text: &[u8], byte: u8) -> Option<usize>
     text.iter().position(|b| *b == byte)
 }
 
-/// What stands before the first such byte.
+/// The text before the first byte with this value.
 #[tactic(auto, unfolding(crate::specs::Shown::before))]
 fn before(text: &[u8], byte: u8) -> &[u8]
     ensures { result.now ≡ before byte text.now }
@@ -26,7 +26,7 @@ fn before(text: &[u8], byte: u8) -> &[u8]
     }
 }
 
-/// The text without so many lines.
+/// The text without its first `count` lines.
 pub fn without_lines(text: &[u8], count: u64) -> &[u8]
     ensures { result.now ≡ without_lines count text.now }
 {
@@ -38,7 +38,7 @@ pub fn without_lines(text: &[u8], count: u64) -> &[u8]
     rest
 }
 
-/// The bytes behind so many, as they are shown.
+/// The first 40 bytes at most, as they are shown.
 fn shown(alloc: Global, bytes: &[u8]) -> Result<Vec<u8>, AllocError>
     ensures { IfOk result (λ words. words.items ≡ shown_from 1 bytes.now) }
 {
@@ -49,7 +49,7 @@ fn shown(alloc: Global, bytes: &[u8]) -> Result<Vec<u8>, AllocError>
         .collect(alloc)
 }
 
-/// The line from this column on, the first of which is 1.
+/// The line from this column on. Columns are counted from 1.
 pub fn from_column(line: &[u8], column: u64) -> &[u8]
     ensures { result.now ≡ from_column column line.now }
 {
@@ -61,7 +61,7 @@ pub fn from_column(line: &[u8], column: u64) -> &[u8]
     }
 }
 
-/// What is told of a place: at most 40 bytes of its line, with `?` for each that doesn't print.
+/// The words that are reported for a place: at most 40 bytes of its line, with `?` for each that doesn't print.
 #[tactic(auto, unfolding(crate::specs::Shown::words_at))]
 pub(crate) fn words_at(alloc: Global, text: &[u8], place: Place) -> Result<Vec<u8>, AllocError>
     ensures { IfOk result (λ words. words.items ≡ words_at text.now place) }

@@ -1,4 +1,4 @@
-//! The diagram of a text, whatever chart it comes to.
+//! The diagram of a text, whether or not it has a chart.
 ghost use Rattle.diagrams.specs.Diagrams.{diagram_view};
 ghost use Rattle.diagram_import.specs.Importing.{options_view};
 ghost use Rattle.diagram_import.specs.Reading.{diagram_from, diagram_of_text};
@@ -21,12 +21,11 @@ fn diagram_from(alloc: Global, tool: Option<Tool>, text: &[u8]) -> Result<Diagra
     diagram_in(alloc, tool, text)
 }
 
-/// The diagram that a text says which was drawn for another tool, or the first of its refusals. It takes time and
-/// memory in proportion to the text.
+/// The diagram of another tool's text, or its first refusal. Time and memory are in proportion to the text.
 ///
-/// The tool is the one that is named, or that the text tells. G1 refuses lines to be skipped that aren't there. Then
-/// F35 and F21 refuse what can't be read, and F23 an arc of mscgen with an entity that there isn't. F6 may come at any
-/// point. Whether a chart can be drawn isn't asked.
+/// The tool is the named one, or otherwise the detected one. G1 refuses lines to skip that don't exist. Then F35 and
+/// F21 refuse text that can't be read, and F23 an arc of mscgen with an entity that doesn't exist. F6 may come at any
+/// point. The diagram need not have a chart.
 #[tactic(auto, unfolding(crate::specs::Reading::diagram_of_text))]
 pub fn diagram_of_text(
     alloc: Global,

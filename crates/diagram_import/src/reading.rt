@@ -1,4 +1,4 @@
-//! The diagram that a text says, in the language of its tool.
+//! The diagram of a text, in the language of its tool.
 ghost use Rattle.diagrams.specs.Diagrams.{diagram_view};
 ghost use Rattle.diagram_statements.specs.declared.to_diagram.labels.Breaks.TheVariants.{Mermaid, PlantUml};
 ghost use Rattle.diagram_statements.specs.Readings.{read_view};
@@ -18,7 +18,7 @@ use diagram_tool::detection::{ToolError, detected_tool};
 use diagrams::{Diagram, Place};
 use std::alloc::Global;
 
-/// The words at this place can't be read.
+/// The refusal of words at this place that can't be read.
 fn not_read(alloc: Global, text: &[u8], line: u64, column: u64) -> ImportError
     ensures { IsOf result (not_read text.now line column) }
 {
@@ -46,7 +46,7 @@ fn of_mscgen(alloc: Global, text: &[u8], fault: diagram_mscgen::reading::Fault) 
     }
 }
 
-/// The refusal of a fault in a text of lines.
+/// The refusal of a fault in a text of PlantUML or Mermaid.
 fn of_lines(alloc: Global, text: &[u8], fault: diagram_statements::Fault) -> ImportError
     ensures { IsOf result (of_lines text.now fault) }
 {
@@ -61,7 +61,7 @@ fn of_lines(alloc: Global, text: &[u8], fault: diagram_statements::Fault) -> Imp
     }
 }
 
-/// The tool of a text: the one that is named, or that the text tells.
+/// The tool of a text: the named one, or otherwise the detected one.
 #[tactic(auto, unfolding(crate::specs::Readers::tool_in))]
 pub(crate) fn tool_in(alloc: Global, tool: Option<Tool>, text: &[u8]) -> Result<Tool, ImportError>
     ensures { Gives (λ tool. tool) result (tool_in tool text.now) }
@@ -87,7 +87,7 @@ fn mscgen_in(alloc: Global, text: &[u8]) -> Result<Diagram, ImportError>
     }
 }
 
-/// The diagram of what is read of a text of lines.
+/// The diagram of the statements of a text of PlantUML or Mermaid.
 fn lines_in(
     alloc: Global,
     breaks: Breaks,
@@ -122,7 +122,7 @@ fn plantuml_in(alloc: Global, text: &[u8]) -> Result<Diagram, ImportError>
     lines_in(alloc, Breaks::PlantUml, text, &read)
 }
 
-/// The diagram that a text says.
+/// The diagram of a text.
 #[tactic(auto, unfolding(crate::specs::Readers::diagram_in))]
 pub(crate) fn diagram_in(alloc: Global, tool: Tool, text: &[u8]) -> Result<Diagram, ImportError>
     ensures { Gives diagram_view result (diagram_in tool text.now) }

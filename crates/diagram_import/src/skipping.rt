@@ -1,10 +1,10 @@
-//! Lines of a text that are skipped.
+//! Skipped lines of a text.
 ghost use Rattle.std.specs.Prelude.{◌≡◌, false, IfOk};
 ghost use Rattle.diagram_import.specs.Skipping.{is_skipped, read_byte, line_behind, blanked_from, lines_from, is_beyond};
 
 use std::alloc::{AllocError, Global};
 
-/// Lines that are skipped: from the first to the last of them, counted from 1.
+/// Lines to skip: from the first to the last of them, counted from 1.
 #[derive(Clone, Copy, Debug, PartialEq, Eq)]
 pub struct Skip {
     pub first: u64,
@@ -20,14 +20,14 @@ fn is_skipped(skips: &[Skip], line: u64) -> bool
         .any(|skip| skip.first <= line && line <= skip.last)
 }
 
-/// Whether a line that is to be skipped isn't among so many.
+/// Whether a line to skip is beyond this number of lines.
 pub(crate) fn is_beyond(skips: &[Skip], count: u64) -> bool
     ensures { result ≡ is_beyond skips.now count }
 {
     skips.iter().any(|skip| count < skip.last)
 }
 
-/// The number behind a byte: a line feed ends a line. Where it would not fit, the answer is F6.
+/// The number of the line after a byte: a line feed ends a line. F6 if the number doesn't fit.
 fn line_behind(line: u64, byte: u8) -> Result<u64, AllocError>
     ensures { IfOk result (λ next. next ≡ line_behind line byte) }
 {
@@ -51,7 +51,7 @@ fn read_byte(skips: &[Skip], line: u64, byte: u8) -> u8
     }
 }
 
-/// How many lines a text has. The last one needs no line feed. Where the count would not fit, the answer is F6.
+/// The number of lines of a text. The last one needs no line feed. F6 if the number doesn't fit.
 pub(crate) fn count_of_lines(text: &[u8]) -> Result<u64, AllocError>
     ensures { IfOk result (λ count. count ≡ lines_from 0 false text.now) }
 {
@@ -68,7 +68,7 @@ pub(crate) fn count_of_lines(text: &[u8]) -> Result<u64, AllocError>
     Ok(all)
 }
 
-/// The text with blanks for the lines that are skipped. Where a line's number would not fit, the answer is F6.
+/// The text with blanks for the skipped lines. F6 if the number of a line doesn't fit.
 pub fn blanked(alloc: Global, skips: &[Skip], text: &[u8]) -> Result<Vec<u8>, AllocError>
     ensures { IfOk result (λ bytes. bytes.items ≡ blanked_from skips.now 1 text.now) }
 {

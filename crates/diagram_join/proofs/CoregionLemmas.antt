@@ -1,4 +1,4 @@
--- Coregions of messages that come from the last one to the first, and the rows that are cut.
+-- Coregions of messages that come from the last one to the first, and the cut rows.
 use Rattle.std.proofs.Common.{◌≡◌, ℕ, ◌+◌, ◌<◌, ◌≤◌, Bool, true, false, not, ◌&&◌, ◌||◌, ◌==◌, cond, List, [], ◌∷◌, ◌++◌, Option, None, Some, length, drop, get_or, refl, sym, ap, ◌∙◌, subst, arith, append_assoc}
 use Rattle.std.specs.List.{list_any, position_or_len}
 use Rattle.std.specs.Map.{lookup}
@@ -13,7 +13,7 @@ use Rattle.diagram_join.specs.declared.coregions.Row.{Row}
 use Rattle.diagram_join.specs.declared.coregions.Spot.{Spot}
 
 module _ (row p line : ℕ) where
-  -- what one more message at the beginning makes of a coregion, where it is one of its receives or isn't
+  -- a coregion with one more message at the beginning, which is one of its receives or isn't
   abbrev with_first : Bool → ℕ → List Message → Option Coregion
   with_first its place later =
       cond (its || list_any (is_own row p line) later)
@@ -77,7 +77,7 @@ module _ (row p line : ℕ) where
       ∙ ap (λ n. Some (record { first = n; is_parted = list_any (is_own row p line) (behind (is_other row p line) later) })) (omega arith)
       ∙ ap (λ b. Some (record { first = place; is_parted = b })) (parted_more (place + 1) later)
 
--- the place of the first message that passes a test, where none does
+-- the place of the first element that passes a test, if none does
 pub nowhere : {A : Type 0} (test : A → Bool) (xs : List A) → list_any test xs ≡ false → position_or_len test xs ≡ length xs
 nowhere test [] none = refl
 nowhere test (x ∷ xs) none = go (test x) (nowhere test xs) none
@@ -99,7 +99,7 @@ three : (a b c : Bool) → ((a && b) && c) ≡ (a && (b && c))
 three true b c = refl
 three false b c = refl
 
--- one receive more
+-- one more receive
 pub coregions_next : (old new : List (Spot × Coregion)) (place : ℕ) (m : Message) (later : List Message) (c : Coregion) → m.is_lost ≡ false → AreCoregions old (place + 1) later
     → c ≡ record { first = place; is_parted = parted_with (coregion_of (place + 1) later m.ends m.receiver m.line) (next_line later m.ends m.receiver) m.line }
     → ((q : Spot) → lookup (same_spot q) new ≡ cond (same_spot (spot_of m) q) (Some c) (lookup (same_spot q) old)) → AreCoregions new place (m ∷ later)
@@ -171,7 +171,7 @@ place_none entries messages count place m are many none = go (list_any (is_own m
     go true e is = absurd (cc is)
     go false e is = many ∙ sym (nowhere (is_own m.ends m.receiver m.line) messages e) ∙ sym (ap (λ b. cond b place (position_or_len (is_own m.ends m.receiver m.line) messages)) (no_part e))
 
--- one message more
+-- one more message
 pub cut_more : (messages : List Message) (n : ℕ) (so_far more all : List Message) (m : Message) → n < length messages → m ≡ get_or messages n m → more ≡ so_far ++ cut messages n m ∷ []
     → so_far ++ cut_from messages n (drop n messages) ≡ all → more ++ cut_from messages (n + 1) (drop (n + 1) messages) ≡ all
 unfolding cut_from

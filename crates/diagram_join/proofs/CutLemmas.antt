@@ -1,4 +1,4 @@
--- Messages that follow each other still do in rows that are cut.
+-- Messages that follow each other still do in cut rows.
 use Rattle.std.proofs.Common.{◌≡◌, ℕ, suc, ◌+◌, ◌*◌, ◌<◌, ◌≤◌, Bool, true, false, not, ◌&&◌, ◌||◌, ◌==◌, cond, List, [], ◌∷◌, ◌++◌, length, refl, sym, ap, ◌∙◌, subst, arith, append_assoc}
 use Rattle.std.specs.Prelude.{nat_lt}
 use Rattle.std.specs.List.{list_any, position_or_len}
@@ -48,7 +48,7 @@ module _ (test : Message → Bool) where
       go true next = refl
       go false next = next
 
-  -- the first that passes stands no further down than any that does
+  -- the first element that passes is no further down than any other that does
   no_later : (xs : List Message) (m : Message) (rest : List Message) → test m ≡ true → position_or_len test (xs ++ m ∷ rest) ≤ length xs
   no_later [] m rest e = omega (arith, ap (λ b. cond (not b) (1 + position_or_len test rest) 0) e)
   no_later (x ∷ xs) m rest e = go (test x) (no_later xs m rest e)
@@ -57,7 +57,7 @@ module _ (test : Message → Bool) where
       go true next = omega arith
       go false next = omega (arith, next)
 
-  -- and below those that don't
+  -- the first element that passes is below those that don't
   not_before : (xs rest : List Message) → list_any test xs ≡ false → length xs ≤ position_or_len test (xs ++ rest)
   not_before [] rest e = omega arith
   not_before (x ∷ xs) rest e = go (test x) (not_before xs rest) e
@@ -116,7 +116,7 @@ in_order pre m mid n rest i j at_i at_j here there row to = go (is_parted all n.
     go false e false f true g = absurd (cc (sym e ∙ parts n.ends n.receiver n.line pre m mid n rest g (other f) (own_itself n there)))
     go false e false f false g = omega (arith, low, at_i, not_before (is_own n.ends n.receiver n.line) pre (m ∷ (mid ++ n ∷ rest)) g)
 
--- Messages that follow each other, whatever their names.
+-- Messages that follow each other, without regard to their names.
 
 abbrev pub bare : Message → Named
 bare m = named_as m []
@@ -148,7 +148,7 @@ module _ (items : List ItemView) where
   pairs_forth labels [] all = tt
   pairs_forth labels (m ∷ messages) all = (each_forth (with_label labels (label_at items m.item)) m _ messages all.0, pairs_forth (with_label labels (label_at items m.item)) messages all.1)
 
-  -- each message of n instances, in rows that are cut
+  -- each message of n instances, in cut rows
   pub each_cut : (n : ℕ) (labels more : Labelling) (all : List Message) (i : ℕ) (messages : List Message) → Each (IsMessage n) (named_from labels items messages) → Each (IsMessage n) (named_from more items (cut_from all i messages))
   unfolding named_from cut_from
   each_cut n labels more all i [] each = tt
@@ -212,7 +212,7 @@ pairs_cut pre (m ∷ rest) all i is at_i pairs = (
   pairs_cut (pre ++ m ∷ []) rest all (i + 1) (is ∙ sym (append_assoc pre (m ∷ []) rest)) (omega (arith, at_i, length-append pre (m ∷ []))) pairs.1,
 )
 
--- a chart can be drawn of messages in rows that are cut where one can be drawn of them
+-- messages that have a chart also have one in cut rows
 pub built_cut : (n : ℕ) (labels : Labelling) (items : List ItemView) (messages : List Message) → AreBuildable n (named_from labels items messages) → AreBuildable n (named_from labels items (cut_from messages 0 messages))
 built_cut n labels items messages are = record {
   each = each_cut items n labels labels messages 0 messages are.each;

@@ -1,4 +1,4 @@
--- The chart of a diagram whose lines are joined, of its parts and step by step.
+-- The chart of a diagram whose lines are joined: its parts, and its steps.
 use Rattle.std.proofs.Common.{◌≡◌, ℕ, ◌<◌, ◌≤◌, List, [], ◌∷◌, Result, Ok, false, length, map, refl, sym, ap, arith}
 use Rattle.chart.specs.Charts.{LineView}
 use Rattle.diagram_labels.specs.Labels.{none}
@@ -19,7 +19,7 @@ use Rattle.diagram_join.specs.Joins.{JoinView}
 use Rattle.diagram_join.specs.declared.error.JoinError.{JoinError}
 use Rattle.diagram_join.specs.declared.error.JoinError.TheVariants.{Memory, NoSuchLine, Taken, Instances, NotPossible, LineFull}
 
--- a chart and what is told, of their parts
+-- a chart and the names to report, from their parts
 pub built_parts : (participants : List Participant) (items : List ItemView) (lines : List (List ℕ)) (j : JoinedView) (chart : List LineView) (overtakings : List (List ℕ × List ℕ))
     → chart ≡ lines_from (all_ends (named_from none items (cut_from j.messages 0 j.messages))) 1 (length j.names)
     → overtakings ≡ renamed_from (renamed_from [] (map (λ (p : Participant). p.label.items) participants) lines)
@@ -34,7 +34,7 @@ pub as_many_names : (v : JoinedChartView) (participants : List ParticipantView) 
 unfolding joined_chart_of
 as_many_names v participants items lines j is = rw is (sym (length-lines (all_ends (named_from none items (cut_from j.messages 0 j.messages))) 1 (length j.names)))
 
--- a step that failed decides
+-- the first step that fails decides
 fails_first : {A B : Type 0} (error : JoinError) (r : Result A JoinError) (f : A → Result B JoinError) → Fails error r → Fails error (r >>= f)
 fails_first Memory r f h = tt
 fails_first NoSuchLine r f h = ap (λ s. s >>= f) h

@@ -1,4 +1,4 @@
--- Each line's instance is one of those that have names.
+-- Each line's instance is one of the named ones.
 use Rattle.std.proofs.Common.{◌≡◌, ℕ, zero, suc, ◌+◌, ◌-◌, ◌<◌, ◌≤◌, Bool, true, false, not, ◌||◌, cond, List, [], ◌∷◌, ◌++◌, Option, None, Some, length, get_or, refl, sym, ap, ◌∙◌, arith}
 use Rattle.std.specs.Prelude.{Contains, nat_lt, bytes_eq, slice_get, option_map, option_and_then, unwrap_or, is_some}
 use Rattle.std.specs.List.{list_any, position, position_or_len}
@@ -13,7 +13,7 @@ use Rattle.diagram_join.specs.Joins.{names_from}
 use Rattle.diagram_join.specs.Moves.{instance_at}
 use Rattle.diagram_join.proofs.CoregionLemmas.{nowhere}
 
--- what passes a test has a place
+-- an element that passes a test has a place
 somewhere : {A : Type 0} (test : A → Bool) (xs : List A) → list_any test xs ≡ true → position_or_len test xs < length xs
 somewhere test [] e = absurd (cc e)
 somewhere test (x ∷ xs) e = go (test x) (somewhere test xs) e
@@ -22,7 +22,7 @@ somewhere test (x ∷ xs) e = go (test x) (somewhere test xs) e
     go true next e = omega arith
     go false next e = omega (arith, next e)
 
--- a name is found where it is there
+-- a name in the list is found
 found : (names : List (List ℕ)) (name : List ℕ) (d : ℕ) → list_any (bytes_eq name) names ≡ true → (1 ≤ unwrap_or (instance_of names name) d) × (unwrap_or (instance_of names name) d ≤ length names)
 found names name d there = go (nat_lt (position_or_len (bytes_eq name) names) (length names)) refl
   where
@@ -40,7 +40,7 @@ there_if names name e = go (list_any (bytes_eq name) names) refl (nat_lt (positi
     go false f true g h = let within = ltb-true (position_or_len (bytes_eq name) names) (length names) g in absurd (omega (arith, within, nowhere (bytes_eq name) names f))
     go false f false g h = absurd (cc h)
 
--- a name is an instance's exactly where it is there
+-- a name is found exactly if it is in the list
 pub named_if : (names : List (List ℕ)) (name : List ℕ) → Contains names name → is_some (instance_of names name) ≡ true
 named_if names name there = go (nat_lt (position_or_len (bytes_eq name) names) (length names)) refl
   where
@@ -55,7 +55,7 @@ unnamed_if names name absent = go (is_some (instance_of names name)) refl
     go true e = absurd (absent (Contains-found names name (there_if names name e)))
     go false e = refl
 
--- a name stays
+-- a name stays in the list
 kept_in : (names processes : List (List ℕ)) (name : List ℕ) → list_any (bytes_eq name) names ≡ true → list_any (bytes_eq name) (names_from names processes) ≡ true
 unfolding names_from
 kept_in names [] name there = there
@@ -65,7 +65,7 @@ kept_in names (process ∷ processes) name there = kept_in (cond (is_some (insta
     go true = there
     go false = list_any-append (bytes_eq name) names (process ∷ []) ∙ ap (λ b. b || list_any (bytes_eq name) (process ∷ [])) there
 
--- each process has its name
+-- the name of each process is in the list
 all_in : (names processes : List (List ℕ)) (i : ℕ) → i < length processes → list_any (bytes_eq (get_or processes i [])) (names_from names processes) ≡ true
 unfolding names_from
 all_in names [] i within = absurd (omega (arith, within))

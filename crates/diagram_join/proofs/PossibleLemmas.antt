@@ -1,4 +1,4 @@
--- A chart can be drawn of a diagram whose lines are joined.
+-- A diagram whose lines are joined has a chart.
 use Rattle.std.proofs.Common.{◌≡◌, ℕ, ◌≤◌, Bool, true, false, cond, List, [], Option, None, Some, Result, Ok, Err, length, map, refl, sym, ap, subst}
 use Rattle.std.specs.Prelude.{nat_lt}
 use Rattle.std.proofs.lemmas.Bool.{ltb-false}
@@ -32,7 +32,7 @@ value_or : {A : Type 0} → A → Result A JoinError → A
 value_or d (Ok x) = x
 value_or d (Err e) = d
 
--- what lines come to that are joined
+-- the result of joining lines
 joined_is : (participants : List ParticipantView) (lines : List (List ℕ)) (js : List JoinView) (messages : List Message) (left_out : List LeftOut) (j : JoinedView)
     → joined participants lines js messages left_out ≡ Ok j → j ≡ joined_of (map (process_of js) lines) messages left_out
 unfolding joined value_or
@@ -44,7 +44,7 @@ joined_is participants lines js messages left_out j is = go (is_misnamed lines j
     go false (Some line) e = absurd (cc e)
     go false None e = sym (ap (value_or j) e)
 
--- what passes all tests
+-- a result that passes all checks
 pub record Passes (fault : Option ℕ) (messages : List Message) (j : JoinedView) : Type 0 where
   pub sound : fault_from fault [] messages ≡ None
   pub few : full_from [] j.messages ≡ None
@@ -61,11 +61,11 @@ checked_is fault messages j k is = go (fault_from fault [] messages) refl (full_
     go None e None d true h is = absurd (cc is)
     go None e None d false h is = record { sound = e; few = d; several = ltb-false (length j.names) 2 h }
 
--- there are several instances
+-- there are at least two instances
 pub several_joined : (fault : Option ℕ) (messages : List Message) (j : JoinedView) → checked fault messages j ≡ Ok j → 2 ≤ length j.names
 several_joined fault messages j is = (checked_is fault messages j j is).several
 
--- a chart can be drawn of what joining leaves, in rows that are cut
+-- the messages that stay after joining have a chart in cut rows
 processes_built : (items : List ItemView) (processes : List (List ℕ)) (messages : List Message) (left_out : List LeftOut) (row : ℕ) → AreCollected (length processes) row messages
     → full_from [] (joined_of processes messages left_out).messages ≡ None
     → AreBuildable (length (joined_of processes messages left_out).names) (named_from none items (cut_from (joined_of processes messages left_out).messages 0 (joined_of processes messages left_out).messages))
@@ -93,7 +93,7 @@ collected_built participants items lines js left_out j one two =
     (processes_built items (map (process_of js) lines) c.messages c.left_out are.0 (subst (λ n. AreCollected n are.0 c.messages) many are.1)
     (subst (λ (k : JoinedView). full_from [] k.messages ≡ None) is passes.few))
 
--- the same, where the diagram's items come to this
+-- the same, for the collected messages of a diagram's items
 pub rows_built : (participants : List ParticipantView) (items : List ItemView) (lines : List (List ℕ)) (js : List JoinView) (left_out : List LeftOut) (c : CollectedView) (j : JoinedView)
     → c ≡ collected lines items left_out → joined participants lines js c.messages c.left_out ≡ Ok j → checked c.fault c.messages j ≡ Ok j
     → AreBuildable (length j.names) (named_from none items (cut_from j.messages 0 j.messages))

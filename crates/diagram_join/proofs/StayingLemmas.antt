@@ -1,4 +1,4 @@
--- What the messages of joined lines keep.
+-- Properties of the messages of joined lines.
 use Rattle.std.proofs.Common.{◌≡◌, ℕ, ◌≤◌, Bool, true, false, not, ◌||◌, ◌==◌, cond, List, [], ◌∷◌, ◌++◌, None, length, map, filter, refl, sym, ap, ◌∙◌, subst}
 use Rattle.std.specs.List.{list_any}
 use Rattle.std.proofs.lemmas.Bool.{or_parts, eqb-false}
@@ -23,7 +23,7 @@ module _ {A B : Type 0} (f : A → B) where
   pairs_map R [] all = tt
   pairs_map R (x ∷ xs) all = (each_map (R (f x)) xs all.0, pairs_map R xs all.1)
 
--- messages that stay are some of them
+-- the messages that stay are some of the messages
 each_staying : (P : Message → Type 0) (earlier messages : List Message) → Each P messages → Each P (staying_from earlier messages)
 unfolding staying_from
 each_staying P earlier [] all = tt
@@ -70,7 +70,7 @@ sound earlier stays (m ∷ messages) some = go (crosses earlier m) refl (λ more
 pub stays_sound : (messages : List Message) → fault_from None [] (staying_from [] messages) ≡ None
 stays_sound messages = sound [] [] messages (λ x none. none)
 
--- between instances
+-- messages between instances
 is_false : (b : Bool) → not b ≡ true → b ≡ false
 is_false true e = absurd (cc e)
 is_false false e = refl

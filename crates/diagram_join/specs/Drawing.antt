@@ -1,4 +1,4 @@
--- The chart that a diagram comes to whose lines are joined, and what is told of it.
+-- The chart of a diagram whose lines are joined, and the names to report.
 use Rattle.std.specs.Prelude.{ℕ, nat_lt, List, [], ◌∷◌, length, Option, None, Some, Result, Ok, Err, if◌then◌else◌}
 use Rattle.diagram_labels.specs.Labels.{none}
 use Rattle.diagrams.specs.Messages.Lines.{lines_from}
@@ -20,7 +20,7 @@ use Rattle.diagram_join.specs.declared.error.JoinError.{JoinError}
 use Rattle.diagram_join.specs.declared.error.JoinError.TheVariants.{Memory, Instances, NotPossible, LineFull}
 use Rattle.diagram_join.specs.declared.moves.Overtaking.{Overtaking}
 
--- what was drawn, and the messages that are left out since they overtake another one
+-- the chart, and the messages that are skipped because they overtake another one
 pub record JoinedChartView : Type 0 where
   pub built : DiagramChartView
   pub overtaking : List Overtaking
@@ -28,14 +28,14 @@ pub record JoinedChartView : Type 0 where
 abbrev pub joined_chart_view : JoinedChart → JoinedChartView
 joined_chart_view d = record { built = diagram_chart_view d.built; overtaking = d.overtaking.items }
 
--- the same refusal, of a diagram whose lines may be joined
+-- the same refusal, for a diagram whose lines may be joined
 abbrev pub join_error : DrawError → JoinError
 join_error draw.Memory = Memory
 join_error draw.Instances = Instances
 join_error (draw.LineFull line) = LineFull line
 join_error (draw.NotPossible line) = NotPossible line
 
--- where no lines are joined, nothing overtakes
+-- without joins no message overtakes
 abbrev pub alone : Result DiagramChartView DrawError → Result JoinedChartView JoinError
 alone (Ok v) = Ok (record { built = v; overtaking = [] })
 alone (Err e) = Err (join_error e)
@@ -45,16 +45,16 @@ abbrev pub unless : {A : Type 0} → (ℕ → JoinError) → Option ℕ → A �
 unless refusal None x = Ok x
 unless refusal (Some line) x = Err (refusal line)
 
--- No two messages of the diagram cross, also where joining would leave one of them out; no instance has too many events;
--- and there are two.
+-- No two messages of the diagram cross, even if joining skips one of them. No instance has too many events, and there
+-- are at least two instances.
 unfoldable pub checked : Option ℕ → List Message → JoinedView → Result JoinedView JoinError
 checked fault messages j = do
   sound ← unless NotPossible (fault_from fault [] messages) j
   few ← unless LineFull (full_from [] j.messages) j
   if nat_lt (length j.names) 2 then Err Instances else Ok j
 
--- The chart of the messages that stay, between the instances, each row cut into as many as there are messages; the names
--- that are told are those of the lines and of the messages.
+-- The chart of the messages that stay, between the instances. Each row is cut into as many as there are messages. The
+-- names to report are those of the lines and of the messages.
 unfoldable pub joined_chart_of : List ParticipantView → List ItemView → List (List ℕ) → JoinedView → JoinedChartView
 joined_chart_of participants items lines j = record {
   built = record {
@@ -66,7 +66,7 @@ joined_chart_of participants items lines j = record {
   overtaking = j.overtaking;
 }
 
--- where the lines have these names, and the items come to this
+-- the chart, from the names of the lines and the collected messages
 unfoldable pub joined_by : DiagramView → List JoinView → List (List ℕ) → CollectedView → Result JoinedChartView JoinError
 joined_by d joins lines c = do
   j ← joined d.participants lines joins c.messages c.left_out
@@ -80,7 +80,7 @@ joined_named d joins lines = joined_by d joins lines (collected lines d.items d.
 unfoldable pub lines_joined : DiagramView → List JoinView → Result JoinedChartView JoinError
 lines_joined d joins = if has_no_chart (length d.participants) then Err Instances else joined_named d joins (names_from [] d.participants)
 
--- where there are no joins, the diagram's own
+-- without joins, the diagram's own chart
 unfoldable pub built_joined : DiagramView → List JoinView → Result JoinedChartView JoinError
 built_joined d [] = alone (built d)
 built_joined d (j ∷ joins) = lines_joined d (j ∷ joins)

@@ -1,4 +1,4 @@
--- What a diagram comes to whose lines are joined.
+-- The messages of a diagram whose lines are joined.
 use Rattle.std.specs.Prelude.{◌≡◌, ℕ, List, [], map, filter, Option, None, Some, Result, Ok, Err, if◌then◌else◌}
 use Rattle.diagrams.specs.Diagrams.{ParticipantView}
 use Rattle.diagrams.specs.Losing.{kept, with_lost}
@@ -11,7 +11,7 @@ use Rattle.diagram_join.specs.declared.error.JoinError.{JoinError}
 use Rattle.diagram_join.specs.declared.error.JoinError.TheVariants.{Memory, NoSuchLine, Taken, Instances, NotPossible, LineFull}
 use Rattle.diagram_join.specs.declared.moves.Overtaking.{Overtaking}
 
--- the instances' names, their messages, what is left out, and which messages overtake
+-- the instances' names, their messages, the skipped constructs, and the overtaking messages
 pub record JoinedView : Type 0 where
   pub names : List (List ℕ)
   pub messages : List Message
@@ -25,9 +25,9 @@ joined_view j = record { names = j.names; messages = j.messages.items; left_out 
 abbrev pub all_across : List (List ℕ) → List (List ℕ) → List Message → List Message
 all_across names processes messages = filter is_across (map (moved names processes) messages)
 
--- Where lines of these instances have these messages, each goes from the sender's instance to the receiver's. Left out
--- are those that stay within one, those that overtake another one of their lane, and lost ones behind which a message of
--- their lane is received.
+-- Lines of these instances have these messages. Each message goes from the sender's instance to the receiver's.
+-- Messages within one instance are skipped, and so are messages that overtake another one of their lane. A lost message
+-- is skipped if a later message of its lane is received.
 abbrev pub joined_with : List (List ℕ) → List (List ℕ) → List Message → List LeftOut → JoinedView
 joined_with names processes messages left_out = record {
   names = names;
@@ -43,7 +43,7 @@ abbrev pub unless_taken : Option ℕ → JoinedView → Result JoinedView JoinEr
 unless_taken None joined = Ok joined
 unless_taken (Some line) joined = Err (Taken line)
 
--- the messages of lines with these names, joined, or why they aren't
+-- the messages of lines with these names after joining, or the refusal
 unfoldable pub joined : List ParticipantView → List (List ℕ) → List JoinView → List Message → List LeftOut → Result JoinedView JoinError
 joined participants lines joins messages left_out =
     if is_misnamed lines joins then Err NoSuchLine
@@ -58,7 +58,7 @@ Fails Instances read = read ≡ Err Instances
 Fails (NotPossible line) read = read ≡ Err (NotPossible line)
 Fails (LineFull line) read = read ≡ Err (LineFull line)
 
--- what was returned, seen by view, is what the lines come to, unless memory ran out
+-- the result, seen through view, is the defined one, unless memory ran out
 abbrev pub Gives : {X Y : Type 0} → (X → Y) → Result X JoinError → Result Y JoinError → Type 0
 Gives view (Ok x) read = read ≡ Ok (view x)
 Gives view (Err e) read = Fails e read

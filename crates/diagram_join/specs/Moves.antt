@@ -8,7 +8,7 @@ use Rattle.diagrams.specs.declared.left_out.LeftOut.{LeftOut}
 use Rattle.diagrams.specs.declared.message.Message.{Message}
 use Rattle.diagram_join.specs.declared.moves.Overtaking.{Overtaking}
 
--- the instance of a line, where the lines' instances have these names
+-- the instance of a line, by the names of the instances and those of the lines' instances
 abbrev pub instance_at : List (List ℕ) → List (List ℕ) → ℕ → ℕ
 instance_at names processes line = unwrap_or (option_and_then (instance_of names) (slice_get processes (line - 1))) line
 
@@ -19,11 +19,11 @@ moved names processes m = record m {
   receiver = instance_at names processes m.receiver;
 }
 
--- it goes from one instance to another
+-- the message goes from one instance to another
 abbrev pub is_across : Message → Bool
 is_across m = not (m.sender == m.receiver)
 
--- what is left out, with those of these messages that don't
+-- the skipped constructs, with those of these messages that go from an instance to itself
 unfoldable pub with_within : List LeftOut → List Message → List LeftOut
 with_within left_out [] = left_out
 with_within left_out (m ∷ messages) =
@@ -33,7 +33,7 @@ abbrev pub line_at : List Message → Option ℕ → Option ℕ
 line_at messages None = None
 line_at messages (Some at) = option_map (λ n. n.place.line) (slice_get messages at)
 
--- the line of the first of these messages that it overtakes
+-- the line of the first of these messages that m overtakes
 abbrev pub overtaken_in : List Message → Message → Option ℕ
 overtaken_in before m = line_at before (position (overtakes m) before)
 
@@ -54,7 +54,7 @@ overtakings m (Some line) = record { place = m.place; overtaken = line } ∷ []
 abbrev pub overtaking : List Message → Message → List Overtaking
 overtaking earlier m = if crosses earlier m then overtakings m (overtaken_in earlier m) else []
 
--- those that overtake
+-- the messages that overtake
 unfoldable pub overtaking_from : List Message → List Message → List Overtaking
 overtaking_from earlier [] = []
 overtaking_from earlier (m ∷ messages) = overtaking earlier m ++ overtaking_from (earlier ++ m ∷ []) messages

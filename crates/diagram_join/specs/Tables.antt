@@ -13,7 +13,7 @@ unfoldable pub next_line : List Message → ℕ → ℕ → Option ℕ
 next_line [] row p = None
 next_line (m ∷ later) row p = if is_received row p m then Some m.line else next_line later row p
 
--- what the line receives in the row of these messages, the first of which has this place
+-- the receives of the line in the row, among these messages; the first of them has this place
 abbrev pub coregion_of : ℕ → List Message → ℕ → ℕ → ℕ → Option Coregion
 coregion_of place later row p line =
     if list_any (is_own row p line) later
@@ -24,7 +24,8 @@ abbrev pub is_line : Option ℕ → ℕ → Bool
 is_line None line = false
 is_line (Some next) line = next == line
 
--- whether a coregion is parted with one more receive at its beginning, where the next receive of the row is of this line
+-- whether a coregion is parted once one more receive is added at its beginning; the second argument is the line of the
+-- next receive in the row
 abbrev pub parted_with : Option Coregion → Option ℕ → ℕ → Bool
 parted_with None next line = false
 parted_with (Some coregion) next line = coregion.is_parted || not (is_line next line)
@@ -41,7 +42,7 @@ spot_of m = record { row = m.ends; instance = m.receiver; line = m.line }
 abbrev pub row_of : Message → Row
 row_of m = record { row = m.ends; instance = m.receiver }
 
--- the table has each coregion of these messages, the first of which has this place
+-- the table has each coregion of these messages; the first of them has this place
 abbrev pub AreCoregions : List (Spot × Coregion) → ℕ → List Message → Type 0
 AreCoregions entries place later = (row p line : ℕ) → lookup (same_spot (record { row = row; instance = p; line = line })) entries ≡ coregion_of place later row p line
 

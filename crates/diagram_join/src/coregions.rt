@@ -1,4 +1,4 @@
-//! Coregions of lines that are joined.
+//! Coregions of joined lines.
 ghost use Rattle.std.specs.Prelude.{◌≡◌, ◌∷◌, [], ◌+◌, ℕ, List, length, Some, IfOk, OnOk, if◌then◌else◌};
 ghost use Rattle.std.specs.Map.{lookup};
 ghost use Rattle.diagrams.specs.declared.message.Message.{Message};
@@ -12,14 +12,14 @@ use diagrams::Message;
 use indexmap::IndexMap;
 use std::alloc::{AllocError, Global};
 
-/// Where an instance receives.
+/// A row in which an instance receives.
 #[derive(Clone, Copy, Debug, PartialEq, Eq, Hash)]
 pub(crate) struct Row {
     pub row: u64,
     pub instance: InstanceNo,
 }
 
-/// Where a line of an instance receives.
+/// A row in which a line of an instance receives.
 #[derive(Clone, Copy, Debug, PartialEq, Eq, Hash)]
 pub(crate) struct Spot {
     pub row: u64,
@@ -27,16 +27,16 @@ pub(crate) struct Spot {
     pub line: InstanceNo,
 }
 
-/// What a line receives in one row.
+/// The receives of a line in one row.
 #[derive(Clone, Copy, Debug)]
 pub(crate) struct Coregion {
-    /// The place of its first message among all.
+    /// The place of its first message among all messages.
     pub first: usize,
     /// Whether a receive of another line comes between two of its receives.
     pub is_parted: bool,
 }
 
-/// What lines receive of the messages so far, which come from the last one to the first.
+/// The receives of lines in their rows. Messages are added from the last one to the first.
 #[derive(Drop)]
 pub(crate) struct Coregions {
     coregions: IndexMap<Spot, Coregion>,
@@ -63,8 +63,8 @@ fn row_of(message: &Message) -> Row
     }
 }
 
-/// Whether a coregion is parted with one more receive at its beginning, where the next receive in the row is of this
-/// line.
+/// Whether a coregion is parted once one more receive is added at its beginning. `next` is the line of the next receive
+/// in the row.
 fn parted_with(coregion: Option<Coregion>, next: Option<InstanceNo>, line: InstanceNo) -> bool
     ensures { result ≡ parted_with coregion next line }
 {
@@ -112,7 +112,7 @@ impl Coregions {
         }
     }
 
-    /// What the message's line receives in its row.
+    /// The receives of the message's line in its row.
     fn of(&self, message: &Message) -> Option<Coregion>
         ensures { result ≡ lookup (same_spot (spot_of message.now)) self.now.coregions.entries }
     {
@@ -126,7 +126,7 @@ impl Coregions {
         self.lines.get(&row_of(message)).copied()
     }
 
-    /// One message more, at this place before the others.
+    /// Adds one more message, at this place before the others.
     fn add(&mut self, place: usize, message: &Message) -> Result<(), AllocError>
         ensures coregions { (later : List Message) → AreCoregions self.old.coregions.entries (place + 1) later
             → AreLines self.old.lines.entries later → OnOk result (AreCoregions self.new.coregions.entries place (message.now ∷ later)) }
@@ -145,7 +145,7 @@ impl Coregions {
         Ok(())
     }
 
-    /// What lines receive of these messages.
+    /// The receives of lines for these messages.
     pub fn new_of(alloc: Global, messages: &[Message]) -> Result<Coregions, AllocError>
         ensures { IfOk result (λ c. AreCoregions c.coregions.entries 0 messages.now) }
     {
@@ -158,8 +158,8 @@ impl Coregions {
         Ok(coregions)
     }
 
-    /// The place of the row in which the message at a place is received, of the rows into which its row is cut: there
-    /// are as many as messages.
+    /// Each row is cut into as many rows as there are messages. This is the place of the one in which the message at a
+    /// place is received.
     pub fn place_in(&self, count: usize, place: usize, message: &Message) -> usize
         ensures { (messages : List Message) → AreCoregions self.now.coregions.entries 0 messages → count ≡ length messages
             → result ≡ place_in messages place message.now }

@@ -25,15 +25,15 @@ use diagrams::{
 };
 use std::alloc::{AllocError, Global};
 
-/// A chart that was drawn for another tool, of which lines may be joined.
+/// The chart of a diagram whose lines may be joined.
 #[derive(Debug, Drop)]
 pub struct JoinedChart {
     pub built: DiagramChart,
-    /// Messages that are left out, since they overtake another one.
+    /// Messages that are skipped because they overtake another one.
     pub overtaking: Vec<Overtaking>,
 }
 
-/// Without joins.
+/// The chart without joins.
 fn draw_alone(alloc: Global, diagram: Diagram) -> Result<JoinedChart, JoinError>
     ensures built { Gives joined_chart_view result (alone (built (diagram_view diagram))) }
     ensures possible { IfOk result (λ d. IsPossible (length d.built.chart) (chart_lines d.built.chart)) }
@@ -70,7 +70,7 @@ fn check(
     Ok(())
 }
 
-/// The chart of the messages that stay, and what is told of names.
+/// The chart of the messages that stay, with the names to report.
 #[tactic(auto, unfolding(crate::specs::Drawing::joined_chart_of))]
 fn joined_chart_of(
     alloc: Global,
@@ -108,7 +108,7 @@ fn joined_chart_of(
     })
 }
 
-/// With joins.
+/// The chart with joins.
 #[tactic(auto, unfolding(crate::specs::Drawing::lines_joined, crate::specs::Drawing::joined_by))]
 fn draw_with(alloc: Global, diagram: Diagram, joins: &[Join<'_>]) -> Result<JoinedChart, JoinError>
     ensures built { Gives joined_chart_view result (lines_joined (diagram_view diagram) (map join_view joins.now)) }
@@ -131,13 +131,13 @@ fn draw_with(alloc: Global, diagram: Diagram, joins: &[Join<'_>]) -> Result<Join
     Ok(built)
 }
 
-/// The chart of a diagram whose lines are joined, or why it has none: without joins as [`draw`] has it, and else the
-/// first of F8, F34, F22, F37, F7 and again F8, of the instances, that applies. F6 may come at any point. It takes time
-/// in proportion to n log n for n items.
+/// The chart of a diagram whose lines are joined, or its refusal. Without joins the result is that of [`draw`]. With
+/// joins the first of F8, F34, F22, F37, F7 and, for the instances, again F8 refuses. F6 may come at any point. The
+/// time is in proportion to n log n for n items.
 ///
-/// The lines of a join are one instance, in the order of the rows. Messages within it are left out, and so are those
-/// that would overtake an earlier one of their lane, which is told of each. A coregion stays where nothing comes
-/// between its receives. No chart is drawn of a diagram that has none without joins because of messages that cross.
+/// The lines of a join are one instance, in the order of the rows. Messages within it are skipped. So are messages that
+/// would overtake an earlier one of their lane, and each of these is reported. A coregion stays if no receive of
+/// another joined line comes between its receives. If messages cross in the diagram without joins, there is no chart.
 pub fn draw_joined(
     alloc: Global,
     diagram: Diagram,

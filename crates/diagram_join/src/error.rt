@@ -13,19 +13,19 @@ pub enum JoinError {
     /// F6: a growth was refused.
     #[error("there is no memory left")]
     Memory,
-    /// F34: a name of a line that is joined is the name of none, or stands more than once.
+    /// F34: a name of a line to join is that of no line, or occurs more than once.
     #[error("a line that is joined isn't there, or is joined twice")]
     NoSuchLine,
-    /// F22: another instance, which this line of the text names first, has the name of a join.
+    /// F22: another instance already has the name of a join. This line of the text first names it.
     #[error("line {0}: another instance has the name")]
     Taken(u64),
     /// F8: there are fewer than two participants or instances, or more than a chart has.
     #[error("there are too few instances, or too many")]
     Instances,
-    /// F37: with the arrow or note in this line no chart is possible.
+    /// F37: no chart is possible with the arrow or note in this line.
     #[error("line {0}: no chart is possible with this")]
     NotPossible(u64),
-    /// F7: with the message in this line an instance has more events than a line holds.
+    /// F7: the message in this line of the text gives an instance more events than a chart's line holds.
     #[error("line {0}: an instance has too many events")]
     LineFull(u64),
 }
@@ -46,7 +46,7 @@ impl<T: Drop> From<AllocFailed<T>> for JoinError {
     }
 }
 
-/// The same refusal, of a diagram whose lines may be joined.
+/// The same refusal, for a diagram whose lines may be joined.
 pub(crate) fn join_error(error: DrawError) -> JoinError
     ensures { result ≡ join_error error }
 {

@@ -1,4 +1,4 @@
-//! The instances of lines that are joined.
+//! The instances of joined lines.
 ghost use Rattle.std.specs.Prelude.{◌≡◌, ◌≤◌, ◌<◌, ◌+◌, length, slice_index_or, map, position, IfOk, Some, OnOk, is_some, if◌then◌else◌, ◌++◌, ◌∷◌, []};
 ghost use Rattle.chart.specs.Names.{instance_of};
 ghost use Rattle.chart.specs.declared.instance.TheConstants.{MAX_INSTANCES};
@@ -10,7 +10,7 @@ use chart::{InstanceNo, MAX_INSTANCES, Name, Names, NamesError};
 use diagrams::Participant;
 use std::alloc::{AllocError, Global};
 
-/// One name more, that of the instance at this place.
+/// Adds the name of the instance at this place.
 fn add_listed(listed: &mut Vec<Name>, names: &Names, place: usize) -> Result<(), AllocError>
     requires { place < length names.now }
     ensures { OnOk result (listed.new.items ≡ listed.old.items ++ slice_index_or names.now place [] ∷ []) }
@@ -23,7 +23,7 @@ fn add_listed(listed: &mut Vec<Name>, names: &Names, place: usize) -> Result<(),
     Ok(())
 }
 
-/// The names of the lines, of which there are no more than a chart has instances.
+/// The names of the lines, which are at most as many as a chart has instances.
 pub(crate) fn listed(alloc: Global, names: &Names) -> Result<Vec<Name>, AllocError>
     ensures few { length names.now ≤ MAX_INSTANCES }
     ensures value { IfOk result (λ listed. listed.items ≡ names.now) }
@@ -35,14 +35,14 @@ pub(crate) fn listed(alloc: Global, names: &Names) -> Result<Vec<Name>, AllocErr
     Ok(listed)
 }
 
-/// Whether a join stands for this line.
+/// Whether the line is a part of a join.
 fn has_part(join: &Join<'_>, line: Name) -> bool
     ensures { result ≡ has_part (join_view join.now) line }
 {
     join.parts.iter().any(|part| *part == line)
 }
 
-/// The name of the instance that a line is, or is a part of.
+/// The name of a line's instance: that of its join, or its own.
 #[tactic(auto, unfolding(crate::specs::Joins::process_of))]
 fn process_of(joins: &[Join<'_>], line: Name) -> Name
     ensures { result ≡ process_of (map join_view joins.now) line }
@@ -71,7 +71,7 @@ pub(crate) fn processes_of(
         .collect(alloc)
 }
 
-/// A line's instance has a name, which it gets with the first of its lines.
+/// Adds the name of a line's instance, unless an earlier line has added it.
 fn add_name(names: &mut Names, process: Name) -> Result<(), AllocError>
     requires { length names.old < MAX_INSTANCES }
     ensures value { OnOk result (names.new ≡ (if is_some (instance_of names.old process) then names.old else names.old ++ process ∷ [])) }
@@ -85,7 +85,7 @@ fn add_name(names: &mut Names, process: Name) -> Result<(), AllocError>
     }
 }
 
-/// The names of the instances, each once: there are no more lines than a chart has instances.
+/// The names of the instances, each once. There are at most as many lines as a chart has instances.
 #[tactic(auto, unfolding(crate::specs::Joins::names_from))]
 pub(crate) fn names_of(alloc: Global, processes: &[Name]) -> Result<Names, AllocError>
     requires { length processes.now ≤ MAX_INSTANCES }
@@ -100,7 +100,7 @@ pub(crate) fn names_of(alloc: Global, processes: &[Name]) -> Result<Names, Alloc
     Ok(names)
 }
 
-/// The lines that are joined.
+/// The joined lines.
 #[tactic(auto, unfolding(crate::specs::Joins::all_parts))]
 fn all_parts(alloc: Global, joins: &[Join<'_>]) -> Result<Vec<Name>, AllocError>
     ensures { IfOk result (λ parts. parts.items ≡ all_parts (map join_view joins.now)) }
@@ -121,28 +121,28 @@ fn is_line(lines: &[Name], part: Name) -> bool
     lines.iter().any(|line| *line == part)
 }
 
-/// Whether one of these is the name of no line.
+/// Whether one of these names is that of no line.
 fn is_unknown(lines: &[Name], parts: &[Name]) -> bool
     ensures { result ≡ is_unknown lines.now parts.now }
 {
     parts.iter().any(|part| !is_line(lines, *part))
 }
 
-/// How often a line is there.
+/// How often a line is in the list.
 fn count_in(parts: &[Name], line: Name) -> usize
     ensures { result ≡ count_in parts.now line }
 {
     parts.iter().filter(|part| **part == line).count()
 }
 
-/// Whether one line is there more than once.
+/// Whether a line is in the list more than once.
 fn is_twice(lines: &[Name], parts: &[Name]) -> bool
     ensures { result ≡ is_twice lines.now parts.now }
 {
     lines.iter().any(|line| count_in(parts, *line) > 1)
 }
 
-/// Whether a name of a line is the name of none, or stands more than once.
+/// Whether a name of a line to join is that of no line, or occurs more than once.
 pub(crate) fn is_misnamed(
     alloc: Global,
     joins: &[Join<'_>],
@@ -154,7 +154,7 @@ pub(crate) fn is_misnamed(
     Ok(is_unknown(lines, &parts) || is_twice(lines, &parts))
 }
 
-/// Whether the line is another instance's, and that has the join's name.
+/// Whether the line belongs to another instance that has the join's name.
 fn takes(joins: &[Join<'_>], join: &Join<'_>, line: Name) -> bool
     ensures { result ≡ takes (map join_view joins.now) (join_view join.now) line }
 {
@@ -168,7 +168,7 @@ fn place_with(joins: &[Join<'_>], lines: &[Name], join: &Join<'_>) -> Option<usi
     lines.iter().position(|line| takes(joins, join, *line))
 }
 
-/// Where the text names the other instance first that has the join's name.
+/// The line of the text that first names another instance with the join's name.
 fn other_with(
     joins: &[Join<'_>],
     lines: &[Name],
@@ -183,7 +183,7 @@ fn other_with(
     }
 }
 
-/// The line of the text that names the participant at this place first.
+/// The line of the text that first names the participant at this place.
 fn line_at(participants: &[Participant], place: usize) -> Option<u64>
     ensures { result ≡ text_line (map participant_view participants.now) (Some place) }
 {
@@ -193,7 +193,7 @@ fn line_at(participants: &[Participant], place: usize) -> Option<u64>
     }
 }
 
-/// Where the text names the other instance first that has the name of a join, of the first such join.
+/// The line of the text that first names another instance with the name of a join, for the first such join.
 #[tactic(auto, unfolding(crate::specs::Joins::taken_from))]
 pub(crate) fn taken(joins: &[Join<'_>], lines: &[Name], participants: &[Participant]) -> Option<u64>
     ensures { result ≡ taken_from (map join_view joins.now) lines.now (map participant_view participants.now) (map join_view joins.now) }

@@ -1,4 +1,4 @@
-//! The messages of lines that are joined.
+//! The messages of joined lines.
 ghost use Rattle.std.specs.Prelude.{◌≡◌, ◌≤◌, length, map, IfOk};
 ghost use Rattle.chart.specs.declared.instance.TheConstants.{MAX_INSTANCES};
 ghost use Rattle.diagrams.specs.Diagrams.{participant_view};
@@ -13,20 +13,20 @@ use chart::{Name, Names};
 use diagrams::{LeftOut, Message, Participant, without_lost};
 use std::alloc::{AllocError, Global};
 
-/// What lines come to that are joined.
+/// The result of joining lines.
 #[derive(Drop)]
 pub struct Joined {
     /// The instances' names, each at the place of the first of its lines.
     pub names: Names,
     /// The messages that stay, from instance to instance.
     pub messages: Vec<Message>,
-    /// Each kind once.
+    /// The skipped constructs: one entry for each kind.
     pub left_out: Vec<LeftOut>,
-    /// Messages that are left out, since they overtake another one.
+    /// Messages that are skipped because they overtake another one.
     pub overtaking: Vec<Overtaking>,
 }
 
-/// The messages of lines of these instances.
+/// The messages of lines that belong to these instances.
 #[tactic(auto, unfolding(crate::specs::Joined::joined_of))]
 fn joined_of(
     alloc: Global,
@@ -52,12 +52,13 @@ fn joined_of(
     })
 }
 
-/// Joins lines of a diagram, whose names and messages these are: the first of F34 and F22 that applies refuses. F6 may
+/// Joins lines of a diagram with these names and messages. The first of F34 and F22 that applies refuses it. F6 may
 /// come at any point.
 ///
-/// Each message goes from the sender's instance to the receiver's, and keeps its rows. Left out are messages within one
-/// instance, lost ones behind which a message of their new lane is received, and those that would be received above an
-/// earlier one of their new lane: each of these is told with the line of the first one that it overtakes.
+/// Each message goes from the sender's instance to the receiver's, and keeps its rows. Three kinds of messages are
+/// skipped. The first are messages within one instance. The second would be received above an earlier message of their
+/// new lane. Each of these is reported with the line of the first message that it overtakes. The third are lost
+/// messages with a later message of their new lane that is received.
 #[tactic(auto, unfolding(crate::specs::Joined::joined))]
 pub fn join_lines(
     alloc: Global,

@@ -1,8 +1,8 @@
-//! Sequence diagrams that draw one process as several lines: their charts, where such lines are joined.
+//! Charts of sequence diagrams in which several lines of one process are joined.
 //!
-//! What is promised ([`draw_joined`]), unless an allocation is refused: names, chart, what is left out and what is
-//! told are those of a definition over the diagram (`specs/Drawing`), or the first refusal that applies, and the
-//! chart is possible. Its messages are those of [`join_lines`] (`specs/Joined`).
+//! [`draw_joined`] promises this, unless an allocation is refused. Names, chart, skipped constructs and reports are
+//! those of a definition over the diagram (`specs/Drawing`), or the result is the first refusal that applies. The chart
+//! is possible. Its messages are those of [`join_lines`] (`specs/Joined`).
 //!
 //! [`turns`] has the turns of a diagram's rows.
 #![tactic(auto)]

@@ -9,7 +9,7 @@ use chart::{InstanceNo, Name, Names};
 use diagrams::{Kind, Lanes, LeftOut, Message, Place, crosses, leave_out, overtakes};
 use std::alloc::{AllocError, Global};
 
-/// A message that would be received above an earlier one of its lane: it overtakes that one.
+/// A message that overtakes: it would be received above an earlier one of its lane.
 #[derive(Clone, Copy, Debug)]
 pub struct Overtaking {
     pub place: Place,
@@ -17,7 +17,7 @@ pub struct Overtaking {
     pub overtaken: u64,
 }
 
-/// The instance of a line, where the lines' instances have these names.
+/// The instance of a line, by the names of the instances and those of the lines' instances.
 fn instance_at(names: &Names, processes: &[Name], line: InstanceNo) -> InstanceNo
     ensures { result ≡ instance_at names.now processes.now line }
 {
@@ -72,7 +72,7 @@ pub(crate) fn across(alloc: Global, messages: &[Message]) -> Result<Vec<Message>
         .collect(alloc)
 }
 
-/// Those from an instance to itself are left out.
+/// Skips the messages from an instance to itself.
 #[tactic(auto, unfolding(crate::specs::Moves::with_within))]
 pub(crate) fn leave_out_within(
     messages: &[Message],
@@ -115,8 +115,8 @@ fn line_at(messages: &[Message], place: usize) -> Option<u64>
     }
 }
 
-/// A message that overtakes none of the earlier ones stays, and any other is told. The table has for each lane the row
-/// furthest down in which an earlier one is received.
+/// Keeps a message that overtakes none of the earlier ones, and reports any other. For each lane the table has the row
+/// furthest down in which an earlier message is received.
 fn pass(
     furthest: &mut Lanes,
     before: &[Message],
@@ -150,7 +150,7 @@ pub(crate) struct Passed {
     pub overtakings: Vec<Overtaking>,
 }
 
-/// The messages without those that overtake another one, and those.
+/// The messages that overtake none of the earlier ones, and those that overtake one.
 pub(crate) fn without_overtaking(alloc: Global, messages: &[Message]) -> Result<Passed, AllocError>
     ensures stays { IfOk result (λ p. p.stays.items ≡ staying_from [] messages.now) }
     ensures overtakings { IfOk result (λ p. p.overtakings.items ≡ overtaking_from [] messages.now) }

@@ -1,4 +1,4 @@
-//! Rows that are cut, so that what is received in one of them is received together.
+//! Rows that are cut, so that the receives in one of them are together.
 ghost use Rattle.std.specs.Prelude.{◌≡◌, ◌+◌, ◌*◌, length, List, IfOk};
 ghost use Rattle.diagrams.specs.declared.message.Message.{Message};
 ghost use Rattle.diagram_join.specs.Coregions.{cut, cut_from};
@@ -8,7 +8,7 @@ use crate::coregions::Coregions;
 use diagrams::Message;
 use std::alloc::{AllocError, Global};
 
-/// The row at a place of those into which a row is cut. Where it would not fit, the answer is F6.
+/// The row at a place of those into which a row is cut. F6 if its number doesn't fit.
 fn row_at(row: u64, count: u64, place: u64) -> Result<u64, AllocError>
     ensures { IfOk result (λ r. r ≡ row * count + place) }
 {
@@ -21,7 +21,7 @@ fn row_at(row: u64, count: u64, place: u64) -> Result<u64, AllocError>
     Ok(at)
 }
 
-/// The message at a place, in the rows that are cut.
+/// The message at a place, in the cut rows.
 fn cut(
     coregions: &Coregions,
     count: usize,
@@ -38,7 +38,7 @@ fn cut(
     Ok(cut)
 }
 
-/// The messages in the rows that are cut.
+/// The messages in the cut rows.
 pub(crate) fn cut_rows(alloc: Global, messages: &[Message]) -> Result<Vec<Message>, AllocError>
     ensures { IfOk result (λ rows. rows.items ≡ cut_from messages.now 0 messages.now) }
 {

@@ -1,7 +1,7 @@
-//! Whose events stand in another tool's diagram, one after another from the top on.
+//! The turns of another tool's diagram: whose event comes next, from the top.
 //!
-//! What is promised: the turns are those of the messages that the diagram's chart has, in the diagram's rows and in
-//! the order of its text ([`turns_in`], `specs/Turns/Turns`, `specs/Turns/Diagrams`). Memory is the only refusal.
+//! [`turns_in`] promises this. The turns are those of the messages of the diagram's chart, in the diagram's rows and in
+//! the order of its text (`specs/Turns/Turns`, `specs/Turns/Diagrams`). Memory is the only refusal.
 
 mod messages;
 mod moments;

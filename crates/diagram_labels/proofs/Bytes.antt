@@ -1,4 +1,4 @@
--- The bytes of what a label is spelled as.
+-- The bytes of a label's spelling.
 use Rattle.std.proofs.Common.{◌≡◌, ℕ, Bool, true, false, not, ◌&&◌, cond, List, [], ◌∷◌, filter, refl, ◌∙◌, arith}
 use Rattle.std.specs.List.{list_all, slice_split, onto_first, join_with_byte}
 use Rattle.std.proofs.lemmas.List.Folds.{list_all-append}
@@ -19,7 +19,7 @@ cut : (x : ℕ) (parts : List (List ℕ)) (b : Bool) → is_name_byte x ≡ b �
 cut x parts false e h = h
 cut x parts true e h = onto x parts e h
 
--- what stands between other characters has the bytes of names
+-- the parts between other characters have only bytes of names
 pub parts_are_names : (label : List ℕ) → are_names (slice_split (λ b. not (is_name_byte b)) label) ≡ true
 parts_are_names [] = refl
 parts_are_names (x ∷ label) = cut x _ (is_name_byte x) refl (parts_are_names label)
@@ -32,7 +32,7 @@ pub all_filtered : {X : Type 0} (p q : X → Bool) (xs : List X) → list_all p 
 all_filtered p q [] h = refl
 all_filtered p q (x ∷ xs) h = let e = both _ _ h in kept p q x xs (q x) e.0 (all_filtered p q xs e.1)
 
--- and so have they with a _ between each two
+-- so have the parts with a _ between each two
 pub joined_names : (parts : List (List ℕ)) → are_names parts ≡ true → list_all is_name_byte (join_with_byte 95 parts) ≡ true
 joined_names [] h = refl
 joined_names (x ∷ []) h = (both _ _ h).0

@@ -1,4 +1,4 @@
--- What a new label is called: a name, and one alone.
+-- The name of a new label: it is valid, and there is only one.
 use Rattle.std.proofs.Common.{◌≡◌, ℕ, zero, suc, ◌+◌, ◌^◌, ◌≤◌, ◌<◌, Bool, true, false, List, ◌++◌, length, nat_lt, ltb-true, cond, refl, sym, ap, ◌∙◌, subst, arith}
 use Rattle.std.specs.Prelude.{MatchBool}
 use Rattle.std.proofs.lemmas.Bool.Decides.{nat_tests}
@@ -11,12 +11,12 @@ use Rattle.diagram_labels.proofs.Free.{taken_fit}
 use Rattle.diagram_labels.proofs.Kept.{name_is_word}
 use Rattle.diagram_labels.proofs.Numbered.{numbered_is_name}
 
--- one number more is taken
+-- one more number is taken
 pub taken_more : (names : List (List ℕ)) (word : List ℕ) (number : ℕ) → AreTaken names word number → is_given names (numbered word number) ≡ true → AreTaken names word (number + 1)
 taken_more names word number taken here =
     λ k two below. below_more (λ j. 2 ≤ j → is_given names (numbered word j) ≡ true) number (λ j l t. taken j t l) (λ t. here) k below two
 
--- what is taken stays so
+-- a taken name stays taken
 pub given_more : (names more : List (List ℕ)) (name : List ℕ) → is_given names name ≡ true → is_given (names ++ more) name ≡ true
 given_more names more name h = list_any-append _ names more ∙ rw h refl
 
@@ -27,7 +27,7 @@ few names word number true e l taken =
     absurd (omega (arith, fit))
 few names word number false e l taken = taken_fit names word number (grind (arith, nat_tests)) taken
 
--- no more numbers are taken than there are names
+-- at most as many numbers are taken as there are names
 pub taken_few : (names : List (List ℕ)) (word : List ℕ) (number : ℕ) → length names < 2 ^ 63 → AreTaken names word number → number ≤ length names + 2
 taken_few names word number l taken = few names word number (nat_lt (2 ^ 64) number) refl l taken
 
@@ -37,7 +37,7 @@ named names word name true e l h c =
     subst IsName (sym c.1) (numbered_is_name word c.0 (name_is_word word h) (omega (arith, small)))
 named names word name false e l h c = subst IsName (sym c) h
 
--- what a label is called is a name
+-- the name of a label is a valid name
 pub called_is_name : (names : List (List ℕ)) (word name : List ℕ) → length names < 2 ^ 63 → IsName word → IsCalled names word name → IsName name
 called_is_name names word name l h c = named names word name (is_given names word) refl l h c
 
@@ -83,7 +83,7 @@ so names word true e l =
     (free_from names word (length names) 2, refl, found names word (length names) 2 l (omega arith) (omega arith) (λ k two below. absurd (omega arith)))
 so names word false e l = refl
 
--- a label is called so
+-- a label has the computed name
 pub called_so : (names : List (List ℕ)) (word : List ℕ) → length names < 2 ^ 63 → IsCalled names word (called names word)
 unfolding called
 called_so names word l = so names word (is_given names word) refl l
@@ -92,6 +92,6 @@ one_name : (names : List (List ℕ)) (word one other : List ℕ) (b : Bool) → 
 one_name names word one other true a c = a.1 ∙ ap (numbered word) (one_number names word a.0 c.0 a.2 c.2) ∙ sym c.1
 one_name names word one other false a c = a ∙ sym c
 
--- and not otherwise
+-- a label has no other name
 pub called_one : (names : List (List ℕ)) (word name : List ℕ) → length names < 2 ^ 63 → IsCalled names word name → name ≡ called names word
 called_one names word name l c = one_name names word name (called names word) (is_given names word) c (called_so names word l)

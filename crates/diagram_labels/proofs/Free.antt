@@ -1,4 +1,4 @@
--- Among more numbers than there are names one is free.
+-- Among more numbers than names, one is free.
 use Rattle.std.proofs.Common.{◌≡◌, ℕ, suc, ◌+◌, ◌-◌, ◌^◌, ◌≤◌, ◌<◌, Bool, true, false, ◌||◌, cond, List, [], ◌∷◌, length, get_or, refl, sym, ap, ◌∙◌, arith}
 use Rattle.std.specs.Prelude.{bytes_eq}
 use Rattle.std.proofs.lemmas.Slice.Eq.{bytes_eq-Decides}
@@ -22,7 +22,7 @@ unfolding place
 at_place [] name d h = absurd (grind (arith, h))
 at_place (x ∷ names) name d h = found x name names d (bytes_eq name x) refl (at_place names name d) h
 
--- where each number up to one is taken, they are no more than the names
+-- if each number up to one is taken, there are at most as many numbers as names
 pub taken_fit : (names : List (List ℕ)) (word : List ℕ) (number : ℕ) → number ≤ 2 ^ 64 → ((k : ℕ) → 2 ≤ k → k < number → is_given names (numbered word k) ≡ true) → number ≤ length names + 2
 taken_fit names word number small taken =
     let at = λ (i : ℕ). place names (numbered word (i + 2)) in

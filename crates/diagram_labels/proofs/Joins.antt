@@ -9,7 +9,7 @@ abbrev pub is_empty : {X : Type 0} → List X → Bool
 is_empty [] = true
 is_empty (x ∷ xs) = false
 
--- a word behind the others
+-- a word after the others
 pub join_push : (c : ℕ) (xs : List (List ℕ)) (w : List ℕ) → join_with_byte c (xs ++ w ∷ []) ≡ cond (is_empty xs) w (join_with_byte c xs ++ c ∷ w)
 join_push c [] w = refl
 join_push c (x ∷ []) w = refl
@@ -26,7 +26,7 @@ filled_step c w parts false e h l = h l
 filled_step c w [] true e h l = absurd (grind (arith, e, l))
 filled_step c w (x ∷ parts) true e h l = absurd (omega (arith, l, length-append w (c ∷ join_with_byte c (x ∷ parts))))
 
--- nothing joined is no word
+-- if the joined bytes are empty, there is no word
 pub nothing_joined : (c : ℕ) (parts : List (List ℕ)) → length (join_with_byte c (filled parts)) ≡ 0 → is_empty (filled parts) ≡ true
 nothing_joined c [] l = refl
 nothing_joined c (w ∷ parts) l = filled_step c w (filled parts) (nat_lt 0 (length w)) refl (nothing_joined c parts) l
@@ -39,7 +39,7 @@ some_word : (c : ℕ) (xs : List (List ℕ)) → 0 < length (join_with_byte c xs
 some_word c [] l = absurd (omega (arith, l))
 some_word c (x ∷ xs) l = refl
 
--- an empty part is passed over
+-- an empty part is ignored
 pub join_empty : (c : ℕ) (parts : List (List ℕ)) (w : List ℕ) → length w ≡ 0 → join_with_byte c (filled (parts ++ w ∷ [])) ≡ join_with_byte c (filled parts)
 join_empty c parts w e = let n : nat_lt 0 (length w) ≡ false = rw e refl in ap (join_with_byte c) {y = filled parts} (filter-append _ parts (w ∷ []) ∙ rw n (append-nil (filled parts)))
 

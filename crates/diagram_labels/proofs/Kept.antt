@@ -27,7 +27,7 @@ reserved_error : (word : List ℕ) (b : Bool) → is_reserved word ≡ b → IsW
 reserved_error word true e w l h = refused word Reserved (word_error word w ∙ rw (l, e) refl) h
 reserved_error word false e w l h = refl
 
--- of a name's bytes nothing is cut out
+-- nothing is cut out of a name's bytes
 uncut : (word : List ℕ) (b : ℕ) → list_all is_name_byte (b ∷ word) ≡ true → slice_split (λ x. not (is_name_byte x)) (b ∷ word) ≡ (b ∷ word) ∷ []
 uncut [] b h = let e = both (is_name_byte b) true h in rw e.0 refl
 uncut (next ∷ word) b h =
@@ -46,7 +46,7 @@ word_kept : (word : List ℕ) → IsWord word → is_reserved word ≡ false →
 unfolding spelled fronted unreserved shortened
 word_kept word h r l = rw (joined_kept word h, h.0, r, l) refl
 
--- a label that is a name is spelled as it is
+-- a label that is a name is its own spelling
 pub name_kept : (label : List ℕ) → IsName label → spelled label ≡ label
 name_kept label h =
     let renames = name_is_sound label h in

@@ -1,4 +1,4 @@
--- What holds of the labels that came, from the first on.
+-- Properties of the labels that came, from the first on.
 use Rattle.std.proofs.Common.{◌≡◌, ℕ, ◌+◌, ◌^◌, ◌≤◌, ◌<◌, Bool, true, false, ◌||◌, List, [], ◌∷◌, ◌++◌, length, get_or, nat_lt, eqb, ne_eqb, ltb-true, refl, sym, ap, ◌∙◌, subst, arith, length-append}
 use Rattle.std.specs.Prelude.{bytes_eq, fold, MatchBool}
 use Rattle.std.specs.List.{position_or_len}
@@ -20,7 +20,7 @@ use Rattle.diagram_labels.proofs.Labellings.{label_kept, label_added, new_name}
 itself : (label : List ℕ) → bytes_eq label label ≡ true
 itself label = (bytes_eq-Decides label label).1 refl
 
--- a fact of both outcomes of one label more
+-- a property that holds for both outcomes of one more label
 module _ (P : Labelling → Type 0) (l : Labelling) (label : List ℕ) where
   by_label : (b : Bool) → has_label l.labels label ≡ b → (b ≡ true → P l) → (b ≡ false → P (with_new l label)) → P (with_label l label)
   by_label true e kept added = subst P (sym (label_kept l label e)) (kept refl)
@@ -36,7 +36,7 @@ many_all : (l : Labelling) (labels : List (List ℕ)) → length l.labels ≡ le
 many_all l [] h = h
 many_all l (label ∷ labels) h = many_all (with_label l label) labels (many_more l label h)
 
--- one label makes at most one name more
+-- one more label makes at most one more name
 few_more : (l : Labelling) (label : List ℕ) → length (with_label l label).names ≤ length l.names + 1
 few_more l label =
     by_label (λ m. length m.names ≤ length l.names + 1) l label (has_label l.labels label) refl (λ e. omega arith)
@@ -46,7 +46,7 @@ few_all : (l : Labelling) (labels : List (List ℕ)) → length (fold with_label
 few_all l [] = omega arith
 few_all l (label ∷ labels) = let rest = few_all (with_label l label) labels in let one = few_more l label in omega (arith, rest, one)
 
--- a label that came stays, and one that came not isn't there
+-- a label that came stays, and one that didn't come isn't there
 stays_more : (l : Labelling) (label one : List ℕ) → has_label l.labels one ≡ true → has_label (with_label l label).labels one ≡ true
 stays_more l label one h =
     by_label (λ m. has_label m.labels one ≡ true) l label (has_label l.labels label) refl (λ e. h)
@@ -110,13 +110,13 @@ name_all l [] one s h = refl
 name_all l (label ∷ labels) one s h =
     name_all (with_label l label) labels one (many_more l label s) (stays_more l label one h) ∙ name_more l label one s h
 
--- a label keeps its name, whatever labels come behind
+-- a label keeps its name, whatever labels follow
 pub labels_keep : (labels more : List (List ℕ)) (label : List ℕ) → has_label labels label ≡ true → name_of (labelled (labels ++ more)) label ≡ name_of (labelled labels) label
 labels_keep labels more label h =
     ap (λ l. name_of l label) (fold-append with_label none labels more)
     ∙ name_all (labelled labels) more label (many_all none labels refl) (came none labels label h)
 
--- a new label is called by its spelling
+-- a new label gets its name from its spelling
 pub labels_are_called : (labels : List (List ℕ)) (label : List ℕ) → length labels < 2 ^ 63 → has_label labels label ≡ false
     → IsCalled (labelled labels).names (spelled label) (name_of (labelled (labels ++ label ∷ [])) label)
 labels_are_called labels label l h =
@@ -125,7 +125,7 @@ labels_are_called labels label l h =
     let all = ap (λ m. name_of m label) (fold-append with_label none labels (label ∷ []) ∙ label_added (labelled labels) label new) ∙ new_name (labelled labels) label (many_all none labels refl) new in
     subst (IsCalled (labelled labels).names (spelled label)) (sym all) (called_so (labelled labels).names (spelled label) (omega (arith, few)))
 
--- names that differ, each of them one
+-- different names, each of which is valid
 record AreApart (names : List (List ℕ)) : Type 0 where
   pub apart : (i j : ℕ) → i < length names → j < length names → get_or names i [] ≡ get_or names j [] → i ≡ j
   pub named : (i : ℕ) → i < length names → IsName (get_or names i [])
@@ -183,7 +183,7 @@ none_apart = record { apart = λ i j l m h. absurd (omega arith); named = λ i l
 all_apart : (labels : List (List ℕ)) → length labels < 2 ^ 63 → AreApart (labelled labels).names
 all_apart labels l = apart_all none labels (omega arith) none_apart
 
--- each label's name is one
+-- each label's name is a valid name
 pub labels_are_named : (labels : List (List ℕ)) (label : List ℕ) → length labels < 2 ^ 63 → has_label labels label ≡ true → IsName (name_of (labelled labels) label)
 unfolding name_of
 labels_are_named labels label l h =
@@ -191,7 +191,7 @@ labels_are_named labels label l h =
     let many = many_all none labels refl in
     (all_apart labels l).named (position_or_len (bytes_eq label) (labelled labels).labels) (omega (arith, within, many))
 
--- labels that differ have names that differ
+-- different labels have different names
 pub labels_differ : (labels : List (List ℕ)) (one other : List ℕ) → length labels < 2 ^ 63 → has_label labels one ≡ true → has_label labels other ≡ true
     → name_of (labelled labels) one ≡ name_of (labelled labels) other → one ≡ other
 unfolding name_of

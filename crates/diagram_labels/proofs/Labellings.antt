@@ -1,4 +1,4 @@
--- What one label more makes of labels and names.
+-- The changes of labels and names by one more label.
 use Rattle.std.proofs.Common.{◌≡◌, ℕ, true, false, List, [], ◌∷◌, ◌++◌, Result, Ok, Err, length, get_or, eq-eqb, refl, sym, ap, ◌∙◌, arith}
 use Rattle.std.specs.Prelude.{bytes_eq, IfOk, OnOk}
 use Rattle.std.specs.List.{position_or_len}
@@ -20,7 +20,7 @@ pub label_added : (l : Labelling) (label : List ℕ) → has_label l.labels labe
 unfolding with_label
 label_added l label h = rw h refl
 
--- the place of a label behind the others
+-- the place of a label after the others
 pub new_place : (labels : List (List ℕ)) (label : List ℕ) → has_label labels label ≡ false → position_or_len (bytes_eq label) (labels ++ label ∷ []) ≡ length labels
 new_place labels label h =
     let at = none_placed (bytes_eq label) labels h in
@@ -33,7 +33,7 @@ unfolding name_of
 new_name l label s h =
     ap (λ k. get_or (l.names ++ called l.names (spelled label) ∷ []) k []) (new_place l.labels label h ∙ s) ∙ get_or-append_seam l.names (called l.names (spelled label)) [] []
 
--- the same of what a call answers
+-- the same for the answer of a call
 pub answers_name : {E : Type 0} (l m : Labelling) (label : List ℕ) (r : Result (List ℕ) E) → length l.labels ≡ length l.names → has_label l.labels label ≡ false
     → IfOk r (λ name. name ≡ called l.names (spelled label)) → OnOk r (m ≡ with_new l label) → IfOk r (λ name. name ≡ name_of m label)
 answers_name l m label (Ok name) s h n a = n ∙ sym (new_name l label s h) ∙ ap (λ k. name_of k label) (sym a)

@@ -1,4 +1,4 @@
--- Words with numbers behind them: they are names, and no two of a word are the same.
+-- Words with numbers after them: they are names, and no two of a word are the same.
 use Rattle.std.proofs.Common.{◌≡◌, ℕ, zero, suc, ◌-◌, ◌^◌, ◌≤◌, ◌<◌, ◌⊎◌, inl, inr, Bool, true, false, not, ◌==◌, cond, List, [], ◌∷◌, ◌++◌, length, take, reverse, codes, decimal, refl, sym, ap, ◌∙◌, subst, arith}
 use Rattle.std.specs.List.{list_all}
 use Rattle.std.specs.Str.Parse.{AllDigits, digits_value}
@@ -55,7 +55,7 @@ unfolding before_line
 before [] more h = refl
 before (c ∷ cs) more h = let e = both (isn't_line c) (list_all isn't_line cs) h in rw (e.0, before cs more e.1) refl
 
--- what stands behind the last _ of a numbered word
+-- the bytes after the last _ of a numbered word
 behind_last : (word : List ℕ) (number : ℕ) → number < 2 ^ 64 → before_line (reverse (numbered word number)) ≡ reverse (decimal number)
 unfolding numbered
 behind_last word number l =
@@ -64,7 +64,7 @@ behind_last word number l =
     ∙ ap before_line (append_assoc (reverse (decimal number)) (95 ∷ []) (reverse front))
     ∙ before (reverse (decimal number)) (reverse front) (none_backwards (decimal number) (digits_have_no_line (decimal number) (digits_decimal own number l)))
 
--- no two numbers make the same of a word
+-- different numbers make different names of a word
 pub numbered_apart : (word : List ℕ) (i j : ℕ) → i < 2 ^ 64 → j < 2 ^ 64 → numbered word i ≡ numbered word j → i ≡ j
 numbered_apart word i j l m e =
     let same : reverse (decimal i) ≡ reverse (decimal j) = sym (behind_last word i l) ∙ ap (λ w. before_line (reverse w)) e ∙ behind_last word j m in
@@ -101,7 +101,7 @@ all_taken (suc n) (b ∷ bytes) h =
     let e = both (is_name_byte b) (list_all is_name_byte bytes) h in
     rw (e.0, all_taken n bytes e.1) refl
 
--- a word with a number behind it is a name
+-- a word with a number after it is a name
 pub numbered_is_name : (word : List ℕ) (number : ℕ) → IsWord word → number < 2 ^ 64 → IsName (numbered word number)
 unfolding numbered
 numbered_is_name word number h l =
@@ -117,7 +117,7 @@ numbered_is_name word number h l =
     list_all-append is_name_byte front (suffix number) ∙ rw (all_taken (MAX_NAME - length (suffix number)) word h.1, digits_are_names (decimal number) (digits_decimal own number l)) refl in
     word_is_name (front ++ suffix number) (begins, names) within (with_line front (decimal number) (is_reserved (front ++ 95 ∷ decimal number)) refl)
 
--- as many of the word's bytes as there are, or as fit
+-- the first bytes of the word: all of them, or as many as fit
 pub taken_min : (n : ℕ) (word : List ℕ) (m : ℕ) → (m ≡ n) ⊎ ((m ≡ length word) × (length word ≤ n)) → take m word ≡ take n word
 taken_min n word m (inl e) = ap (λ k. take k word) e
 taken_min n word m (inr e) = rw e.0 (take_all (length word) word (omega arith) ∙ sym (take_all n word e.1))

@@ -1,4 +1,4 @@
--- The names that are told, one after the other.
+-- The reported names, one after the other.
 use Rattle.std.proofs.Common.{◌≡◌, ℕ, suc, ◌+◌, ◌<◌, ◌≤◌, inl, inr, List, [], ◌∷◌, None, Some, length, map, drop, get_or, refl, sym, ap, ◌∙◌, add-one}
 use Rattle.std.specs.Prelude.{slice_get}
 use Rattle.std.proofs.Math.Seq.{drop-cons}
@@ -10,7 +10,7 @@ use Rattle.diagram_labels.specs.Renaming.{with_renamed, renamed_from}
 from_here : {A : Type 0} (xs : List A) (n : ℕ) (x : A) → n < length xs → x ≡ get_or xs n x → drop n xs ≡ x ∷ drop (n + 1) xs
 from_here xs n x within is = rw add-one (drop-cons xs n x within ∙ ap (λ y. y ∷ drop (suc n) xs) (sym is))
 
--- one name more
+-- one more name
 pub renamed_more : {A : Type 0} (f : A → List ℕ) (renames more : List (List ℕ × List ℕ)) (n : ℕ) (xs : List A) (x : A) (names : List (List ℕ)) (name : List ℕ)
     → n < length xs → x ≡ get_or xs n x → slice_get names n ≡ Some name → more ≡ with_renamed renames (f x) name
     → renamed_from more (map f (drop (n + 1) xs)) (drop (n + 1) names) ≡ renamed_from renames (map f (drop n xs)) (drop n names)

@@ -1,4 +1,4 @@
--- Reserved words beside names.
+-- Reserved words and names.
 use Rattle.std.proofs.Common.{◌≡◌, ℕ, ◌≤◌, Bool, true, false, ◌||◌, List, [], ◌∷◌, ◌++◌, length, codes, refl, arith}
 use Rattle.std.specs.List.{list_any}
 use Rattle.std.proofs.lemmas.Slice.Eq.{bytes_eq-Decides}
@@ -15,7 +15,7 @@ found : (word : List ℕ) (ks : List Keyword) → list_any (λ keyword. is_keywo
 found word [] h = absurd (grind (arith, h))
 found word (k ∷ ks) h = one_of word k ks (is_keyword k word) refl h (found word ks)
 
--- a reserved word is a keyword as that is spelled
+-- a reserved word is the spelling of a keyword
 pub reserved_is : (word : List ℕ) → is_reserved word ≡ true → (keyword : Keyword) × (word ≡ spelled keyword)
 unfolding is_reserved is_keyword
 reserved_is word h = let k = found word keywords h in (k.0, (bytes_eq-Decides word (spelled k.0)).0 k.1)
@@ -50,6 +50,6 @@ behind From = refl
 behind Concurrent = refl
 behind EndConcurrent = refl
 
--- with a _ behind it a reserved word is none
+-- a reserved word with a _ after it isn't reserved
 pub reserved_behind : (word : List ℕ) → is_reserved word ≡ true → is_reserved (word ++ codes "_") ≡ false
 reserved_behind word h = let k = reserved_is word h in rw k.1 (behind k.0)

@@ -1,4 +1,4 @@
--- What a label is spelled as is a name, and a name stays as it is.
+-- The spelling of a label is a name, and a name is its own spelling.
 use Rattle.std.proofs.Common.{◌≡◌, ℕ, zero, suc, ◌-◌, ◌≤◌, ◌<◌, Bool, true, false, not, ◌==◌, ne_eqb, cond, List, [], ◌∷◌, ◌++◌, None, Result, Ok, Err, length, take, drop, codes, nat_lt, ltb-true, refl, sym, ap, ◌∙◌, arith}
 use Rattle.std.specs.List.{list_all, slice_split, prefix_len}
 use Rattle.std.proofs.lemmas.List.{length-take, length-drop, length-append}
@@ -17,7 +17,7 @@ none_bad : (bytes : List ℕ) → list_all is_name_byte bytes ≡ true → prefi
 none_bad [] h = refl
 none_bad (b ∷ bytes) h = let e = both (is_name_byte b) (list_all is_name_byte bytes) h in rw (e.0, none_bad bytes e.1) (omega arith)
 
--- a word has no byte that doesn't belong
+-- a word has only allowed bytes
 pub word_is_sound : (word : List ℕ) → IsWord word → bad_place word ≡ None
 word_is_sound [] h = absurd (grind (arith, h.0))
 word_is_sound (b ∷ word) h =
@@ -25,7 +25,7 @@ word_is_sound (b ∷ word) h =
     let within : nat_lt (length word) (length word) ≡ false = grind (arith, nat_tests) in
     rw (h.0, none_bad word e.1, within) refl
 
--- what is told of a word
+-- the result for a word
 pub word_error : (word : List ℕ) → IsWord word → name_of word ≡ cond (nat_lt MAX_NAME (length word)) (Err TooLong) (cond (is_reserved word) (Err Reserved) (Ok word))
 unfolding name_of
 word_error [] h = absurd (grind (arith, h.0))
@@ -48,7 +48,7 @@ no_long : (word : List ℕ) (b : Bool) → is_reserved word ≡ b → nat_lt MAX
 no_long word true e l = absurd (grind (arith, reserved_short word e, ltb-true _ _ l))
 no_long word false e l = refl
 
--- a word's refusal tells whether it is reserved
+-- a word's refusal shows whether the word is reserved
 pub reserved_error : (word : List ℕ) → IsWord word → is_reserved_error (name_of word) ≡ is_reserved word
 reserved_error word h =
     ap is_reserved_error (word_error word h) ∙ error_by word (nat_lt MAX_NAME (length word)) (is_reserved word) (no_long word (is_reserved word) refl)
@@ -59,7 +59,7 @@ word_is_name word h l e =
     let short : nat_lt MAX_NAME (length word) ≡ false = grind (arith, nat_tests) in
     word_error word h ∙ rw (short, e) refl
 
--- what a label's words make
+-- the joined words of a label
 pub joined_names_alone : (label : List ℕ) → list_all is_name_byte (joined label) ≡ true
 unfolding joined
 joined_names_alone label = joined_names (words label) (all_filtered (list_all is_name_byte) (λ word. nat_lt 0 (length word)) (slice_split (λ b. not (is_name_byte b)) label) (parts_are_names label))
@@ -123,7 +123,7 @@ pub shortened_is_name : (word : List ℕ) → IsWord word → is_reserved word �
 unfolding shortened
 shortened_is_name word h r = short word (nat_lt MAX_NAME (length word)) refl h r
 
--- what a label is spelled as is a name
+-- the spelling of a label is a name
 pub spelled_is_name : (label : List ℕ) → IsName (spelled label)
 unfolding spelled
 spelled_is_name label =

@@ -24,7 +24,7 @@ module _ {X : Type 0} (p : X → Bool) where
   first x xs true e more h = omega arith
   first x xs false e more h = let k = more h in omega (arith, k)
 
-  -- what passes has a place
+  -- an element that passes has a place
   pub any_placed : (xs : List X) → list_any p xs ≡ true → position_or_len p xs < length xs
   any_placed [] h = absurd (grind (arith, h))
   any_placed (x ∷ xs) h = first x xs (p x) refl (any_placed xs) h
@@ -34,7 +34,7 @@ module _ {X : Type 0} (p : X → Bool) where
   none_first x xs true e more h = absurd (grind (arith, h))
   none_first x xs false e more h = let k = more h in omega (arith, k)
 
-  -- where nothing passes the place is behind all
+  -- if no element passes, the place is after all elements
   pub none_placed : (xs : List X) → list_any p xs ≡ false → position_or_len p xs ≡ length xs
   none_placed [] h = refl
   none_placed (x ∷ xs) h = none_first x xs (p x) refl (none_placed xs) h
@@ -62,6 +62,6 @@ module _ {X : Type 0} (p : X → Bool) where
   pub nowhere : (xs : List X) → position p xs ≡ None → list_any p xs ≡ false
   nowhere xs h = none_of xs (list_any p xs) refl h
 
--- a value that isn't there goes behind the others
+-- a value that isn't there is appended
 pub inserted : {X : Type 0} (f : X → List ℕ) (keys : List X) (key : X) → list_any (bytes_eq (f key)) (map f keys) ≡ false → insert_key (λ one other. bytes_eq (f one) (f other)) keys key ≡ keys ++ key ∷ []
 inserted f keys key h = rw (sym (any_mapped f (bytes_eq (f key)) keys) ∙ h) refl

@@ -11,7 +11,7 @@ use itoa::Buffer;
 use std::alloc::{AllocError, Global};
 use std::marker::Model;
 
-/// At most so many of the first bytes.
+/// The first `room` bytes at most.
 fn front(bytes: &[u8], room: usize) -> &[u8]
     ensures { result.now ≡ take room bytes.now }
 {
@@ -22,7 +22,7 @@ fn front(bytes: &[u8], room: usize) -> &[u8]
     }
 }
 
-/// The word with the number behind it.
+/// The word with the number after it.
 fn numbered(alloc: Global, word: &Name, number: u64) -> Result<Name, AllocError>
     ensures { IfOk result (λ name. name ≡ numbered word.now number) }
 {
@@ -35,11 +35,11 @@ fn numbered(alloc: Global, word: &Name, number: u64) -> Result<Name, AllocError>
     Ok(Name::new(bytes.as_slice()).unwrap())
 }
 
-/// The names that labels were given, in the order of the labels. A contract sees the list.
+/// The names that were given to labels, in the order of the labels. A contract sees the list.
 #[derive(Debug, Drop)]
 pub struct GivenNames {
     names: IndexSet<Name>,
-    /// For words that were given more than once, from which number on to look for a free one.
+    /// For words that were given more than once: the number from which the search for a free one begins.
     hints: IndexMap<Name, u64>,
 }
 
@@ -65,7 +65,7 @@ impl GivenNames {
         }
     }
 
-    /// How many there are.
+    /// The number of names.
     pub fn len(&self) -> usize
         ensures value { result ≡ length self.now }
         ensures small { result < 2 ^ 63 }
@@ -73,7 +73,7 @@ impl GivenNames {
         self.names.len()
     }
 
-    /// Whether there are none.
+    /// Whether there are no names.
     pub fn is_empty(&self) -> bool
         ensures { result ≡ (length self.now == 0) }
     {
@@ -94,7 +94,7 @@ impl GivenNames {
         self.names.as_slice()
     }
 
-    /// From which number on to look for one that makes the word free.
+    /// The number from which the search for one that makes the word free begins.
     fn first_number(&self, word: &Name) -> u64
         ensures two { 2 ≤ result }
         ensures taken { AreTaken self.now word.now result }
@@ -110,7 +110,7 @@ impl GivenNames {
         ensures least { IfOk result (IsLeastFree self.now word.now) }
         ensures value { IfOk result (λ number. number ≡ free_from self.now word.now (length self.now) 2) }
     {
-        // (of more numbers than there are names one is free)
+        // Among more numbers than names, one is free.
         for number in self.first_number(word)..self.len() as u64 + 3 {
             if !self.is_given(&numbered(alloc, word, number)?) {
                 return Ok(number);
@@ -119,7 +119,7 @@ impl GivenNames {
         unreachable!()
     }
 
-    /// The word with the least number that makes it free, which is kept for the next label that is spelled so.
+    /// The word with the least number that makes it free. The number is kept for the next label with this spelling.
     fn numbered_free(&mut self, alloc: Global, word: Name) -> Result<Name, AllocError>
         ensures free { IfOk result (IsFreeNumbered self.old word) }
         ensures value { IfOk result (λ name. name ≡ numbered word (free_from self.old word (length self.old) 2)) }
@@ -130,8 +130,8 @@ impl GivenNames {
         numbered(alloc, &word, number)
     }
 
-    /// Gives a new label that is spelled so its name: the word, or where a label has that, the word with the least
-    /// number from 2 on that makes it free. It fails only where there is no memory, and then leaves the names as they
+    /// Gives a new label with this spelling its name. The name is the word or, if a label has that, the word with the
+    /// least number from 2 on that makes it free. It fails only if memory runs out, and then leaves the names as they
     /// were.
     pub fn give(&mut self, alloc: Global, word: Name) -> Result<Name, AllocError>
         ensures called { IfOk result (IsCalled self.old word) }
@@ -144,7 +144,7 @@ impl GivenNames {
         Ok(name)
     }
 
-    /// What a new label is called that is spelled so.
+    /// The name of a new label with this spelling.
     #[tactic(auto, unfolding(crate::specs::Giving::called))]
     fn free_name(&mut self, alloc: Global, word: Name) -> Result<Name, AllocError>
         ensures called { IfOk result (IsCalled self.old word) }

@@ -12,7 +12,7 @@ use indexmap::IndexSet;
 use std::alloc::{AllocError, Global};
 use std::marker::Model;
 
-/// Labels that differ, in the order in which they came, and the name of each. A contract sees both lists.
+/// Different labels, in the order in which they came, and the name of each. A contract sees both lists.
 #[derive(Debug, Drop)]
 pub struct LabelNames {
     labels: IndexSet<Vec<u8>>,
@@ -49,7 +49,7 @@ fn is_plain(label: &[u8], name: &[u8]) -> bool
     }
 }
 
-/// Whether a label's name has to be told: it isn't the label with one `_` for each blank.
+/// Whether a label's name has to be reported: it isn't the label with one `_` for each blank.
 pub fn is_renamed(label: &[u8], name: &Name) -> bool
     ensures { result ≡ is_renamed label.now name.now }
 {
@@ -75,7 +75,7 @@ impl LabelNames {
         self.labels.get_index_of(label)
     }
 
-    /// A new label gets the name that it is called.
+    /// Adds a new label, and gives it its name.
     fn add(&mut self, alloc: Global, label: &[u8]) -> Result<Name, AllocError>
         requires { has_label self.old.labels label.now ≡ false }
         ensures name { IfOk result (λ name. name ≡ called self.old.names (spelled label.now)) }
@@ -90,8 +90,8 @@ impl LabelNames {
         Ok(name)
     }
 
-    /// The name of the label: where it came before the one that it has, and else the one that it is called after
-    /// those before it. It fails only where there is no memory, and then leaves labels and names as they were.
+    /// The name of the label. A label that came before has its name already, and a new one gets a name after those
+    /// before it. It fails only if memory runs out, and then leaves labels and names as they were.
     pub fn name(&mut self, alloc: Global, label: &[u8]) -> Result<Name, AllocError>
         ensures named { IfOk result (λ name. name ≡ name_of self.new label.now) }
         ensures kept { OnOk result (self.new ≡ with_label self.old label.now) }

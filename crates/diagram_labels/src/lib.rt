@@ -1,15 +1,14 @@
-//! Names for the labels of sequence diagrams: what a label is spelled as, and names that never collide.
+//! Names for the labels of sequence diagrams: the spelling of a label, and names that never collide.
 //!
 //! What is promised:
 //!
-//! - A label that is a name stays as it is, and what any label is spelled as is a name ([`spelled`],
-//!   [`spelled_law`]).
-//! - What a new label is called no label before it is called ([`GivenNames::give`], [`called_law`]): its spelling, or
-//!   where another label has that, the spelling with the least number from 2 on that makes it free.
-//! - A name is told where it isn't the label with one `_` for each blank ([`add_renamed_labels`]).
-//! - Memory is taken for spellings and for the names that were given.
+//! - A label that is a name stays as it is. The spelling of any label is a name ([`spelled`], [`spelled_law`]).
+//! - No earlier label has the name of a new label ([`GivenNames::give`], [`called_law`]). This name is the label's
+//!   spelling. If another label has that, it is the spelling with the least number from 2 on that makes it free.
+//! - A name is reported if it isn't the label with one `_` for each blank ([`add_renamed_labels`]).
+//! - Memory is taken for spellings and for the given names.
 //!
-//! [`renamed`] writes the lines that tell of names that aren't their labels.
+//! [`renamed`] writes the lines that report names which differ from their labels.
 #![tactic(auto)]
 
 mod giving;

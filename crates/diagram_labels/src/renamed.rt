@@ -1,7 +1,7 @@
-//! Lines that tell of names that aren't their labels' words.
+//! Lines that report names which differ from their labels.
 //!
-//! What is promised ([`add_all_renamed`]): exactly a line for each such name is added, with its label, or a
-//! beginning of them where a put failed. Nothing here takes memory.
+//! [`add_all_renamed`] promises this: it adds exactly one line for each such name, with its label. If a put fails, it
+//! has added a beginning of these lines. Nothing here takes memory.
 
 mod telling;
 

@@ -1,4 +1,4 @@
-//! Names that aren't their labels' words.
+//! Names that differ from their labels.
 ghost use Rattle.std.specs.Prelude.{◌≡◌, map, slice_get, OnOk};
 ghost use Rattle.diagram_labels.specs.Renaming.{renamed_view, with_renamed, renamed_from};
 
@@ -6,15 +6,15 @@ use crate::labels::is_renamed;
 use chart::Name;
 use std::alloc::{AllocError, Global};
 
-/// A label, and the name that stands for it.
+/// A label, and its name.
 #[derive(Debug, Drop)]
 pub struct Renamed {
-    /// It has a line feed where it goes on in a new line.
+    /// A line feed begins a new line in it.
     pub label: Vec<u8>,
     pub name: Name,
 }
 
-/// Tells a label and its name, unless the name is the label with one `_` for each blank.
+/// Adds a label and its name, unless the name is the label with one `_` for each blank.
 pub fn tell_label(
     alloc: Global,
     renames: &mut Vec<Renamed>,
@@ -37,7 +37,7 @@ fn name_in(names: &[Name], place: usize) -> Option<Name>
     names.get(place).copied()
 }
 
-/// Tells labels and their names, one after the other.
+/// Adds the labels whose names have to be reported, each with its name, in their order.
 pub fn add_renamed_labels(
     alloc: Global,
     renames: &mut Vec<Renamed>,

@@ -1,4 +1,4 @@
-//! What a label is spelled as.
+//! The spellings of labels.
 
 ghost use Rattle.std.specs.Prelude.{◌≡◌, not, IfOk};
 ghost use Rattle.chart.specs.Names.{is_name_byte};
@@ -8,7 +8,7 @@ ghost use Rattle.diagram_labels.specs.Spelling.{joined, begins_with_letter, IsWo
 use chart::{MAX_NAME, Name, NameError};
 use std::alloc::{AllocError, Global};
 
-/// Whether the byte belongs in no name.
+/// Whether no name may have the byte.
 fn is_other(byte: u8) -> bool
     ensures { result ≡ not (is_name_byte byte) }
 {
@@ -32,7 +32,7 @@ fn joined(alloc: Global, label: &[u8]) -> Result<Vec<u8>, AllocError>
     Ok(joined)
 }
 
-/// Whether a letter begins the bytes.
+/// Whether the bytes begin with a letter.
 fn begins_with_letter(bytes: &[u8]) -> bool
     ensures { result ≡ begins_with_letter bytes.now }
 {
@@ -42,7 +42,7 @@ fn begins_with_letter(bytes: &[u8]) -> bool
     }
 }
 
-/// The bytes, with `n_` in front where no letter begins them.
+/// The bytes, with `n_` before them unless they begin with a letter.
 #[tactic(auto, unfolding(crate::specs::Spelling::fronted))]
 fn fronted(alloc: Global, bytes: Vec<u8>) -> Result<Vec<u8>, AllocError>
     ensures { IfOk result (λ v. v.items ≡ fronted bytes.items) }
@@ -66,7 +66,7 @@ fn is_reserved(word: &[u8]) -> bool
     }
 }
 
-/// The bytes, with `_` behind where they are a reserved word.
+/// The bytes, with `_` after them if they are a reserved word.
 #[tactic(auto, unfolding(crate::specs::Spelling::unreserved))]
 fn unreserved(mut bytes: Vec<u8>) -> Result<Vec<u8>, AllocError>
     requires { IsWord bytes.items }
@@ -78,7 +78,7 @@ fn unreserved(mut bytes: Vec<u8>) -> Result<Vec<u8>, AllocError>
     Ok(bytes)
 }
 
-/// The bytes, or where they are too many for a name their beginning and their end.
+/// The bytes or, if they are too many for a name, their beginning and their end.
 #[tactic(auto, unfolding(crate::specs::Spelling::shortened))]
 fn shortened(alloc: Global, bytes: Vec<u8>) -> Result<Vec<u8>, AllocError>
     ensures { IfOk result (λ v. v.items ≡ shortened bytes.items) }
@@ -92,7 +92,7 @@ fn shortened(alloc: Global, bytes: Vec<u8>) -> Result<Vec<u8>, AllocError>
     Ok(shortened)
 }
 
-/// What a label is spelled as where a name has to stand. It fails only where there is no memory.
+/// The spelling of a label: the name that is made from it. It fails only if memory runs out.
 pub fn spelled(alloc: Global, label: &[u8]) -> Result<Name, AllocError>
     ensures { IfOk result (λ name. name ≡ spelled label.now) }
 {

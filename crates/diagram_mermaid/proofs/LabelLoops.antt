@@ -1,4 +1,4 @@
--- Labels that are looked for a byte at a time.
+-- Labels that are searched byte by byte.
 use Rattle.std.proofs.Common.{◌≡◌, ℕ, ◌+◌, List, Option, None, Some, option_map, refl, ap, arith}
 use Rattle.diagram_mermaid.specs.Participants.{LabelView, moved}
 

@@ -1,4 +1,4 @@
--- Signs that are looked for a byte at a time.
+-- Signs that are searched byte by byte.
 use Rattle.std.proofs.Common.{◌≡◌, ℕ, ◌+◌, Option, None, Some, option_map, refl, ap, arith}
 use Rattle.diagram_mermaid.specs.Signs.{moved}
 use Rattle.diagram_mermaid.specs.declared.sign.Sign.{Sign}

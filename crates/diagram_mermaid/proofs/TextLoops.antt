@@ -8,7 +8,7 @@ use Rattle.diagram_mermaid.specs.Pieces.{stepped}
 use Rattle.diagram_mermaid.specs.declared.piece.Standing.{Standing}
 use Rattle.diagram_mermaid.specs.declared.piece.Standing.TheVariants.{Above}
 
--- the pieces so far and those of what is left are those of the text
+-- the pieces so far and those of the rest are those of the text
 pub record LinesLeft (text : List ℕ) (pieces : List LineView) (standing : Standing) (number : ℕ) (rest : List ℕ) : Type 0 where
   pub steps : ℕ
   pub enough : length rest ≤ steps

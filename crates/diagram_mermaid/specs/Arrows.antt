@@ -11,16 +11,16 @@ use Rattle.diagram_mermaid.specs.declared.sign.Direction.{Direction}
 use Rattle.diagram_mermaid.specs.declared.sign.Direction.TheVariants.{Forth, Back, Both, Lost}
 use Rattle.diagram_mermaid.specs.declared.sign.Sign.{Sign}
 
--- the word that these bytes are
+-- the word of these bytes, if they are one
 unfoldable pub plain_receiver : List ℕ → Option (List ℕ)
 plain_receiver bytes = if is_word bytes then Some (stripped bytes) else None
 
--- the word behind a sign of activation
+-- the word after a sign of activation
 abbrev pub active_receiver : List ℕ → Option (List ℕ)
 active_receiver [] = None
 active_receiver (b ∷ bs) = if b == 43 || b == 45 then plain_receiver bs else None
 
--- the word behind an arrow's sign
+-- the word after an arrow's sign
 unfoldable pub receiver_of : List ℕ → Option (List ℕ)
 receiver_of bytes = or_else (active_receiver (behind_blanks bytes)) (plain_receiver bytes)
 
@@ -64,6 +64,6 @@ arrow_by words None = None
 arrow_by words (Some sign) =
     from_sender sign.direction (sender_of (take sign.before words)) (drop (sign.before + sign.length) words)
 
--- the arrow that a statement says: the first sign of an arrow is its own
+-- the arrow of a statement: the first sign of an arrow in it counts
 unfoldable pub arrow_of : List ℕ → Option ArrowView
 arrow_of words = arrow_by words (first_sign words)

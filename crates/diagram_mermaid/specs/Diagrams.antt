@@ -1,4 +1,4 @@
--- What a text says: its statements from the top, or its first fault.
+-- The statements of a text from the top, and its first fault.
 use Rattle.std.specs.Prelude.{ℕ, Bool, true, false, List, [], ◌∷◌, ◌++◌, map, Option, None, Some, if◌then◌else◌}
 use Rattle.diagram_statements.specs.Lines.{line_place, lines_of, stripped_line}
 use Rattle.diagram_statements.specs.Readings.{ReadView, behind}
@@ -14,7 +14,7 @@ use Rattle.diagram_mermaid.specs.declared.piece.Standing.TheVariants.{Above, Tit
 abbrev pub pieces_view : Pieces → List LineView × Standing
 pieces_view p = (map line_view p.pieces.items, p.standing)
 
--- the statements of these lines, and where their reader stands in the end
+-- the statements of these lines, in pieces, and the position of their reader at the end
 abbrev pub pieces_in : Standing → List LineView → List LineView × Standing
 pieces_in standing [] = ([], standing)
 pieces_in standing (l ∷ ls) = (
@@ -26,7 +26,7 @@ abbrev pub statements_by : LineView → Option (List StatementView) → ReadView
 statements_by l None others = ([], Some (NotRead (line_place l)))
 statements_by l (Some element) others = behind element others
 
--- what these statements say: the first one that can't be read is the fault
+-- the statements of these pieces: the first one that can't be read is the fault
 abbrev pub statements_of : List LineView → ReadView
 statements_of [] = ([], None)
 statements_of (l ∷ ls) = statements_by l (says (line_place l) l.words) (statements_of ls)
@@ -38,7 +38,7 @@ is_open Body = false
 is_open Title = true
 is_open (Inside block) = true
 
--- a block that nothing ends is a fault behind all others
+-- a block that nothing ends is a fault after all others
 unfoldable pub last_fault : Option Fault → Standing → Option Fault
 last_fault (Some fault) standing = Some fault
 last_fault None standing = if is_open standing then Some Unfinished else None
@@ -46,6 +46,6 @@ last_fault None standing = if is_open standing then Some Unfinished else None
 abbrev pub finished : Standing → ReadView → ReadView
 finished standing read = (read.0, last_fault read.1 standing)
 
--- what a text says
+-- the statements of a text, and its first fault
 unfoldable pub diagram_of : List ℕ → ReadView
 diagram_of text = finished (pieces_in Above (lines_of text)).1 (statements_of (pieces_in Above (lines_of text)).0)

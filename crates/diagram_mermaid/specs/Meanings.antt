@@ -1,4 +1,4 @@
--- What a statement says (Mermaid's documentation of sequence diagrams).
+-- The meanings of statements (Mermaid's documentation of sequence diagrams).
 use Rattle.std.specs.Prelude.{◌≡◌, ℕ, Bool, true, false, ◌||◌, ◌==◌, List, [], ◌∷◌, ◌++◌, codes, length, is_some, Option, None, Some, option_map, nat_eq, if◌then◌else◌}
 use Rattle.std.specs.List.{starts_with}
 use Rattle.diagram_statements.specs.Statements.{ElementView, element_view, StatementView, Named, ArrowElement, NoteElement, Begin, Branch, EndElement, BeginBox, AtParticipant, AtSeveral}
@@ -13,7 +13,8 @@ use Rattle.diagram_mermaid.specs.Participants.{behind_participant, participant_o
 use Rattle.diagram_mermaid.specs.declared.meaning.Meaning.{Meaning}
 use Rattle.diagram_mermaid.specs.declared.meaning.Meaning.TheVariants as meanings
 
--- what a statement means: it is about how the diagram looks, it says something, or it is a note at several participants
+-- the meaning of a statement: it concerns how the diagram looks, it is an element, or it is a note at several
+-- participants
 pub data MeaningView : Type 0 where
   Look : MeaningView
   Says : (element : ElementView) → MeaningView
@@ -27,7 +28,7 @@ meaning_view (meanings.Notes names) = Notes names.now
 abbrev pub Keyword : Type 0
 Keyword = List ℕ × ElementView
 
--- what words say that begin a statement: groups, boxes, and other branches
+-- the meanings of words that begin a statement: groups, boxes, and other branches
 abbrev pub keywords : List Keyword
 keywords =
     (codes "alt", Begin Choice) ∷ (codes "opt", Begin Choice) ∷ (codes "loop", Begin Choice)
@@ -35,7 +36,7 @@ keywords =
     ∷ (codes "break", Begin Break) ∷ (codes "box", BeginBox) ∷ (codes "rect", BeginBox) ∷ (codes "else", Branch)
     ∷ (codes "and", Branch) ∷ (codes "option", Branch) ∷ []
 
--- what the first of these words says with which a statement begins
+-- the meaning of the first of these words with which a statement begins
 abbrev pub keyword_at : List Keyword → List ℕ → Option ElementView
 keyword_at [] words = None
 keyword_at (k ∷ ks) words = if is_some (behind_keyword k.0 words) then Some k.1 else keyword_at ks words
@@ -47,7 +48,7 @@ abbrev pub alone_by : Option (List ℕ) → Bool
 alone_by None = false
 alone_by (Some rest) = length rest == 0 || starts_with nat_eq (behind_blanks rest) (codes "%%")
 
--- a statement is this word, behind which a comment may stand
+-- a statement is this word; a comment may follow it
 unfoldable pub is_alone : List ℕ → List ℕ → Bool
 is_alone known words = alone_by (behind_word known words)
 
@@ -66,7 +67,7 @@ unfoldable pub is_link : List ℕ → Bool
 is_link words =
     link_by (behind_keyword_of (codes "link" ∷ codes "links" ∷ codes "properties" ∷ codes "details" ∷ []) words)
 
--- a statement is about how the diagram looks
+-- a statement only concerns how the diagram looks
 unfoldable pub is_look : List ℕ → Bool
 is_look words =
     is_alone (codes "sequenceDiagram") words || is_some (behind_keyword (codes "autonumber") words) || is_title words
@@ -81,7 +82,7 @@ named_by None = None
 named_by (Some []) = None
 named_by (Some (b ∷ name)) = listed_of name
 
--- an activation names a participant, and means nothing else
+-- an activation names a participant, and has no other meaning
 unfoldable pub activation_of : List ℕ → Option ElementView
 activation_of words =
     named_by (behind_keyword_of (codes "activate" ∷ codes "deactivate" ∷ codes "destroy" ∷ []) words)
@@ -97,7 +98,7 @@ note_meaning note = note_by note (first_place 44 note.0)
 abbrev pub look_or_arrow : List ℕ → Option MeaningView
 look_or_arrow words = if is_look words then Some Look else option_map (λ arrow. Says (ArrowElement arrow)) (arrow_of words)
 
--- what a statement means that is neither a participant nor a note
+-- the meaning of a statement that is neither a participant nor a note
 unfoldable pub by_form : List ℕ → Option MeaningView
 by_form words =
     or_else (option_map Says (activation_of words)) (
@@ -112,21 +113,21 @@ abbrev pub meaning_by : List ℕ → Option (List ℕ) → Option MeaningView
 meaning_by words None = other_by words (note_of words)
 meaning_by words (Some named) = option_map Says (participant_of named)
 
--- what a statement means, if it can be read
+-- the meaning of a statement, if it can be read
 unfoldable pub meaning_of : List ℕ → Option MeaningView
 meaning_of words = meaning_by words (behind_participant words)
 
--- the statements that a meaning at this place comes to
+-- the statements of a meaning at this place
 abbrev pub statements_of : Place → MeaningView → List StatementView
 statements_of place Look = []
 statements_of place (Says element) = record { place = place; element = element } ∷ []
 statements_of place (Notes names) = name_statements place names ++ record { place = place; element = NoteElement AtSeveral [] } ∷ []
 
--- the statements that these words at a place come to
+-- the statements of these words at a place
 unfoldable pub says : Place → List ℕ → Option (List StatementView)
 says place words = option_map (statements_of place) (meaning_of words)
 
--- what words say was added, if they can be read; else nothing was
+-- the statements of words were added, if the words can be read; otherwise none were
 abbrev pub Adds : Bool → List StatementView → List StatementView → Option (List StatementView) → Type 0
 Adds true old new element = (more : List StatementView) × (element ≡ Some more) × (new ≡ old ++ more)
 Adds false old new element = (element ≡ None) × (new ≡ old)

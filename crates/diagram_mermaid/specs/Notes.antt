@@ -19,11 +19,11 @@ abbrev pub of_by : Option (List ℕ) → Option (List ℕ)
 of_by None = None
 of_by (Some rest) = behind_keyword (codes "of") (behind_blanks rest)
 
--- what stands behind `left of` or `right of`
+-- the text after `left of` or `right of`
 unfoldable pub side_of : List ℕ → Option (List ℕ)
 side_of words = of_by (behind_keyword_of (codes "left" ∷ codes "right" ∷ []) words)
 
--- what stands behind the words that say where a note is
+-- the text after the words for a note's position
 unfoldable pub behind_side : List ℕ → Option (List ℕ)
 behind_side words = or_else (behind_keyword (codes "over") words) (side_of words)
 
@@ -31,12 +31,12 @@ abbrev pub text_by : List ℕ → Option (List ℕ) → Option NoteView
 text_by names None = None
 text_by names (Some text) = Some (names, text_of text)
 
--- the names stand before the colon, and the text behind it
+-- the names come before the colon, and the text after it
 unfoldable pub note_by : List ℕ → Option NoteView
 note_by words =
     if are_listed (before_colon words) then text_by (before_colon words) (behind_colon words) else None
 
--- a blank stands before the names
+-- a blank is before the names
 abbrev pub named_by : Option (List ℕ) → Option NoteView
 named_by None = None
 named_by (Some []) = None
@@ -46,16 +46,16 @@ abbrev pub side_by : Option (List ℕ) → Option NoteView
 side_by None = None
 side_by (Some rest) = named_by (behind_side (behind_blanks rest))
 
--- the note that a statement says
+-- the note of a statement, if it is one
 unfoldable pub note_of : List ℕ → Option NoteView
 note_of words = side_by (behind_keyword (codes "note") words)
 
--- a byte more at the front of the first of these
+-- one more byte at the front of the first of these
 abbrev pub with_first : ℕ → List (List ℕ) → List (List ℕ)
 with_first b [] = (b ∷ []) ∷ []
 with_first b (w ∷ ws) = (b ∷ w) ∷ ws
 
--- what stands before, between and behind the commas
+-- the texts before, between and after the commas
 abbrev pub parted : List ℕ → List (List ℕ)
 parted [] = [] ∷ []
 parted (b ∷ bs) = if starts_with nat_eq (b ∷ bs) (codes ",") then [] ∷ parted bs else with_first b (parted bs)
@@ -64,14 +64,14 @@ abbrev pub next_by : List ℕ → Option ℕ → Option (List ℕ × List ℕ)
 next_by names None = None
 next_by names (Some place) = Some (take place names, drop (suc place) names)
 
--- what stands before the first comma, and what stands behind it
+-- the text before the first comma, and the text after it
 unfoldable pub next_name : List ℕ → Option (List ℕ × List ℕ)
 next_name names = next_by names (place_of (codes ",") names)
 
--- a participant is named by the word that these bytes are
+-- a statement that names a participant by the word of these bytes
 abbrev pub name_at : Place → List ℕ → StatementView
 name_at place name = record { place = place; element = Named (record { word = stripped name; label = None }) }
 
--- a participant is named by each of these words
+-- a statement for each of these words, which names a participant
 unfoldable pub name_statements : Place → List ℕ → List StatementView
 name_statements place names = map (name_at place) (parted names)

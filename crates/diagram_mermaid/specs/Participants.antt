@@ -9,14 +9,14 @@ use Rattle.diagram_mermaid.specs.Texts.{text_of}
 use Rattle.diagram_mermaid.specs.declared.participant.Label.{Label}
 use Rattle.diagram_mermaid.specs.declared.participant.Split.{Split}
 
--- how many bytes stand before the `as` of a label, and the label
+-- the number of bytes before the `as` of a label, and the label
 abbrev pub LabelView : Type 0
 LabelView = ℕ × List ℕ
 
 abbrev pub label_view : Label → LabelView
 label_view l = (l.before, l.label.now)
 
--- how many bytes stand before the end of a word, and its label, if it has one
+-- the number of bytes before the end of a word, and its label, if it has one
 abbrev pub SplitView : Type 0
 SplitView = ℕ × Option (List ℕ)
 
@@ -38,7 +38,7 @@ abbrev pub named_by : Option (List ℕ) → Option (List ℕ)
 named_by None = None
 named_by (Some rest) = some_of (behind_blanks rest)
 
--- what stands behind the words that say a participant
+-- the text after the words for a participant
 unfoldable pub behind_participant : List ℕ → Option (List ℕ)
 behind_participant words =
     named_by (behind_keyword_of (codes "participant" ∷ codes "actor" ∷ []) (behind_create words))
@@ -47,11 +47,11 @@ abbrev pub label_by : Option (List ℕ) → Option (List ℕ)
 label_by None = None
 label_by (Some rest) = if length rest == 0 then None else Some (behind_blanks rest)
 
--- a label stands behind `as`
+-- a label comes after `as`
 unfoldable pub label_at : List ℕ → Option (List ℕ)
 label_at bytes = label_by (behind_keyword (codes "as") bytes)
 
--- a blank stands before the `as`
+-- a blank is before the `as`
 abbrev pub label_here : ℕ → List ℕ → Option (List ℕ)
 label_here before bytes = if is_blank before then label_at bytes else None
 
@@ -59,7 +59,7 @@ abbrev pub at_front : Option (List ℕ) → Option LabelView
 at_front None = None
 at_front (Some label) = Some (0, label)
 
--- a label so many bytes further on
+-- a label this number of bytes further on
 abbrev pub moved : ℕ → LabelView → LabelView
 moved n l = (n + l.0, l.1)
 
@@ -72,13 +72,13 @@ abbrev pub labelled : Option (List ℕ) → Option (Option (List ℕ))
 labelled None = None
 labelled (Some label) = Some (Some label)
 
--- behind a kind stands nothing, or a label
+-- nothing comes after a kind, or a label
 unfoldable pub tail_at : List ℕ → Option (Option (List ℕ))
 tail_at bytes =
     if length bytes == 0 then Some None else (
     if ends_word bytes then labelled (label_at (behind_blanks bytes)) else None)
 
--- what stands behind the brace that ends a kind
+-- the text after the brace that ends a kind
 unfoldable pub kind_tail : List ℕ → Option (Option (List ℕ))
 kind_tail [] = None
 kind_tail (b ∷ bs) = or_else (if b == 125 then tail_at bs else None) (kind_tail bs)
@@ -91,7 +91,7 @@ abbrev pub kind_by : List ℕ → Option ℕ → Option SplitView
 kind_by others None = None
 kind_by others (Some place) = kind_end place (kind_tail (drop (place + 2) others))
 
--- a kind stands behind the word: `@{`, and what ends with a brace
+-- a kind comes after the word: `@{`, and bytes that end with a brace
 unfoldable pub kind_in : List ℕ → Option SplitView
 kind_in [] = None
 kind_in (b ∷ bs) = kind_by bs (place_of (codes "@{") bs)

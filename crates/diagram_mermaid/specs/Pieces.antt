@@ -22,7 +22,7 @@ abbrev pub described_by : List ℕ → Option (List ℕ) → Bool
 described_by sign None = false
 described_by sign (Some rest) = starts_with nat_eq (behind_blanks rest) sign
 
--- this word comes next, and this sign behind it
+-- this word comes next, with this sign after it
 unfoldable pub is_described : List ℕ → List ℕ → List ℕ → Bool
 is_described word sign words = described_by sign (behind_word word words)
 
@@ -36,11 +36,11 @@ abbrev pub behind_by : Block → LineView → Option ℕ → Option LineView
 behind_by block line None = None
 behind_by block line (Some place) = Some (stripped_line (after (place + length (end_of block)) line))
 
--- what stands behind the end of a block
+-- the text after the end of a block
 unfoldable pub behind_end : Block → LineView → Option LineView
 behind_end block line = behind_by block line (place_of (end_of block) line.words)
 
--- what is left of a line behind the blocks with which it begins, unless it doesn't end one
+-- the rest of a line after the blocks with which it begins, unless the line doesn't end one
 pub data OpenedView : Type 0 where
   Waits : (block : Block) → OpenedView
   Rest : (line : LineView) → OpenedView
@@ -57,7 +57,7 @@ abbrev pub block_by : (LineView → OpenedView) → LineView → Option Block �
 block_by others line None = Rest line
 block_by others line (Some block) = end_by others block (behind_end block line)
 
--- at most so many blocks more
+-- at most this many more blocks
 abbrev pub behind_blocks_from : ℕ → LineView → OpenedView
 behind_blocks_from zero line = Rest line
 behind_blocks_from (suc n) line = block_by (behind_blocks_from n) line (block_at line.words)
@@ -65,7 +65,7 @@ behind_blocks_from (suc n) line = block_by (behind_blocks_from n) line (block_at
 unfoldable pub behind_blocks : LineView → OpenedView
 behind_blocks line = behind_blocks_from (suc (length line.words)) line
 
--- what is left of a line has room for its columns
+-- the rest of a line has room for its columns
 abbrev pub Room : Opened → ℕ → Type 0
 Room (opening.Waits block) most = Unit {0}
 Room (opening.Left line) most = line.column + length line.words.now ≤ most
@@ -76,18 +76,18 @@ is_remark words =
     starts_with nat_eq words (codes "%%") || is_described (codes "accTitle") (codes ":") words
     || is_described (codes "accDescr") (codes ":") words
 
--- with how many bytes of a word the bytes begin
+-- the length of the word at the beginning of the bytes
 unfoldable pub word_length : List ℕ → ℕ
 word_length bytes = unwrap_or (position (λ b. not (is_word_byte b)) bytes) (length bytes)
 
--- how many bytes a character has behind its `#`: its number or its name, and `;`
+-- the number of bytes of a character after its `#`: its number or its name, and `;`
 unfoldable pub character_length : List ℕ → Option ℕ
 character_length bytes =
     if nat_lt 0 (word_length bytes) && starts_with nat_eq (drop (word_length bytes) bytes) (codes ";")
     then Some (word_length bytes + 1) else None
 
--- how many bytes behind this one still belong to a character, if it goes on a statement: a semicolon ends it, and `#`
--- begins a comment
+-- the number of bytes after this one that still belong to a character, if the byte continues a statement; a semicolon
+-- ends a statement, and `#` begins a comment
 unfoldable pub next_within : ℕ → ℕ → List ℕ → Option ℕ
 next_within within b bs =
     if nat_lt 0 within then Some (within - 1) else (
@@ -98,7 +98,7 @@ abbrev pub length_by : (ℕ → ℕ) → Option ℕ → ℕ
 length_by others None = 0
 length_by others (Some next) = suc (others next)
 
--- how many bytes a statement has
+-- the number of bytes of a statement
 abbrev pub piece_length : ℕ → List ℕ → ℕ
 piece_length within [] = 0
 piece_length within (b ∷ bs) = length_by (λ next. piece_length next bs) (next_within within b bs)
@@ -110,7 +110,7 @@ listed piece = if length piece.words == 0 then [] else piece ∷ []
 abbrev pub next_pieces : (LineView → List LineView) → LineView → List LineView
 next_pieces others behind = if starts_with nat_eq behind.words (codes ";") then others (after 1 behind) else []
 
--- at most so many statements
+-- at most this many statements
 abbrev pub pieces_from : ℕ → LineView → List LineView
 pieces_from zero line = []
 pieces_from (suc n) line =
@@ -121,7 +121,7 @@ pieces_from (suc n) line =
 unfoldable pub pieces_of : LineView → List LineView
 pieces_of line = pieces_from (suc (length line.words)) line
 
--- the statements of what is left of a line, and where the reader stands behind it
+-- the statements of the rest of a line, and the reader's position after it
 abbrev pub open_pieces : OpenedView → List LineView × Standing
 open_pieces (Waits block) = ([], Inside block)
 open_pieces (Rest line) = if is_remark line.words then ([], Body) else (pieces_of line, Body)
@@ -134,7 +134,7 @@ ended_by block (Some rest) = open_pieces (behind_blocks rest)
 abbrev pub is_rule : List ℕ → Bool
 is_rule words = bytes_eq words (codes "---")
 
--- the statements of a line, and where the reader stands behind it
+-- the statements of a line, and the reader's position after it
 unfoldable pub stepped : Standing → LineView → List LineView × Standing
 stepped Above line =
     if length line.words == 0 then ([], Above) else (
@@ -143,6 +143,6 @@ stepped Title line = if is_rule line.words then ([], Body) else ([], Title)
 stepped Body line = open_pieces (behind_blocks line)
 stepped (Inside block) line = ended_by block (behind_end block line)
 
--- a step adds its pieces, and leads where it says
+-- the pieces and the position after a call are those of the step
 abbrev pub Steps : List LineView → List LineView → Standing → List LineView × Standing → Type 0
 Steps old new next step = (new ≡ old ++ step.0) × (next ≡ step.1)

@@ -9,7 +9,7 @@ use Rattle.diagram_mermaid.specs.declared.sign.Sign.{Sign}
 abbrev pub Spelled : Type 0
 Spelled = List ℕ × Direction
 
--- how arrows are written: both ways; to the left; lost; to the right
+-- the signs of arrows: both ways; to the left; lost; to the right
 abbrev pub signs : List Spelled
 signs =
     (codes "<<-->>", Both) ∷ (codes "<<->>", Both) ∷ (codes "\\|--", Back) ∷ (codes "\\|-", Back) ∷ (codes "/|--", Back)
@@ -30,7 +30,7 @@ first_spelled (s ∷ ss) bytes =
 unfoldable pub bare_sign : List ℕ → Option Sign
 bare_sign bytes = first_spelled signs bytes
 
--- a circle may stand at each end of a sign
+-- a sign may have a circle at each end
 unfoldable pub circle_length : List ℕ → ℕ
 circle_length bytes = if starts_with nat_eq bytes (codes "()") then 2 else 0
 
@@ -52,7 +52,7 @@ sign_at bytes =
 abbrev pub may_begin : ℕ → Bool
 may_begin b = b == 45 || b == 60 || b == 40 || b == 47 || b == 92
 
--- a sign so many bytes further on
+-- a sign this number of bytes further on
 abbrev pub moved : ℕ → Sign → Sign
 moved n s = record { before = n + s.before; length = s.length; direction = s.direction }
 

@@ -10,7 +10,7 @@ use crate::text::{before_colon, text_in};
 use diagram_statements::{Arrow, ArrowForm, End};
 use texts::{behind_blanks, stripped};
 
-/// The word that these bytes are.
+/// The word of these bytes, if they are one.
 #[tactic(auto, unfolding(crate::specs::Arrows::plain_receiver))]
 fn plain_receiver(bytes: &[u8]) -> Option<&[u8]>
     ensures { Finds (λ word. word.now) result (plain_receiver bytes.now) }
@@ -22,7 +22,7 @@ fn plain_receiver(bytes: &[u8]) -> Option<&[u8]>
     }
 }
 
-/// The word behind a sign of activation.
+/// The word after a sign of activation.
 fn active_receiver(bytes: &[u8]) -> Option<&[u8]>
     ensures { Finds (λ word. word.now) result (active_receiver bytes.now) }
 {
@@ -36,7 +36,7 @@ fn active_receiver(bytes: &[u8]) -> Option<&[u8]>
     }
 }
 
-/// The word behind the sign of an arrow: a sign of activation may stand before it.
+/// The word after the sign of an arrow. A sign of activation may come before it.
 #[tactic(auto, unfolding(crate::specs::Arrows::receiver_of))]
 fn receiver_of(bytes: &[u8]) -> Option<&[u8]>
     ensures { Finds (λ word. word.now) result (receiver_of bytes.now) }
@@ -100,7 +100,7 @@ fn between<'a>(
     }
 }
 
-/// The arrow that a statement says, if it says one. The first sign of an arrow is its own.
+/// The arrow of a statement, if it is one. The first sign of an arrow in it counts.
 #[tactic(auto, unfolding(crate::specs::Arrows::arrow_of))]
 pub(crate) fn arrow_of(words: &[u8]) -> Option<Arrow<'_>>
     ensures { Finds arrow_view result (arrow_of words.now) }

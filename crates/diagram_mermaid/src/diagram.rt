@@ -1,4 +1,4 @@
-//! Texts, read whole.
+//! Whole texts.
 ghost use Rattle.std.specs.Prelude.{◌≡◌, ◌<◌, ◌+◌, map, IfOk};
 ghost use Rattle.diagram_statements.specs.Readings.{read_view};
 ghost use Rattle.diagram_statements.specs.Statements.{line_view};
@@ -11,7 +11,7 @@ use crate::piece::{Standing, add_line};
 use diagram_statements::{Fault, Line, ReadText, behind_line, first_line};
 use std::alloc::{AllocError, Global};
 
-/// The statements of a text, in pieces, and where its reader stands in the end.
+/// The statements of a text, in pieces, and the position of its reader at the end.
 #[derive(Debug, Drop)]
 struct Pieces<'a> {
     pieces: Vec<Line<'a>>,
@@ -34,7 +34,7 @@ fn pieces_of(alloc: Global, text: &[u8]) -> Result<Pieces<'_>, AllocError>
     Ok(Pieces { pieces, standing })
 }
 
-/// What these statements say, up to the first one that can't be read.
+/// The statements of these pieces, up to the first one that can't be read.
 fn statements_of<'a>(alloc: Global, pieces: &[Line<'a>]) -> Result<ReadText<'a>, AllocError>
     ensures { IfOk result (λ read. read_view read ≡ statements_of (map line_view pieces.now)) }
 {
@@ -63,7 +63,7 @@ fn is_open(standing: Standing) -> bool
     }
 }
 
-/// The fault of a text, by the first one of its statements and where its reader stands in the end.
+/// The fault of a text: the first one of its statements, or otherwise a block that is open at the end.
 #[tactic(auto, unfolding(crate::specs::Diagrams::last_fault))]
 fn last_fault(fault: Option<Fault>, standing: Standing) -> Option<Fault>
     ensures { result ≡ last_fault fault standing }
@@ -80,7 +80,7 @@ fn last_fault(fault: Option<Fault>, standing: Standing) -> Option<Fault>
     }
 }
 
-/// What a text says, without its byte order mark: its statements from the top, up to its first fault.
+/// The statements of a text from the top, up to its first fault. The text comes without its byte order mark.
 #[tactic(auto, unfolding(crate::specs::Diagrams::diagram_of))]
 pub fn read(alloc: Global, text: &[u8]) -> Result<ReadText<'_>, AllocError>
     ensures { IfOk result (λ read. read_view read ≡ diagram_of text.now) }

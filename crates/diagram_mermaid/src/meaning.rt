@@ -1,4 +1,4 @@
-//! What a statement says.
+//! The meanings of statements.
 ghost use Rattle.std.specs.Prelude.{◌≡◌, ◌++◌, [], map, OnOk, IfOk};
 ghost use Rattle.texts.specs.Words.{Finds, begins_blank};
 ghost use Rattle.diagram_statements.specs.Statements.{element_view, statement_view};
@@ -17,17 +17,17 @@ use texts::{
     first_place, skip_word, stripped,
 };
 
-/// What a statement means.
+/// The meaning of a statement.
 #[derive(Clone, Copy, Debug)]
 pub(crate) enum Meaning<'a> {
-    /// It is about how the diagram looks.
+    /// It only concerns how the diagram looks.
     Look,
     Says(Element<'a>),
-    /// A note at several participants, whose words have commas between them.
+    /// A note at several participants, with commas between their words.
     Notes(&'a [u8]),
 }
 
-/// What words say that begin a statement alone, or before a blank.
+/// The meanings of words that begin a statement, alone or before a blank.
 const KEYWORDS: [(&[u8], Element<'static>); 12] = [
     (b"alt", Element::Begin(Group::Choice)),
     (b"opt", Element::Begin(Group::Choice)),
@@ -43,7 +43,7 @@ const KEYWORDS: [(&[u8], Element<'static>); 12] = [
     (b"option", Element::Branch),
 ];
 
-/// What the first of these words says with which a statement begins.
+/// The meaning of the first of these words with which a statement begins.
 fn keyword_at(keywords: &[(&[u8], Element<'static>)], words: &[u8]) -> Option<Element<'static>>
     ensures { Finds element_view result (keyword_at (map (λ k. (k.0.now, element_view k.1)) keywords.now) words.now) }
 {
@@ -55,7 +55,7 @@ fn keyword_at(keywords: &[(&[u8], Element<'static>)], words: &[u8]) -> Option<El
     None
 }
 
-/// What a word says with which a statement begins.
+/// The meaning of a word with which a statement begins.
 #[tactic(auto, unfolding(crate::specs::Meanings::keyword_of))]
 fn keyword_of(words: &[u8]) -> Option<Element<'static>>
     ensures { Finds element_view result (keyword_of words.now) }
@@ -63,7 +63,7 @@ fn keyword_of(words: &[u8]) -> Option<Element<'static>>
     keyword_at(&KEYWORDS, words)
 }
 
-/// Whether a statement is this word. A comment may stand behind it.
+/// Whether a statement is this word. A comment may follow it.
 #[tactic(auto, unfolding(crate::specs::Meanings::is_alone))]
 fn is_alone(known: &[u8], words: &[u8]) -> bool
     ensures { result ≡ is_alone known.now words.now }
@@ -74,7 +74,7 @@ fn is_alone(known: &[u8], words: &[u8]) -> bool
     }
 }
 
-/// Whether a title stands behind its word.
+/// Whether a title follows its word.
 #[tactic(auto, unfolding(crate::specs::Meanings::is_title))]
 fn is_title(words: &[u8]) -> bool
     ensures { result ≡ is_title words.now }
@@ -85,7 +85,7 @@ fn is_title(words: &[u8]) -> bool
     }
 }
 
-/// Whether more stands behind a word about a participant.
+/// Whether more follows a word about a participant.
 #[tactic(auto, unfolding(crate::specs::Meanings::is_link))]
 fn is_link(words: &[u8]) -> bool
     ensures { result ≡ is_link words.now }
@@ -96,7 +96,7 @@ fn is_link(words: &[u8]) -> bool
     }
 }
 
-/// Whether a statement is about how the diagram looks.
+/// Whether a statement only concerns how the diagram looks.
 #[tactic(auto, unfolding(crate::specs::Meanings::is_look))]
 fn is_look(words: &[u8]) -> bool
     ensures { result ≡ is_look words.now }
@@ -133,7 +133,7 @@ fn activation_of(words: &[u8]) -> Option<Element<'_>>
     }
 }
 
-/// What a note means.
+/// The meaning of a note.
 #[tactic(auto, unfolding(crate::specs::Meanings::note_meaning))]
 fn note_meaning(note: Note<'_>) -> Meaning<'_>
     ensures { meaning_view result ≡ note_meaning (note.entry.names.now, note.entry.text.now) }
@@ -147,7 +147,7 @@ fn note_meaning(note: Note<'_>) -> Meaning<'_>
     }
 }
 
-/// What a statement means that is neither a participant nor a note.
+/// The meaning of a statement that is neither a participant nor a note.
 #[tactic(auto, unfolding(crate::specs::Meanings::by_form))]
 fn by_form(words: &[u8]) -> Option<Meaning<'_>>
     ensures { Finds meaning_view result (by_form words.now) }
@@ -170,7 +170,7 @@ fn by_form(words: &[u8]) -> Option<Meaning<'_>>
     }
 }
 
-/// What a statement means, if it can be read.
+/// The meaning of a statement, if it can be read.
 #[tactic(auto, unfolding(crate::specs::Meanings::meaning_of))]
 fn meaning_of(words: &[u8]) -> Option<Meaning<'_>>
     ensures { Finds meaning_view result (meaning_of words.now) }
@@ -187,7 +187,7 @@ fn meaning_of(words: &[u8]) -> Option<Meaning<'_>>
     }
 }
 
-/// Adds what a statement at this place says.
+/// Adds the statements of a meaning at this place.
 fn add_meaning<'a>(
     place: Place,
     meaning: Meaning<'a>,
@@ -216,7 +216,7 @@ fn add_meaning<'a>(
     }
 }
 
-/// Adds what the statement of these words says, if it can be read.
+/// Adds the statements of these words, if they can be read.
 #[tactic(auto, unfolding(crate::specs::Meanings::says))]
 pub(crate) fn add_statement<'a>(
     place: Place,

@@ -3,21 +3,21 @@ ghost use Rattle.std.specs.Prelude.{◌≡◌, ◌==◌, not};
 ghost use Rattle.std.specs.List.{list_all};
 ghost use Rattle.diagram_mermaid.specs.Names.{is_barred, fits_behind, ends_name, are_listed_behind, are_listed, is_listed, is_word};
 
-/// A byte that no word for a participant has.
+/// Whether no word for a participant may have this byte.
 fn is_barred(byte: u8) -> bool
     ensures { result ≡ is_barred byte }
 {
     byte == b'<' || byte == b'>' || byte == b'=' || byte == b':' || byte == b';'
 }
 
-/// Whether a word may end behind this byte: it has a byte, and its last one is no dash.
+/// Whether a word may end after this byte: it has at least one byte, and its last one is no dash.
 fn ends_name(before: u8) -> bool
     ensures { result ≡ ends_name before }
 {
     before != b',' && before != b'-'
 }
 
-/// Whether a byte of words with commas between them may stand behind another one.
+/// Whether a byte of words with commas between them may come after another one.
 fn fits_behind(before: u8, byte: u8) -> bool
     ensures { result ≡ fits_behind before byte }
 {

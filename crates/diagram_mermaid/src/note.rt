@@ -17,7 +17,7 @@ pub(crate) struct Note<'a> {
     pub text: &'a [u8],
 }
 
-/// What stands behind the words for a side.
+/// The text after the words for a side.
 #[tactic(auto, unfolding(crate::specs::Notes::side_of))]
 fn side_of(words: &[u8]) -> Option<&[u8]>
     ensures { Finds (λ rest. rest.now) result (side_of words.now) }
@@ -28,7 +28,7 @@ fn side_of(words: &[u8]) -> Option<&[u8]>
     }
 }
 
-/// What stands behind the words that say where a note is.
+/// The text after the words for a note's position.
 #[tactic(auto, unfolding(crate::specs::Notes::behind_side))]
 fn behind_side(words: &[u8]) -> Option<&[u8]>
     ensures { Finds (λ rest. rest.now) result (behind_side words.now) }
@@ -39,7 +39,7 @@ fn behind_side(words: &[u8]) -> Option<&[u8]>
     }
 }
 
-/// The note behind the words that say where it is.
+/// The note after the words for its position.
 #[tactic(auto, unfolding(crate::specs::Notes::note_by))]
 fn note_by(words: &[u8]) -> Option<Note<'_>>
     ensures { Finds note_view result (note_by words.now) }
@@ -57,7 +57,7 @@ fn note_by(words: &[u8]) -> Option<Note<'_>>
     }
 }
 
-/// The note that a statement says, if it says one.
+/// The note of a statement, if it is one.
 #[tactic(auto, unfolding(crate::specs::Notes::note_of))]
 pub(crate) fn note_of(words: &[u8]) -> Option<Note<'_>>
     ensures { Finds note_view result (note_of words.now) }
@@ -71,7 +71,7 @@ pub(crate) fn note_of(words: &[u8]) -> Option<Note<'_>>
     }
 }
 
-/// Adds a statement that names a participant by the word that these bytes are.
+/// Adds a statement that names a participant by the word of these bytes.
 fn add_name<'a>(
     place: Place,
     name: &'a [u8],
@@ -90,7 +90,7 @@ fn add_name<'a>(
     Ok(())
 }
 
-/// The name before the first comma, and what stands behind that.
+/// The name before the first comma, and the text after that comma.
 #[tactic(auto, unfolding(crate::specs::Notes::next_name))]
 fn next_name(names: &[u8]) -> Option<(&[u8], &[u8])>
     ensures name { Finds (λ next. (next.0.now, next.1.now)) result (next_name names.now) }

@@ -11,27 +11,27 @@ use diagram_statements::{Element, End};
 use texts::bytes::is_blank;
 use texts::{behind_blanks, behind_keyword, behind_keyword_of, end_stripped, ends_word, place_of};
 
-/// A label, and how many bytes stand before its `as`.
+/// A label, and the number of bytes before its `as`.
 #[derive(Clone, Copy, Debug)]
 pub(crate) struct Label<'a> {
     pub before: usize,
     pub label: &'a [u8],
 }
 
-/// Where a participant's word ends, and its label, if it has one.
+/// The end of a participant's word, and its label, if it has one.
 #[derive(Clone, Copy, Debug)]
 pub(crate) struct Split<'a> {
     pub before: usize,
     pub label: Option<&'a [u8]>,
 }
 
-/// What may stand behind the kind of a participant.
+/// The text that may follow the kind of a participant.
 #[derive(Clone, Copy, Debug)]
 pub(crate) struct Tail<'a> {
     pub label: Option<&'a [u8]>,
 }
 
-/// What stands behind the word for a creation, if it comes next.
+/// The text after the word for a creation, if it comes next.
 #[tactic(auto, unfolding(crate::specs::Participants::behind_create))]
 fn behind_create(words: &[u8]) -> &[u8]
     ensures { result.now ≡ behind_create words.now }
@@ -42,7 +42,7 @@ fn behind_create(words: &[u8]) -> &[u8]
     }
 }
 
-/// What stands behind the words that say a participant, if it is more than blanks.
+/// The text after the words for a participant, if it is more than blanks.
 #[tactic(auto, unfolding(crate::specs::Participants::behind_participant))]
 pub(crate) fn behind_participant(words: &[u8]) -> Option<&[u8]>
     ensures { Finds (λ rest. rest.now) result (behind_participant words.now) }
@@ -54,7 +54,7 @@ pub(crate) fn behind_participant(words: &[u8]) -> Option<&[u8]>
     if named.is_empty() { None } else { Some(named) }
 }
 
-/// The label behind the `as` that comes next.
+/// The label after the `as` that comes next.
 #[tactic(auto, unfolding(crate::specs::Participants::label_at))]
 fn label_at(bytes: &[u8]) -> Option<&[u8]>
     ensures { Finds (λ label. label.now) result (label_at bytes.now) }
@@ -65,7 +65,7 @@ fn label_at(bytes: &[u8]) -> Option<&[u8]>
     }
 }
 
-/// The label behind the `as` that comes next, if a blank stands before it.
+/// The label after the `as` that comes next, if a blank is before it.
 fn label_here(before: u8, bytes: &[u8]) -> Option<&[u8]>
     ensures { Finds (λ label. label.now) result (label_here before bytes.now) }
 {
@@ -76,7 +76,7 @@ fn label_here(before: u8, bytes: &[u8]) -> Option<&[u8]>
     }
 }
 
-/// The first label, by the byte before the first one.
+/// The first label. `first` is the byte before the others.
 #[tactic(auto, unfolding(crate::specs::Participants::first_label), using(crate::proofs::LabelLoops::moved_on))]
 fn first_label(first: u8, bytes: &[u8]) -> Option<Label<'_>>
     ensures value { Finds label_view result (first_label first bytes.now) }
@@ -96,7 +96,7 @@ fn first_label(first: u8, bytes: &[u8]) -> Option<Label<'_>>
     None
 }
 
-/// What stands behind a kind: nothing, or a label.
+/// The text after a kind: nothing, or a label.
 #[tactic(auto, unfolding(crate::specs::Participants::tail_at))]
 fn tail_at(bytes: &[u8]) -> Option<Tail<'_>>
     ensures { Finds (λ tail. option_map (λ label. label.now) tail.label) result (tail_at bytes.now) }
@@ -113,7 +113,7 @@ fn tail_at(bytes: &[u8]) -> Option<Tail<'_>>
     }
 }
 
-/// What stands behind the brace that ends a kind.
+/// The text after the brace that ends a kind.
 #[tactic(auto, unfolding(crate::specs::Participants::kind_tail))]
 fn kind_tail(bytes: &[u8]) -> Option<Tail<'_>>
     ensures { Finds (λ tail. option_map (λ label. label.now) tail.label) result (kind_tail bytes.now) }
@@ -130,7 +130,7 @@ fn kind_tail(bytes: &[u8]) -> Option<Tail<'_>>
     None
 }
 
-/// Where a word ends before its kind, and the label behind that.
+/// The end of a word before its kind, and the label after the kind.
 #[tactic(auto, unfolding(crate::specs::Participants::kind_in))]
 fn kind_in(words: &[u8]) -> Option<Split<'_>>
     ensures value { Finds split_view result (kind_in words.now) }
@@ -151,7 +151,7 @@ fn kind_in(words: &[u8]) -> Option<Split<'_>>
     }
 }
 
-/// Where the word ends, and the label behind it: before a kind or before an `as`, whichever comes first.
+/// The end of the word, and the label after it. The word ends before a kind or before an `as`, whichever comes first.
 #[tactic(auto, unfolding(crate::specs::Participants::split_in))]
 fn split_in(words: &[u8]) -> Split<'_>
     ensures value { split_view result ≡ split_in words.now }

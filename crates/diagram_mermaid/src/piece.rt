@@ -11,17 +11,17 @@ use std::alloc::AllocError;
 use texts::bytes::is_word_byte;
 use texts::{begins_with, behind_blanks, behind_word, place_of};
 
-/// What may go over several lines.
+/// A block that may extend over several lines.
 #[derive(Clone, Copy, Debug)]
 pub(crate) enum Block {
     Directive,
     Description,
 }
 
-/// Where a reader of lines stands.
+/// The position of a reader of lines.
 #[derive(Clone, Copy, Debug)]
 pub(crate) enum Standing {
-    /// Nothing but blank lines stand above.
+    /// Only blank lines are above.
     Above,
     /// In the title block.
     Title,
@@ -31,7 +31,7 @@ pub(crate) enum Standing {
     Inside(Block),
 }
 
-/// What is left of a line behind the blocks with which it begins.
+/// The rest of a line after the blocks with which it begins.
 #[derive(Clone, Copy, Debug)]
 pub(crate) enum Opened<'a> {
     /// It begins a block that it doesn't end.
@@ -50,7 +50,7 @@ fn end_of(block: Block) -> &'static [u8]
     }
 }
 
-/// Whether this word comes next, and this sign behind it.
+/// Whether this word comes next, with this sign after it.
 #[tactic(auto, unfolding(crate::specs::Pieces::is_described))]
 fn is_described(word: &[u8], sign: &[u8], words: &[u8]) -> bool
     ensures { result ≡ is_described word.now sign.now words.now }
@@ -75,7 +75,7 @@ fn block_at(words: &[u8]) -> Option<Block>
     }
 }
 
-/// What stands behind the end of a block, if the line has it.
+/// The text after the end of a block, if the line has it.
 #[tactic(auto, unfolding(crate::specs::Pieces::behind_end))]
 fn behind_end(block: Block, line: Line<'_>) -> Option<Line<'_>>
     requires { line.column + length line.words.now < 2 ^ 64 }
@@ -90,7 +90,7 @@ fn behind_end(block: Block, line: Line<'_>) -> Option<Line<'_>>
     }
 }
 
-/// What is left of a line behind the blocks with which it begins.
+/// The rest of a line after the blocks with which it begins.
 fn behind_blocks(line: Line<'_>) -> Opened<'_>
     requires { line.column + length line.words.now < 2 ^ 64 }
     ensures left { opened_view result ≡ behind_blocks (line_view line.entry) }
@@ -118,7 +118,7 @@ fn is_remark(words: &[u8]) -> bool
         || is_described(b"accDescr", b":", words)
 }
 
-/// The place of the first byte that no word has.
+/// The place of the first byte that can't be in a word.
 fn first_other(bytes: &[u8]) -> Option<usize>
     ensures value { result ≡ position (λ b. not (is_word_byte b)) bytes.now }
     ensures within { IfSome result (λ place. place < length bytes.now) }
@@ -126,7 +126,7 @@ fn first_other(bytes: &[u8]) -> Option<usize>
     bytes.iter().position(|byte| !is_word_byte(*byte))
 }
 
-/// With how many bytes of a word the bytes begin.
+/// The length of the word at the beginning of the bytes.
 #[tactic(auto, unfolding(crate::specs::Pieces::word_length))]
 fn word_length(bytes: &[u8]) -> usize
     ensures value { result ≡ word_length bytes.now }
@@ -138,7 +138,7 @@ fn word_length(bytes: &[u8]) -> usize
     }
 }
 
-/// How many bytes the character has behind its `#`, if its name or its number comes next.
+/// The number of bytes of a character after its `#`, if its name or its number comes next.
 #[tactic(auto, unfolding(crate::specs::Pieces::character_length))]
 fn character_length(bytes: &[u8]) -> Option<usize>
     ensures { result ≡ character_length bytes.now }
@@ -151,7 +151,7 @@ fn character_length(bytes: &[u8]) -> Option<usize>
     }
 }
 
-/// How many bytes behind this one still belong to a character, if it goes on a statement.
+/// The number of bytes after this one that still belong to a character, if the byte continues a statement.
 #[tactic(auto, unfolding(crate::specs::Pieces::next_within))]
 fn next_within(within: usize, byte: u8, others: &[u8]) -> Option<usize>
     ensures { result ≡ next_within within byte others.now }
@@ -167,7 +167,7 @@ fn next_within(within: usize, byte: u8, others: &[u8]) -> Option<usize>
     }
 }
 
-/// How many bytes a statement has, up to its end or to a comment.
+/// The number of bytes of a statement, up to its end or to a comment.
 fn piece_length(bytes: &[u8]) -> usize
     ensures value { result ≡ piece_length 0 bytes.now }
     ensures within { result ≤ length bytes.now }
@@ -214,7 +214,7 @@ fn add_pieces<'a>(line: Line<'a>, pieces: &mut Vec<Line<'a>>) -> Result<(), Allo
     }
 }
 
-/// Adds the statements of what is left of a line.
+/// Adds the statements of the rest of a line.
 fn add_open<'a>(left: Opened<'a>, pieces: &mut Vec<Line<'a>>) -> Result<Standing, AllocError>
     requires { Room left (2 ^ 64 - 1) }
     ensures { IfOk result (λ next. Steps (map line_view pieces.old.items) (map line_view pieces.new.items) next
@@ -239,7 +239,7 @@ fn is_rule(words: &[u8]) -> bool
     words == b"---".as_slice()
 }
 
-/// Adds the statements of a line, and answers where the reader stands behind it.
+/// Adds the statements of a line, and returns the reader's position after it.
 #[tactic(auto, unfolding(crate::specs::Pieces::stepped))]
 pub(crate) fn add_line<'a>(
     standing: Standing,

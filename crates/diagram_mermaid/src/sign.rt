@@ -4,20 +4,20 @@ ghost use Rattle.diagram_mermaid.specs.Signs.{first_spelled, bare_sign, circle_l
 
 use texts::begins_with;
 
-/// Where an arrow goes.
+/// The direction of an arrow.
 #[derive(Clone, Copy, Debug)]
 pub(crate) enum Direction {
-    /// From the participant before its sign to the one behind it.
+    /// From the participant before the sign to the one after it.
     Forth,
-    /// From the participant behind its sign to the one before it.
+    /// From the participant after the sign to the one before it.
     Back,
     /// Both ways.
     Both,
-    /// Forth, but it gets lost.
+    /// Forth, but the message is lost.
     Lost,
 }
 
-/// A sign: how many bytes stand before it, how many it has, and where its arrow goes.
+/// A sign: the number of bytes before it, its own number of bytes, and the direction of its arrow.
 #[derive(Clone, Copy, Debug)]
 pub(crate) struct Sign {
     pub before: usize,
@@ -25,7 +25,7 @@ pub(crate) struct Sign {
     pub direction: Direction,
 }
 
-/// How arrows are written: longer signs stand before their beginnings.
+/// The signs of arrows. A longer sign comes before its own beginnings.
 const SIGNS: [(&[u8], Direction); 28] = [
     (b"<<-->>", Direction::Both),
     (b"<<->>", Direction::Both),
@@ -83,7 +83,7 @@ fn bare_sign(bytes: &[u8]) -> Option<Sign>
     first_spelled(&SIGNS, bytes)
 }
 
-/// How many bytes a circle has, with which the bytes may begin.
+/// The length of a circle, if the bytes begin with one, or 0.
 #[tactic(auto, unfolding(crate::specs::Signs::circle_length))]
 fn circle_length(bytes: &[u8]) -> usize
     ensures value { result ≡ circle_length bytes.now }

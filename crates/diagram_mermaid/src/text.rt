@@ -5,7 +5,7 @@ ghost use Rattle.diagram_mermaid.specs.Texts.{behind_wrap, text_of, before_colon
 
 use texts::{behind_blanks, behind_word, first_place, skip_word, stripped};
 
-/// What stands behind the word that says how a text is wrapped, if it begins with one.
+/// The text after the word about its wrapping, if it begins with one.
 #[tactic(auto, unfolding(crate::specs::Texts::behind_wrap))]
 fn behind_wrap(bytes: &[u8]) -> Option<&[u8]>
     ensures { Finds (λ rest. rest.now) result (behind_wrap bytes.now) }
@@ -16,7 +16,7 @@ fn behind_wrap(bytes: &[u8]) -> Option<&[u8]>
     )
 }
 
-/// A text without what says how it is wrapped, and without the blanks at its ends.
+/// A text without the word about its wrapping, and without the blanks at its ends.
 #[tactic(auto, unfolding(crate::specs::Texts::text_of))]
 pub(crate) fn text_of(bytes: &[u8]) -> &[u8]
     ensures { result.now ≡ text_of bytes.now }
@@ -27,7 +27,7 @@ pub(crate) fn text_of(bytes: &[u8]) -> &[u8]
     }
 }
 
-/// What stands before the first colon.
+/// The text before the first colon.
 #[tactic(auto, unfolding(crate::specs::Texts::before_colon))]
 pub(crate) fn before_colon(bytes: &[u8]) -> &[u8]
     ensures { result.now ≡ before_colon bytes.now }
@@ -38,7 +38,7 @@ pub(crate) fn before_colon(bytes: &[u8]) -> &[u8]
     }
 }
 
-/// What stands behind the first colon, if there is one.
+/// The text after the first colon, if there is one.
 #[tactic(auto, unfolding(crate::specs::Texts::behind_colon))]
 pub(crate) fn behind_colon(bytes: &[u8]) -> Option<&[u8]>
     ensures { Finds (λ rest. rest.now) result (behind_colon bytes.now) }
@@ -49,7 +49,7 @@ pub(crate) fn behind_colon(bytes: &[u8]) -> Option<&[u8]>
     }
 }
 
-/// The text behind the first colon, which is empty where there is none.
+/// The text after the first colon, or nothing without a colon.
 #[tactic(auto, unfolding(crate::specs::Texts::text_in))]
 pub(crate) fn text_in(bytes: &[u8]) -> &[u8]
     ensures { result.now ≡ text_in bytes.now }

@@ -1,10 +1,11 @@
 //! Texts of mscgen 0.20, read by their grammar.
 //!
-//! What is promised ([`read`]): a text is read exactly where it is in mscgen's language, and what it says is a
-//! function of its bytes: the entities, and the arcs of each row with their attributes. Any other text gets its
-//! first fault, with the line, the column and the words there. The tokens are a function of the bytes too
-//! ([`tokens_of`]), each with its kind, its place and the text from there on; blanks and comments are none. Memory
-//! is refused at a growth alone.
+//! [`read`] promises this: a text is read exactly if it is in mscgen's language. Its entities, and the arcs of each row
+//! with their attributes, depend only on its bytes. The result for any other text is its first fault, with the line,
+//! the column and the words there.
+//!
+//! The tokens depend only on the bytes too ([`tokens_of`]). Each has its kind, its place and the text from there on.
+//! Blanks and comments are no tokens. Memory is refused only at a growth.
 
 mod arc;
 mod attributes;

@@ -1,4 +1,4 @@
-//! Diagrams of mscgen: the grammar of its texts, and the diagram that one says.
+//! Diagrams of mscgen: the grammar of texts, and the diagram of a text.
 #![tactic(auto)]
 
 pub mod grammar;

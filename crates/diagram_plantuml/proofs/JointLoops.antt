@@ -1,10 +1,10 @@
--- Lines that go on, one after the other.
+-- Lines that continue, one after the other.
 use Rattle.std.proofs.Common.{◌≡◌, ℕ, zero, suc, ◌+◌, ◌-◌, ◌^◌, ◌<◌, ◌≤◌, List, [], ◌∷◌, ◌++◌, length, None, Some, refl, ap, sym, ◌∙◌, append_assoc, arith, add-one, if◌then◌else◌}
 use Rattle.std.proofs.lemmas.Bool.{le-ltb, lt-ltb}
 use Rattle.diagram_plantuml.specs.Joints.{added, at, below, joined_from, joined_text, line_feeds, line_in, piece_of, place_by, place_from, place_in}
 use Rattle.diagram_statements.specs.declared.statement.Place.{Place}
 
--- what is joined so far and what is left give the joined text
+-- the joined bytes so far and the rest of the text give the joined text
 pub record JoinedLeft (text so_far : List ℕ) (joints : ℕ) (rest : List ℕ) : Type 0 where
   pub steps : ℕ
   pub enough : length rest ≤ steps
@@ -57,7 +57,7 @@ next_joined text so_far now joints next line rest left are some line_is now_is n
           ∙ append_assoc so_far (added joints (line_in rest)).0 (joined_from s.0 (added joints (line_in rest)).1 (below rest)) ∙ ap (λ l. so_far ++ l) (sym s.2) ∙ are.same;
     }
 
--- the place behind what is passed is the one that is looked for
+-- the place is that of the searched byte, counted from the lines passed so far
 pub record PlaceLeft (source : List ℕ) (number column line before : ℕ) (rest : List ℕ) : Type 0 where
   pub steps : ℕ
   pub enough : length rest ≤ steps
@@ -90,7 +90,7 @@ no_lines (suc n) line before (b ∷ bs) h = absurd (omega arith)
 pub place_at_end : (source : List ℕ) (number column line before : ℕ) (rest : List ℕ) (place : Place) → PlaceLeft source number column line before rest → length rest ≡ 0 → place ≡ at line before → place ≡ place_in source number column
 place_at_end source number column line before rest place are h is = is ∙ sym (no_lines are.steps line before rest h) ∙ are.same
 
--- the line goes on no further
+-- the line continues no further
 pub place_in_last : (source : List ℕ) (number column line before : ℕ) (rest words : List ℕ) (place : Place) → PlaceLeft source number column line before rest → 0 < length rest → words ≡ line_in rest → piece_of words ≡ None → place ≡ at line before → place ≡ place_in source number column
 place_in_last source number column line before rest words place are some words_is none is =
     let s = place_step are.steps line before rest some are.enough in

@@ -18,7 +18,7 @@ none_left zero number rest h = refl
 none_left (suc n) number [] h = refl
 none_left (suc n) number (b ∷ bs) h = absurd (omega arith)
 
--- the region behind what is left is the one behind the text
+-- the region after the rest is the one after the text
 pub record RegionLeft (text : List ℕ) (region : Region) (number : ℕ) (rest : List ℕ) : Type 0 where
   pub steps : ℕ
   pub enough : length rest ≤ steps
@@ -58,7 +58,7 @@ next_region text region next number rest left line are some line_is is left_is s
           ∙ sym s.2 ∙ are.same;
     }
 
--- what is said so far and what is left say is what the text says
+-- the statements so far and those of the rest are those of the text
 pub record LinesLeft (text source : List ℕ) (begins : Region) (so_far : List StatementView) (region : Region) (standing : Standing) (number : ℕ) (left rest : List ℕ) : Type 0 where
   pub steps : ℕ
   pub enough : length rest ≤ steps

@@ -6,7 +6,7 @@ use Rattle.diagram_statements.specs.Statements.{LineView}
 use Rattle.texts.specs.Words.{place_of}
 use Rattle.diagram_plantuml_statements.specs.Participants.{last_place}
 
--- the bytes end with those that end a comment
+-- the bytes end with the end of a comment
 unfoldable pub ends_comment : List ℕ → Bool
 ends_comment bytes = nat_lt 1 (length bytes) && bytes_eq (drop (length bytes - 2) bytes) (codes "'/")
 
@@ -14,7 +14,7 @@ abbrev pub behind_by : LineView → Option ℕ → Option LineView
 behind_by l None = None
 behind_by l (Some place) = Some (stripped_line (after (place + 4) l))
 
--- what stands behind the comment with which a line begins
+-- the text after the comment with which a line begins
 unfoldable pub behind_comment : LineView → Option LineView
 behind_comment l =
     if starts_with nat_eq l.words (codes "/'") then behind_by l (place_of (codes "'/") (drop 2 l.words)) else None
@@ -23,12 +23,12 @@ abbrev pub comments_by : (LineView → LineView) → LineView → Option LineVie
 comments_by others l None = l
 comments_by others l (Some rest) = others rest
 
--- at most so many comments
+-- at most this many comments
 abbrev pub behind_comments_from : ℕ → LineView → LineView
 behind_comments_from zero l = l
 behind_comments_from (suc n) l = comments_by (behind_comments_from n) l (behind_comment l)
 
--- what stands behind the comments with which a line begins
+-- the text after the comments with which a line begins
 unfoldable pub behind_comments : LineView → LineView
 behind_comments l = behind_comments_from (suc (length l.words)) l
 

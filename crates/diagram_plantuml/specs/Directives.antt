@@ -1,5 +1,5 @@
--- Lines of the pre-processor (PlantUML's documentation, "Preprocessing"): of a condition the first branch is read, and of a
--- definition nothing.
+-- Lines of the preprocessor (PlantUML's documentation, "Preprocessing"). Only the first branch of a condition is read,
+-- and no definition is.
 use Rattle.std.specs.Prelude.{ℕ, ◌+◌, ◌%◌, ◌^◌, Bool, false, ◌&&◌, ◌||◌, ◌==◌, List, [], ◌∷◌, codes, Option, None, Some, is_some, if◌then◌else◌}
 use Rattle.texts.specs.Words.{behind_blanks, behind_word, or_else}
 use Rattle.diagram_statements.specs.Options.{◌>>=◌}
@@ -14,7 +14,7 @@ abbrev pub whole_by : Option (List ℕ) → Option (List ℕ)
 whole_by None = None
 whole_by (Some rest) = if run_length Word rest == 0 then Some rest else None
 
--- what stands behind this whole word
+-- the text after this whole word
 unfoldable pub behind_directive : List ℕ → List ℕ → Option (List ℕ)
 behind_directive word bytes = whole_by (behind_word word bytes)
 
@@ -34,7 +34,7 @@ abbrev pub as_end : SkipEnd → Option (List ℕ) → Option (SkipEnd × List �
 as_end end None = None
 as_end end (Some rest) = Some (end, rest)
 
--- what is defined here
+-- the kind of definition that begins here, and the text after its word
 unfoldable pub defined_at : List ℕ → Option (SkipEnd × List ℕ)
 defined_at bytes =
     or_else (as_end Procedure (behind_directive (codes "procedure") bytes)) (
@@ -56,11 +56,11 @@ abbrev pub returns_by : Option (List ℕ) → Bool
 returns_by None = false
 returns_by (Some rest) = is_directive (codes "return") (behind_blanks rest)
 
--- what a function gives stands behind its parameters here
+-- the result of a function follows its parameters here
 unfoldable pub returns_at : List ℕ → Bool
 returns_at bytes = returns_by (behind_byte 41 bytes)
 
--- a function is whole in its line
+-- the whole function is in its line
 unfoldable pub is_one_line : List ℕ → Bool
 is_one_line [] = false
 is_one_line (b ∷ bs) = returns_at (b ∷ bs) || is_one_line bs
@@ -71,7 +71,7 @@ defined_by Condition behind = Some Condition
 defined_by Procedure behind = Some Procedure
 defined_by DefineLong behind = Some DefineLong
 
--- what ends the definition that begins here
+-- the end of the definition that begins here
 unfoldable pub definition_of : List ℕ → Option SkipEnd
 definition_of words = do
   rest ← behind_byte 33 words
@@ -85,7 +85,7 @@ abbrev pub skip_by : Option SkipEnd → Option Skip
 skip_by None = None
 skip_by (Some end) = Some (skip_to end)
 
--- the lines that are left out behind this one
+-- the lines to skip after this one
 unfoldable pub skip_of : List ℕ → Option Skip
 skip_of words = if is_other_branch words then Some (skip_to Condition) else skip_by (definition_of words)
 
@@ -97,20 +97,20 @@ definition_end word (Some rest) = is_directive word (behind_blanks rest)
 unfoldable pub ends_definition : List ℕ → List ℕ → Bool
 ends_definition word words = definition_end word (behind_word (codes "!end") words)
 
--- a line ends what is left out
+-- a line ends the skipped lines
 abbrev pub ends_skip : SkipEnd → List ℕ → Bool
 ends_skip Condition words = is_directive (codes "!endif") words
 ends_skip Procedure words = ends_definition (codes "procedure") words
 ends_skip Function words = ends_definition (codes "function") words
 ends_skip DefineLong words = ends_definition (codes "definelong") words
 
--- conditions within what is left out are counted, modulo 2^64
+-- the number of open conditions among the skipped lines, modulo 2^64
 unfoldable pub deeper : ℕ → List ℕ → ℕ
 deeper depth words =
     if is_condition words then (depth + 1) % 2 ^ 64 else (
     if is_directive (codes "!endif") words then (depth + 18446744073709551615) % 2 ^ 64 else depth)
 
--- the lines that are still left out behind this one
+-- the lines that are still to be skipped after this one
 unfoldable pub behind_skip : Skip → List ℕ → Option Skip
 behind_skip skip words =
     if skip.depth == 0 && ends_skip skip.end words then None

@@ -19,7 +19,7 @@ is_end_of word words = end_by word (behind_word (codes "end") words)
 abbrev pub is_brace : List ℕ → Bool
 is_brace words = bytes_eq words (codes "}")
 
--- how many braces are open behind a line, modulo 2^64
+-- the number of open braces after a line, modulo 2^64
 unfoldable pub brace_depth : ℕ → List ℕ → ℕ
 brace_depth depth words =
     if is_brace words then (depth + 18446744073709551615) % 2 ^ 64 else (
@@ -48,7 +48,7 @@ braces depth = if depth == 0 then None else Some (blocks.Braces depth)
 abbrev pub unless_ended : Block → List ℕ → Option Block
 unless_ended block words = if ends_block block words then None else Some block
 
--- the block that goes on behind a line
+-- the block that continues after a line
 unfoldable pub behind_block : Block → List ℕ → Option Block
 behind_block (blocks.Braces depth) words = braces (brace_depth depth words)
 behind_block blocks.Title words = unless_ended blocks.Title words

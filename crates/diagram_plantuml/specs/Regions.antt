@@ -1,4 +1,5 @@
--- Where a diagram stands in a text: from `@startuml` to `@enduml` (PlantUML's documentation). A text without them is one.
+-- The place of a diagram in a text: from `@startuml` to `@enduml` (PlantUML's documentation). A text without them is
+-- one diagram.
 use Rattle.std.specs.Prelude.{ℕ, Bool, ◌&&◌, ◌==◌, List, [], ◌∷◌, codes, length, drop, nat_eq, if◌then◌else◌}
 use Rattle.std.specs.List.{starts_with}
 use Rattle.diagram_statements.specs.Lines.{stripped_line}
@@ -18,13 +19,13 @@ is_start words = is_mark (codes "@startuml") words
 abbrev pub is_end : List ℕ → Bool
 is_end words = is_mark (codes "@enduml") words
 
--- where the line behind this one stands
+-- the region of the line after this one
 unfoldable pub region_behind : Region → List ℕ → Region
 region_behind Above words = if is_start words then Inside else Above
 region_behind Inside words = if is_end words then Below else Inside
 region_behind Below words = Below
 
--- where what comes behind these lines stands
+-- the region after these lines
 abbrev pub region_in : Region → List LineView → Region
 region_in region [] = region
 region_in region (l ∷ ls) = region_in (region_behind region (stripped_line l).words) ls

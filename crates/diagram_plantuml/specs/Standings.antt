@@ -1,4 +1,4 @@
--- Where a reader of lines stands, and what it makes of a line.
+-- The state of a reader of lines, and the statements of a line.
 use Rattle.std.specs.Prelude.{◌≡◌, ℕ, Bool, true, false, not, ◌&&◌, ◌||◌, ◌==◌, List, [], ◌∷◌, ◌++◌, codes, length, Option, None, Some, Result, Ok, Err, is_some, is_none, nat_eq, if◌then◌else◌}
 use Rattle.std.specs.List.{starts_with}
 use Rattle.diagram_statements.specs.Statements.{LineView, StatementView, Preprocessor, OtherDiagram}
@@ -20,7 +20,7 @@ use Rattle.diagram_plantuml.specs.declared.region.Region.{Region}
 use Rattle.diagram_plantuml.specs.declared.region.Region.TheVariants.{Above, Inside, Below}
 use Rattle.diagram_plantuml.specs.declared.standing.Standing.{Standing}
 
--- the statements of a line, and where the reader stands behind it
+-- the statements of a line, and the reader's state after it
 abbrev pub Step : Type 0
 Step = Result (List StatementView × Standing) Fault
 
@@ -39,7 +39,7 @@ abbrev pub block_by : Place → LineView → Option Block → Step
 block_by place l None = statement_by place (reading_of l.words)
 block_by place l (Some block) = Ok ([], at false None (behind_block block l.words))
 
--- what the pre-processor leaves is in a block, or is a statement
+-- a line that the preprocessor leaves is in a block, or is a statement
 unfoldable pub blocked : Standing → Place → LineView → Step
 blocked standing place l = block_by place l standing.block
 
@@ -53,13 +53,13 @@ is_directive l = starts_with nat_eq l.words (codes "!")
 abbrev pub left_out : Place → LineView → List StatementView
 left_out place l = if is_directive l then one_statement place Preprocessor ∷ [] else []
 
--- a line of the pre-processor is left out, and so are those that it has left out
+-- a line of the preprocessor is skipped, and so are the lines to skip after it
 unfoldable pub chosen : Standing → Place → LineView → Step
 chosen standing place l =
     if not (is_directive l) && is_none standing.skip then blocked standing place l
     else Ok (left_out place l, at false (next_skip standing.skip l.words) standing.block)
 
--- a comment may begin that goes over several lines
+-- a comment over several lines may begin
 unfoldable pub bared : Standing → Place → LineView → Step
 bared standing place l =
     if starts_with nat_eq l.words (codes "/'") then Ok ([], at true standing.skip standing.block) else (
@@ -71,23 +71,23 @@ stepped standing source l =
     if standing.has_comment then Ok ([], at (not (ends_comment l.words)) standing.skip standing.block)
     else bared standing (place_in source l.number (uncommented l).column) (uncommented l)
 
--- a line of the text: another diagram below the first one is left out
+-- a line of the text: another diagram below the first one is skipped
 unfoldable pub region_stepped : Region → Standing → List ℕ → LineView → Step
 region_stepped Above standing source l = Ok ([], standing)
 region_stepped Inside standing source l = if is_end l.words then Ok ([], standing) else stepped standing source l
 region_stepped Below standing source l =
     if is_start l.words then Ok (one_statement (place_in source l.number l.column) OtherDiagram ∷ [], standing) else Ok ([], standing)
 
--- a comment, a block, or what is left out goes on
+-- a comment, a block or skipped lines continue
 unfoldable pub is_open : Standing → Bool
 is_open standing = standing.has_comment || is_some standing.skip || is_some standing.block
 
--- a call that met a fault added nothing, unless memory ran out
+-- a call with a fault added nothing, unless memory ran out
 abbrev pub StopsAt : ReadError → List StatementView → List StatementView → Step → Type 0
 StopsAt errors.Memory old new step = Unit {0}
 StopsAt (errors.Fault fault) old new step = (step ≡ Err fault) × (new ≡ old)
 
--- a call added the statements of the step, and answered where it leads, unless memory ran out
+-- a call added the statements of the step and returned its state, unless memory ran out
 abbrev pub Steps : Result Standing ReadError → List StatementView → List StatementView → Step → Type 0
 Steps (Ok next) old new step = (more : List StatementView) × (step ≡ Ok (more, next)) × (new ≡ old ++ more)
 Steps (Err e) old new step = StopsAt e old new step

@@ -8,7 +8,7 @@ use diagram_plantuml_statements::last_place;
 use diagram_statements::Line;
 use texts::{begins_with, place_of};
 
-/// Whether the bytes end with those that end a comment.
+/// Whether the bytes end with the end of a comment.
 #[tactic(auto, unfolding(crate::specs::Comments::ends_comment))]
 pub(crate) fn ends_comment(bytes: &[u8]) -> bool
     ensures { result ≡ ends_comment bytes.now }
@@ -16,7 +16,7 @@ pub(crate) fn ends_comment(bytes: &[u8]) -> bool
     bytes.len() > 1 && &bytes[bytes.len() - 2..] == b"'/".as_slice()
 }
 
-/// What stands behind the comment with which a line begins.
+/// The text after the comment with which a line begins.
 #[tactic(auto, unfolding(crate::specs::Comments::behind_comment))]
 fn behind_comment(line: Line<'_>) -> Option<Line<'_>>
     requires { line.column + length line.words.now < 2 ^ 64 }
@@ -33,7 +33,7 @@ fn behind_comment(line: Line<'_>) -> Option<Line<'_>>
     }
 }
 
-/// What stands behind the comments with which a line begins.
+/// The text after the comments with which a line begins.
 fn behind_comments(line: Line<'_>) -> Line<'_>
     requires { line.column + length line.words.now < 2 ^ 64 }
     ensures rest { line_view result ≡ behind_comments (line_view line.entry) }

@@ -1,4 +1,4 @@
-//! Texts, read whole.
+//! Whole texts.
 ghost use Rattle.std.specs.Prelude.{◌≡◌, [], Some, None, IfOk, if◌then◌else◌};
 ghost use Rattle.diagram_statements.specs.Lines.{lines_of};
 ghost use Rattle.diagram_statements.specs.Readings.{read_view};
@@ -19,7 +19,7 @@ const NOTHING_OPEN: Standing = Standing {
     block: None,
 };
 
-/// What the joined lines of a text say, the first of which stands in this region, up to the first fault.
+/// The statements of a text's joined lines, up to the first fault. The first line is in this region.
 fn statements_of<'a>(
     alloc: Global,
     begins: Region,
@@ -57,7 +57,7 @@ fn statements_of<'a>(
     })
 }
 
-/// The fault of a text at whose end something is open.
+/// The fault of a text if something is open at its end.
 fn open_fault(standing: Standing) -> Option<Fault>
     ensures { result ≡ (if is_open standing then Some Unfinished else None) }
 {
@@ -68,7 +68,7 @@ fn open_fault(standing: Standing) -> Option<Fault>
     }
 }
 
-/// Nothing but this fault.
+/// A text with this fault and no statements.
 fn only_fault<'a>(alloc: Global, fault: Fault) -> ReadText<'a>
     ensures { read_view result ≡ ([], Some fault) }
 {
@@ -78,8 +78,8 @@ fn only_fault<'a>(alloc: Global, fault: Fault) -> ReadText<'a>
     }
 }
 
-/// What a text says, without its byte order mark: its statements from the top, up to its first fault. A diagram that
-/// begins and doesn't end is a fault before all others. The words are those of the joined text.
+/// The statements of a text from the top, up to its first fault. The text comes without its byte order mark. A diagram
+/// that begins and doesn't end is a fault before all others. The words are those of the joined text.
 #[tactic(auto, unfolding(crate::specs::Diagrams::diagram_of))]
 pub fn read<'a>(alloc: Global, text: &[u8], joined: &'a [u8]) -> Result<ReadText<'a>, AllocError>
     requires { joined.now ≡ joined_text text.now }

@@ -1,4 +1,4 @@
-//! Lines of the pre-processor: of a condition the first branch is read, and of a definition nothing.
+//! Lines of the preprocessor. Only the first branch of a condition is read, and no definition is.
 ghost use Rattle.std.specs.Prelude.{◌≡◌};
 ghost use Rattle.texts.specs.Words.{Finds};
 ghost use Rattle.diagram_plantuml.specs.Directives.{behind_directive, is_directive, is_condition, is_other_branch, defined_at, behind_unquoted};
@@ -7,7 +7,7 @@ ghost use Rattle.diagram_plantuml.specs.Directives.{returns_at, is_one_line, def
 use diagram_plantuml_arrows::{Class, behind_byte, behind_gap, run_length};
 use texts::{behind_blanks, behind_word};
 
-/// What ends lines that are left out.
+/// The end of skipped lines.
 #[derive(Clone, Copy, Debug)]
 pub(crate) enum SkipEnd {
     Condition,
@@ -16,14 +16,14 @@ pub(crate) enum SkipEnd {
     DefineLong,
 }
 
-/// Lines that are left out, and in how many conditions among them the reader stands (modulo 2^64).
+/// Skipped lines, and the number of open conditions among them (modulo 2^64).
 #[derive(Clone, Copy, Debug)]
 pub(crate) struct Skip {
     pub end: SkipEnd,
     pub depth: u64,
 }
 
-/// What stands behind this whole word, if it comes next.
+/// The text after this whole word, if it comes next.
 #[tactic(auto, unfolding(crate::specs::Directives::behind_directive))]
 fn behind_directive<'a>(word: &[u8], bytes: &'a [u8]) -> Option<&'a [u8]>
     ensures { Finds (λ rest. rest.now) result (behind_directive word.now bytes.now) }
@@ -54,7 +54,7 @@ fn is_other_branch(words: &[u8]) -> bool
     is_directive(b"!else", words) || is_directive(b"!elseif", words)
 }
 
-/// What is defined here.
+/// The kind of definition that begins here, and the text after its word.
 #[tactic(auto, unfolding(crate::specs::Directives::defined_at))]
 fn defined_at(bytes: &[u8]) -> Option<(SkipEnd, &[u8])>
     ensures { Finds (λ d. (d.0, d.1.now)) result (defined_at bytes.now) }
@@ -71,7 +71,7 @@ fn defined_at(bytes: &[u8]) -> Option<(SkipEnd, &[u8])>
     }
 }
 
-/// What stands behind `unquoted` and the blanks behind it, if it comes next.
+/// The text after `unquoted` and the blanks after it, if it comes next.
 #[tactic(auto, unfolding(crate::specs::Directives::behind_unquoted))]
 fn behind_unquoted(bytes: &[u8]) -> &[u8]
     ensures { result.now ≡ behind_unquoted bytes.now }
@@ -85,7 +85,7 @@ fn behind_unquoted(bytes: &[u8]) -> &[u8]
     }
 }
 
-/// Whether what a function gives stands behind its parameters here.
+/// Whether the result of a function follows its parameters here.
 #[tactic(auto, unfolding(crate::specs::Directives::returns_at))]
 fn returns_at(bytes: &[u8]) -> bool
     ensures { result ≡ returns_at bytes.now }
@@ -96,7 +96,7 @@ fn returns_at(bytes: &[u8]) -> bool
     }
 }
 
-/// Whether a function is whole in its line.
+/// Whether the whole function is in its line.
 #[tactic(auto, unfolding(crate::specs::Directives::is_one_line))]
 fn is_one_line(bytes: &[u8]) -> bool
     ensures { result ≡ is_one_line bytes.now }
@@ -111,7 +111,7 @@ fn is_one_line(bytes: &[u8]) -> bool
     false
 }
 
-/// What ends the definition that begins here.
+/// The end of the definition that begins here.
 #[tactic(auto, unfolding(crate::specs::Directives::definition_of))]
 fn definition_of(words: &[u8]) -> Option<SkipEnd>
     ensures { result ≡ definition_of words.now }
@@ -124,7 +124,7 @@ fn definition_of(words: &[u8]) -> Option<SkipEnd>
     }
 }
 
-/// The lines that are left out behind this one.
+/// The lines to skip after this one.
 #[tactic(auto, unfolding(crate::specs::Directives::skip_of))]
 pub(crate) fn skip_of(words: &[u8]) -> Option<Skip>
     ensures { result ≡ skip_of words.now }
@@ -152,7 +152,7 @@ fn ends_definition(word: &[u8], words: &[u8]) -> bool
     }
 }
 
-/// Whether a line ends what is left out.
+/// Whether a line ends the skipped lines.
 fn ends_skip(end: SkipEnd, words: &[u8]) -> bool
     ensures { result ≡ ends_skip end words.now }
 {
@@ -164,7 +164,7 @@ fn ends_skip(end: SkipEnd, words: &[u8]) -> bool
     }
 }
 
-/// In how many conditions the reader stands behind a line.
+/// The number of open conditions after a line.
 #[tactic(auto, unfolding(crate::specs::Directives::deeper))]
 fn deeper(depth: u64, words: &[u8]) -> u64
     ensures { result ≡ deeper depth words.now }
@@ -178,7 +178,7 @@ fn deeper(depth: u64, words: &[u8]) -> u64
     }
 }
 
-/// The lines that are still left out behind this one.
+/// The lines that are still to be skipped after this one.
 #[tactic(auto, unfolding(crate::specs::Directives::behind_skip))]
 pub(crate) fn behind_skip(skip: Skip, words: &[u8]) -> Option<Skip>
     ensures { result ≡ behind_skip skip words.now }

@@ -24,7 +24,7 @@ fn is_brace(words: &[u8]) -> bool
     words == b"}".as_slice()
 }
 
-/// How many braces are open behind a line.
+/// The number of open braces after a line.
 #[tactic(auto, unfolding(crate::specs::Ends::brace_depth))]
 fn brace_depth(depth: u64, words: &[u8]) -> u64
     ensures { result ≡ brace_depth depth words.now }
@@ -74,7 +74,7 @@ fn braces(depth: u64) -> Option<Block>
     }
 }
 
-/// The block that goes on behind a line.
+/// The block that continues after a line.
 #[tactic(auto, unfolding(crate::specs::Ends::behind_block))]
 pub(crate) fn behind_block(block: Block, words: &[u8]) -> Option<Block>
     ensures { result ≡ behind_block block words.now }

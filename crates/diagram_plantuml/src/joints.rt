@@ -1,4 +1,4 @@
-//! Lines that go on: one that ends in a single `\` goes on with the next one.
+//! Lines that continue: a line that ends in a single `\` continues in the next one.
 ghost use Rattle.std.specs.Prelude.{◌≡◌, ◌≤◌, ◌<◌, ◌+◌, ◌^◌, ◌++◌, length, suc, IfOk, IfSome};
 ghost use Rattle.texts.specs.Words.{Finds};
 ghost use Rattle.diagram_plantuml.specs.Joints.{line_in, without_return, piece_of, line_feeds, added, joined_text, at, place_in};
@@ -27,7 +27,7 @@ fn without_return(line: &[u8]) -> &[u8]
     }
 }
 
-/// A line that goes on, without its sign.
+/// A line that continues in the next one, without its sign.
 #[tactic(auto, unfolding(crate::specs::Joints::piece_of))]
 fn piece_of(line: &[u8]) -> Option<&[u8]>
     ensures { Finds (λ piece. piece.now) result (piece_of line.now) }
@@ -40,7 +40,7 @@ fn piece_of(line: &[u8]) -> Option<&[u8]>
     }
 }
 
-/// Adds so many line feeds.
+/// Adds this number of line feeds.
 #[tactic(auto, using(crate::proofs::JointLoops::one_more_feed))]
 fn add_line_feeds(bytes: &mut Vec<u8>, count: usize) -> Result<(), AllocError>
     ensures { IfOk result (λ _. bytes.new.items ≡ bytes.old.items ++ line_feeds count) }
@@ -52,7 +52,7 @@ fn add_line_feeds(bytes: &mut Vec<u8>, count: usize) -> Result<(), AllocError>
     Ok(())
 }
 
-/// Adds a line with which so many go on, and answers how many then go on with the next one.
+/// Adds a line, in which `joints` lines above continue. Returns how many continue in the next one.
 #[tactic(auto, unfolding(crate::specs::Joints::added))]
 fn add_line(bytes: &mut Vec<u8>, line: &[u8], joints: usize) -> Result<usize, AllocError>
     requires { joints + 1 < 2 ^ 64 }
@@ -73,8 +73,8 @@ fn add_line(bytes: &mut Vec<u8>, line: &[u8], joints: usize) -> Result<usize, Al
     }
 }
 
-/// The text with its lines joined, for [`read`](crate::read): below a line stands an empty one for each that it goes on
-/// with.
+/// The text with its lines joined, for [`read`](crate::read). After a joined line there is an empty line for each line
+/// that continues it.
 #[tactic(auto, unfolding(crate::specs::Joints::joined_text))]
 pub fn joined_text(alloc: Global, text: &[u8]) -> Result<Vec<u8>, AllocError>
     ensures { IfOk result (λ joined. joined.items ≡ joined_text text.now) }
@@ -90,8 +90,8 @@ pub fn joined_text(alloc: Global, text: &[u8]) -> Result<Vec<u8>, AllocError>
     Ok(joined)
 }
 
-/// Where the byte in this column of a joined line stands in the source, of which this is left from the line's
-/// beginning.
+/// The place in the source of the byte in this column of a joined line. `source` is the source from the line's
+/// beginning on.
 pub(crate) fn place_in(source: &[u8], number: u64, column: u64) -> Place
     requires { number + length source.now < 2 ^ 64 }
     ensures { result ≡ place_in source.now number column }

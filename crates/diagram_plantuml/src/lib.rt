@@ -1,7 +1,7 @@
 //! Texts of PlantUML's sequence diagrams, read line by line.
 //!
-//! What is promised ([`read`]): what a text says is a function of its bytes: its statements from the top, each with
-//! its place, or the first fault. Memory is refused at a growth alone.
+//! [`read`] promises this: the result depends only on the text's bytes. It has the statements from the top, each with
+//! its place, and the first fault, if there is one. Memory is refused only at a growth.
 #![tactic(auto)]
 
 mod comments;

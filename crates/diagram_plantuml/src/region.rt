@@ -1,4 +1,4 @@
-//! Where a diagram stands in a text.
+//! The place of a diagram in a text.
 ghost use Rattle.std.specs.Prelude.{◌≡◌, ◌+◌};
 ghost use Rattle.diagram_statements.specs.Lines.{lines_of, first_line};
 ghost use Rattle.diagram_plantuml.specs.Regions.{is_mark, is_start, is_end, region_behind, region_in};
@@ -8,7 +8,7 @@ use diagram_plantuml_arrows::{Class, run_length};
 use diagram_statements::{Line, behind_line, first_line};
 use texts::begins_with;
 
-/// Where a line stands.
+/// The region of a line.
 #[derive(Clone, Copy, Debug)]
 pub(crate) enum Region {
     /// Above the diagram.
@@ -41,7 +41,7 @@ pub(crate) fn is_end(words: &[u8]) -> bool
     is_mark(b"@enduml", words)
 }
 
-/// Where the line behind this one stands.
+/// The region of the line after this one.
 #[tactic(auto, unfolding(crate::specs::Regions::region_behind))]
 pub(crate) fn region_behind(region: Region, words: &[u8]) -> Region
     ensures { result ≡ region_behind region words.now }
@@ -53,7 +53,7 @@ pub(crate) fn region_behind(region: Region, words: &[u8]) -> Region
     }
 }
 
-/// Where what comes behind a text's last line stands.
+/// The region after a text's last line.
 pub(crate) fn region_in(text: &[u8]) -> Region
     ensures { result ≡ region_in Above (lines_of text.now) }
 {

@@ -1,4 +1,4 @@
-//! Where a reader of lines stands, and what it makes of a line.
+//! The state of a reader of lines, and the statements of a line.
 ghost use Rattle.std.specs.Prelude.{◌≡◌, ◌+◌, ◌<◌, ◌^◌, length, map};
 ghost use Rattle.diagram_statements.specs.Statements.{line_view, statement_view};
 ghost use Rattle.diagram_plantuml.specs.Standings.{Steps, blocked, next_skip, chosen, bared, stepped, region_stepped, is_open};
@@ -12,18 +12,18 @@ use diagram_plantuml_statements::{Block, add_meaning, add_one, reading_of};
 use diagram_statements::{Element, Fault, Line, Place, ReadError, Statement};
 use texts::begins_with;
 
-/// Where a reader of a diagram's lines stands.
+/// The state of a reader of a diagram's lines.
 #[derive(Clone, Copy, Debug)]
 pub(crate) struct Standing {
-    /// Whether a comment goes on.
+    /// Whether a comment continues.
     pub has_comment: bool,
-    /// The lines that are left out.
+    /// The lines to skip.
     pub skip: Option<Skip>,
-    /// The block that goes on.
+    /// The block that continues.
     pub block: Option<Block>,
 }
 
-/// Adds what a line says that the pre-processor leaves.
+/// Adds the statements of a line that the preprocessor leaves.
 #[tactic(auto, unfolding(crate::specs::Standings::blocked))]
 fn add_blocked<'a>(
     standing: Standing,
@@ -52,7 +52,7 @@ fn add_blocked<'a>(
     })
 }
 
-/// Adds what a line says that is no comment.
+/// Adds the statements of a line that is no comment.
 #[tactic(auto, unfolding(crate::specs::Standings::chosen))]
 fn add_chosen<'a>(
     standing: Standing,
@@ -77,7 +77,7 @@ fn add_chosen<'a>(
     })
 }
 
-/// The lines that are left out behind a line of the pre-processor, or behind one that is left out.
+/// The lines to skip after a line of the preprocessor, or after a skipped line.
 fn next_skip(skip: Option<Skip>, words: &[u8]) -> Option<Skip>
     ensures { result ≡ next_skip skip words.now }
 {
@@ -87,7 +87,7 @@ fn next_skip(skip: Option<Skip>, words: &[u8]) -> Option<Skip>
     }
 }
 
-/// Adds what a line says without its comments.
+/// Adds the statements of a line without its comments.
 #[tactic(auto, unfolding(crate::specs::Standings::bared))]
 fn add_bared<'a>(
     standing: Standing,
@@ -111,7 +111,7 @@ fn add_bared<'a>(
     add_chosen(standing, place, line, statements)
 }
 
-/// Adds what a line of the diagram says.
+/// Adds the statements of a line of the diagram.
 #[tactic(auto, unfolding(crate::specs::Standings::stepped))]
 fn add_line<'a>(
     standing: Standing,
@@ -140,7 +140,7 @@ fn add_line<'a>(
     )
 }
 
-/// Adds what a line of the text says.
+/// Adds the statements of a line of the text.
 #[tactic(auto, unfolding(crate::specs::Standings::region_stepped))]
 pub(crate) fn add_line_in<'a>(
     region: Region,
@@ -165,7 +165,7 @@ pub(crate) fn add_line_in<'a>(
     }
 }
 
-/// Whether a comment, a block, or what is left out goes on.
+/// Whether a comment, a block or skipped lines continue.
 #[tactic(auto, unfolding(crate::specs::Standings::is_open))]
 pub(crate) fn is_open(standing: Standing) -> bool
     ensures { result ≡ is_open standing }

@@ -18,14 +18,14 @@ use Rattle.diagram_plantuml_arrows.specs.declared.body.Body.{Body}
 use Rattle.diagram_plantuml_arrows.specs.declared.runs.Class.TheVariants.{Digit, Word}
 use Rattle.diagram_plantuml_arrows.specs.declared.tips.Tip.{Tip}
 
--- an arrow, and the signs of activation behind it
+-- an arrow, and the signs of activation after it
 abbrev pub FoundView : Type 0
 FoundView = ArrowView × List ℕ
 
 abbrev pub found_view : Found → FoundView
 found_view f = (arrow_view f.arrow, f.signs.now)
 
--- the right end, the participant there, and what stands behind it
+-- the right end, the participant there, and the text after it
 abbrev pub TargetView : Type 0
 TargetView = Tip × Option EndView × BehindView
 
@@ -36,7 +36,7 @@ abbrev pub row_by : List ℕ → Option (List ℕ) → Bool × List ℕ
 row_by bytes None = (false, bytes)
 row_by bytes (Some rest) = (true, behind_blanks rest)
 
--- `&` says that an arrow is beside the one above it
+-- `&` states that an arrow is beside the one above it
 unfoldable pub row_at : List ℕ → Bool × List ℕ
 row_at bytes = row_by bytes (behind_byte 38 bytes)
 
@@ -59,17 +59,17 @@ abbrev pub anchor_by : List ℕ → Option (List ℕ) → List ℕ
 anchor_by bytes None = bytes
 anchor_by bytes (Some rest) = behind_blanks rest
 
--- an anchor may come next, and blanks behind it
+-- an anchor may come next, with blanks after it
 unfoldable pub behind_anchor : List ℕ → List ℕ
 behind_anchor bytes = anchor_by bytes (behind_brace bytes)
 
--- a slope is how far an end stands below the other one, in parentheses
+-- a slope gives in parentheses how far an end is below the other one
 unfoldable pub slope_at : List ℕ → Option (List ℕ)
 slope_at bytes = do
   inner ← behind_byte 40 bytes
   behind_byte 41 (behind_run Digit inner)
 
--- what an arrow is, by its ends and its style
+-- the form of an arrow, by its ends and its style
 unfoldable pub form_of : Shaft → ArrowForm
 form_of s =
     if s.body.is_hidden then forms.Hidden else (
@@ -77,12 +77,12 @@ form_of s =
     if not s.left.has_head && not s.right.has_head then forms.Headless else (
     if s.left.is_crossed || s.right.is_crossed then forms.Lost else forms.Message)))
 
--- what an arrow does where arrows activate
+-- the effect of an arrow if arrows activate
 unfoldable pub activates : Shaft → List ℕ → Option Bool
 activates s signs =
     if not (length signs == 0) || s.left.is_crossed || s.right.is_crossed then None else Some (not s.body.is_dotted)
 
--- an arrow of this shaft: one with a head at its left end alone goes to the left
+-- an arrow with this shaft: if only its left end has a head, it goes to the left
 unfoldable pub made : Bool → Option EndView → Option EndView → Shaft → BehindView → FoundView
 made is_beside first second s behind = (
   record {
@@ -101,14 +101,14 @@ abbrev pub behind_slope : List ℕ → Option (List ℕ) → List ℕ
 behind_slope bytes None = behind_blanks bytes
 behind_slope bytes (Some rest) = behind_blanks rest
 
--- the participant to which the right end leads, and what stands behind it
+-- the participant to which the right end leads, and the text after it
 unfoldable pub receiver_at : List ℕ → Option (EndView × BehindView)
 receiver_at bytes = do
   end ← participant_at (behind_slope bytes (slope_at bytes))
   behind ← behind_at (behind_anchor end.1)
   Some (end.0, behind)
 
--- the same at the edge: only a name comes next
+-- the same for an arrow from the edge: only a name comes next
 unfoldable pub named_at : List ℕ → Option (EndView × BehindView)
 named_at bytes = do
   name ← name_at (behind_blanks bytes)
@@ -127,7 +127,7 @@ unmarked_target is_edge is_pointed bytes = do
   end ← end_at is_edge bytes
   Some (tip is_pointed false, Some end.0, end.1)
 
--- the same with a mark and a blank behind it
+-- the same with a mark, which a blank follows
 unfoldable pub marked_target : Bool → Bool → List ℕ → Option TargetView
 marked_target is_edge is_pointed bytes = do
   mark ← mark_before_blank bytes
@@ -137,7 +137,7 @@ marked_target is_edge is_pointed bytes = do
 abbrev pub target_by : Bool → Bool × List ℕ → Option TargetView
 target_by is_edge head = or_else (marked_target is_edge head.0 head.1) (unmarked_target is_edge head.0 head.1)
 
--- the right end of an arrow, the participant there, and what stands behind it
+-- the right end of an arrow, the participant there, and the text after it
 unfoldable pub target_at : Bool → List ℕ → Option TargetView
 target_at is_edge bytes = target_by is_edge (head_at 62 bytes)
 
@@ -151,7 +151,7 @@ abbrev pub shaft_by : Bool → Option EndView → Shaft → TargetView → Optio
 shaft_by is_beside first s target =
     if is_none first && not (is_pointed s) then None else Some (made is_beside first target.1 s target.2)
 
--- an arrow from what is written first: at the edge it has a head
+-- the rest of an arrow after its first participant or the edge: at the edge it has a head
 unfoldable pub shaft_from : Bool → Option EndView → Tip → List ℕ → Option FoundView
 shaft_from is_beside first left bytes = do
   body ← body_at bytes
@@ -181,7 +181,7 @@ is_edge b = b == 63 || b == 91 || b == 93
 abbrev pub from_left : Bool → Tip × List ℕ → Option FoundView
 from_left is_beside left = shaft_from is_beside None left.0 left.1
 
--- an arrow from the edge: behind a sign of it a mark may stand
+-- an arrow from the edge: a mark may come after a sign of the edge
 unfoldable pub from_tip : Bool → Bool → List ℕ → Option FoundView
 from_tip is_beside has_sign bytes = from_left is_beside (tip_at true has_sign bytes)
 
@@ -189,7 +189,7 @@ unfoldable pub from_sign : Bool → List ℕ → Option FoundView
 from_sign is_beside [] = None
 from_sign is_beside (b ∷ bs) = if is_edge b then from_tip is_beside true bs else None
 
--- an arrow from the edge, with a sign of it or without one
+-- an arrow from the edge, with or without a sign of the edge
 unfoldable pub from_edge : Bool → List ℕ → Option FoundView
 from_edge is_beside bytes = or_else (from_sign is_beside bytes) (from_tip is_beside false bytes)
 
@@ -200,7 +200,7 @@ edge_behind is_crossed (b ∷ bs) = if is_edge b then Some (is_crossed, bs) else
 abbrev pub edge_by : Bool × List ℕ → Option (Bool × List ℕ)
 edge_by mark = edge_behind mark.0 mark.1
 
--- a sign of the edge, before which a mark may stand
+-- a sign of the edge; a mark may come before it
 unfoldable pub edge_at : List ℕ → Option (Bool × List ℕ)
 edge_at bytes = edge_by (unwrap_or (mark_at bytes) (false, bytes))
 
@@ -214,7 +214,7 @@ abbrev pub unsigned : Option BehindView → Option (Bool × BehindView)
 unsigned None = None
 unsigned (Some behind) = Some (false, behind)
 
--- a sign of the edge, or none, and what stands behind an arrow
+-- a sign of the edge, or none, and the end of an arrow's statement
 unfoldable pub edge_tail : List ℕ → Option (Bool × BehindView)
 edge_tail bytes = or_else (signed_tail bytes) (unsigned (behind_at bytes))
 
@@ -227,7 +227,7 @@ to_head is_beside word left body head = do
   tail ← edge_tail head.1
   to_by is_beside word (shaft_of left body (tip head.0 tail.0)) tail.1
 
--- an arrow to the edge, behind its body
+-- an arrow to the edge, after its body
 unfoldable pub to_shaft : Bool → List ℕ → Tip → Body → List ℕ → Option FoundView
 to_shaft is_beside word left body bytes = to_head is_beside word left body (head_at 62 bytes)
 
@@ -241,7 +241,7 @@ to_other is_beside word left bytes = do
   body ← other_body bytes
   to_shaft is_beside word left body.0 body.1
 
--- an arrow to the edge, behind its left head: brackets behind its dashes are a style, if the arrow goes on behind them
+-- an arrow to the edge, after its left head: brackets after its dashes are a style, if the arrow continues after them
 unfoldable pub to_body : Bool → List ℕ → Tip → List ℕ → Option FoundView
 to_body is_beside word left bytes = or_else (to_styled is_beside word left bytes) (to_other is_beside word left bytes)
 
@@ -257,6 +257,6 @@ to_edge is_beside bytes = do
 abbrev pub arrow_by : Bool × List ℕ → Option FoundView
 arrow_by row = or_else (pair_at row.0 row.1) (or_else (from_edge row.0 row.1) (to_edge row.0 row.1))
 
--- the arrow that a statement says: between two participants, from the edge, or to it
+-- the arrow of a statement: between two participants, from the edge, or to it
 unfoldable pub arrow_of : List ℕ → Option FoundView
 arrow_of words = arrow_by (row_at words)

@@ -23,7 +23,7 @@ unfoldable pub has_style : Bool → List ℕ → List ℕ → Bool
 has_style begins word [] = false
 has_style begins word (b ∷ bs) = begins && is_entry word (b ∷ bs) || has_style (b == 44) word bs
 
--- several dashes make a dotted arrow, and so do words of its style
+-- several dashes make an arrow dotted, and so do words of its style
 unfoldable pub styled : Bool → List ℕ → Body
 styled is_long style = record {
   is_dotted = is_long || has_style true (codes "dotted") style || has_style true (codes "dashed") style;
@@ -43,7 +43,7 @@ dashes_at bytes = do
   dashes ← run_at Dash bytes
   Some (nat_lt 1 (length dashes.0), dashes.1)
 
--- a body with a style behind its first dashes
+-- a body with a style after its first dashes
 unfoldable pub styled_body : List ℕ → Option (Body × List ℕ)
 styled_body bytes = do
   dashes ← dashes_at bytes
@@ -63,7 +63,7 @@ early_body bytes = do
   dashes ← dashes_at style.1
   Some (styled dashes.0 style.0, dashes.1)
 
--- a body without a style behind its first dashes
+-- a body without a style after its first dashes
 unfoldable pub other_body : List ℕ → Option (Body × List ℕ)
 other_body bytes = or_else (plain_body bytes) (early_body bytes)
 

@@ -8,7 +8,7 @@ use Rattle.diagram_plantuml_arrows.specs.Runs.{run_at, behind_byte}
 use Rattle.diagram_statements.specs.Options.{◌>>=◌}
 use Rattle.diagram_plantuml_arrows.specs.declared.runs.Class.TheVariants.{Name, Quoted}
 
--- what stands between two quotation marks, and what stands behind them
+-- the text between two quotation marks, and the text after them
 unfoldable pub quoted_at : List ℕ → Option (List ℕ × List ℕ)
 quoted_at bytes = do
   inner ← behind_byte 34 bytes
@@ -16,11 +16,11 @@ quoted_at bytes = do
   rest ← behind_byte 34 text.1
   Some (text.0, rest)
 
--- a name is a word, or stands between two quotation marks
+-- a name is a word, or a text between two quotation marks
 unfoldable pub name_at : List ℕ → Option (List ℕ × List ℕ)
 name_at bytes = or_else (run_at Name bytes) (quoted_at bytes)
 
--- what stands behind blanks, of which there is one at least
+-- the text after blanks, of which there is at least one
 abbrev pub behind_gap : List ℕ → Option (List ℕ)
 behind_gap [] = None
 behind_gap (b ∷ bs) = if is_blank b then Some (behind_blanks bs) else None
@@ -29,14 +29,14 @@ behind_gap (b ∷ bs) = if is_blank b then Some (behind_blanks bs) else None
 abbrev pub plain_end : List ℕ → EndView
 plain_end word = record { word = word; label = None }
 
--- the word behind a label and `as`
+-- the word after a label and `as`
 unfoldable pub word_behind_as : List ℕ → Option (List ℕ × List ℕ)
 word_behind_as bytes = do
   behind ← behind_word (codes "as") (behind_blanks bytes)
   word ← behind_gap behind
   run_at Name word
 
--- the label behind a word and `as`
+-- the label after a word and `as`
 unfoldable pub label_behind_as : List ℕ → Option (List ℕ × List ℕ)
 label_behind_as bytes = do
   gap ← behind_gap bytes

@@ -18,21 +18,21 @@ is_in classes.Colour b = not (is_blank b) && not (b == 58)
 is_in classes.Quoted b = not (b == 34)
 is_in classes.Bracketed b = not (b == 93)
 
--- with how many bytes of this kind the bytes begin
+-- the number of bytes of this kind at the beginning
 unfoldable pub run_length : Class → List ℕ → ℕ
 run_length class bytes = unwrap_or (position (λ b. not (is_in class b)) bytes) (length bytes)
 
--- those bytes, and what stands behind them: there is one at least
+-- the bytes of this kind at the beginning, and the text after them: there is at least one
 unfoldable pub run_at : Class → List ℕ → Option (List ℕ × List ℕ)
 run_at class bytes =
     if run_length class bytes == 0 then None
     else Some (take (run_length class bytes) bytes, drop (run_length class bytes) bytes)
 
--- what stands behind them
+-- the text after the bytes of this kind at the beginning
 unfoldable pub behind_run : Class → List ℕ → List ℕ
 behind_run class bytes = drop (run_length class bytes) bytes
 
--- what stands behind this byte
+-- the text after this byte
 abbrev pub behind_byte : ℕ → List ℕ → Option (List ℕ)
 behind_byte known [] = None
 behind_byte known (b ∷ bs) = if b == known then Some bs else None

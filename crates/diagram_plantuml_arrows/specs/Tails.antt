@@ -1,4 +1,4 @@
--- What stands behind participants: activations, colours, links and texts (PlantUML's documentation of sequence diagrams,
+-- The text after participants: activations, colours, links and texts (PlantUML's documentation of sequence diagrams,
 -- "Lifeline Activation and Destruction", "Change arrow color", "Notes on messages").
 use Rattle.std.specs.Prelude.{ℕ, Bool, ◌==◌, nat_lt, List, [], ◌∷◌, codes, length, take, drop, Option, None, Some, option_map, unwrap_or, nat_eq, if◌then◌else◌}
 use Rattle.std.specs.List.{starts_with}
@@ -35,7 +35,7 @@ colon_by rest = if length rest == 0 then Some None else text_by (behind_byte 58 
 unfoldable pub colon_tail : List ℕ → Option TailView
 colon_tail bytes = colon_by (behind_blanks bytes)
 
--- the same behind the end of a link
+-- the same after the end of a link
 unfoldable pub link_tail : List ℕ → Option TailView
 link_tail [] = None
 link_tail (b ∷ bs) =
@@ -52,11 +52,11 @@ abbrev pub colour_by : Class → List ℕ → Option (List ℕ) → List ℕ
 colour_by class bytes None = bytes
 colour_by class bytes (Some colour) = if nat_lt 0 (run_length class colour) then behind_run class colour else bytes
 
--- what stands behind a colour of these bytes
+-- the text after a colour of these bytes
 unfoldable pub behind_colour : Class → List ℕ → List ℕ
 behind_colour class bytes = colour_by class bytes (behind_byte 35 bytes)
 
--- what stands behind the participants of a note
+-- the end of a note's statement after its participants
 unfoldable pub coloured_tail : List ℕ → Option TailView
 coloured_tail bytes = end_tail (behind_colour Colour (behind_blanks bytes))
 
@@ -70,6 +70,6 @@ signs_by rest =
     behind_by (take (run_length Sign rest) rest)
     (end_tail (behind_colour Word (behind_blanks (drop (run_length Sign rest) rest))))
 
--- what stands behind an arrow
+-- the end of an arrow's statement after its participants
 unfoldable pub behind_at : List ℕ → Option BehindView
 behind_at bytes = signs_by (behind_blanks bytes)

@@ -6,13 +6,13 @@ use Rattle.diagram_plantuml_arrows.specs.Runs.{behind_byte}
 use Rattle.diagram_statements.specs.Options.{◌>>=◌}
 use Rattle.diagram_plantuml_arrows.specs.declared.tips.Tip.{Tip}
 
--- what stands behind this byte, once or twice
+-- the text after this byte, once or twice
 unfoldable pub behind_double : ℕ → List ℕ → Option (List ℕ)
 behind_double known bytes = do
   rest ← behind_byte known bytes
   or_else (behind_byte known rest) (Some rest)
 
--- what stands behind a head: a whole one has this byte, and a half one is a slash or a backslash
+-- the text after a head: a whole one has this byte, and a half one is a slash or a backslash
 unfoldable pub behind_head : ℕ → List ℕ → Option (List ℕ)
 behind_head angle bytes = or_else (behind_double angle bytes) (or_else (behind_double 47 bytes) (behind_double 92 bytes))
 
@@ -41,7 +41,7 @@ abbrev pub blank_by : Option (Bool × List ℕ) → Option (Bool × List ℕ)
 blank_by None = None
 blank_by (Some mark) = if begins_blank mark.1 then Some mark else None
 
--- a cross or a circle with a blank behind it
+-- a cross or a circle, which a blank follows
 unfoldable pub mark_before_blank : List ℕ → Option (Bool × List ℕ)
 mark_before_blank bytes = blank_by (mark_at bytes)
 
@@ -53,7 +53,7 @@ abbrev pub pointed : Bool → Bool → Bool × List ℕ → Tip × List ℕ
 pointed is_edge is_crossed head =
     (record { has_head = head.0 || (is_crossed && not is_edge); is_crossed = is_crossed }, head.1)
 
--- what may stand before a body: a mark, where it may stand there, and a head; at the edge a cross is no head
+-- the end of an arrow before its body: a mark, if it is allowed there, and a head; at the edge a cross is no head
 unfoldable pub tip_at : Bool → Bool → List ℕ → Tip × List ℕ
 tip_at is_edge is_apart bytes =
     pointed is_edge (marked is_apart bytes (mark_at bytes)).0 (head_at 60 (marked is_apart bytes (mark_at bytes)).1)

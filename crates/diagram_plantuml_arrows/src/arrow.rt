@@ -16,14 +16,14 @@ use crate::tips::{Tip, head_at, mark_at, mark_before_blank, tip_at};
 use diagram_statements::{Arrow, ArrowForm, End};
 use texts::{begins_blank, behind_blanks};
 
-/// An arrow, and the signs of activation behind it.
+/// An arrow, and the signs of activation after it.
 #[derive(Clone, Copy, Debug)]
 pub struct Found<'a> {
     pub arrow: Arrow<'a>,
     pub signs: &'a [u8],
 }
 
-/// An arrow's shaft: what stands between its participants.
+/// The shaft of an arrow, between its participants.
 #[derive(Clone, Copy, Debug)]
 pub(crate) struct Shaft {
     pub left: Tip,
@@ -31,7 +31,7 @@ pub(crate) struct Shaft {
     pub right: Tip,
 }
 
-/// The head at the right end, the participant there, and what stands behind it.
+/// The head at the right end, the participant there, and the text after it.
 #[derive(Clone, Copy, Debug)]
 pub(crate) struct Target<'a> {
     pub right: Tip,
@@ -39,7 +39,7 @@ pub(crate) struct Target<'a> {
     pub behind: Behind<'a>,
 }
 
-/// Whether an arrow is beside the one above it, and what stands behind the sign of that.
+/// Whether an arrow is beside the one above it, and the text after the sign for that.
 #[tactic(auto, unfolding(crate::specs::Arrows::row_at))]
 pub fn row_at(bytes: &[u8]) -> (bool, &[u8])
     ensures { (result.0, result.1.now) ≡ row_at bytes.now }
@@ -50,7 +50,7 @@ pub fn row_at(bytes: &[u8]) -> (bool, &[u8])
     }
 }
 
-/// What stands behind an anchor, if one comes next.
+/// The text after an anchor, if one comes next.
 #[tactic(auto, unfolding(crate::specs::Arrows::behind_brace))]
 pub fn behind_brace(bytes: &[u8]) -> Option<&[u8]>
     ensures { Finds (λ rest. rest.now) result (behind_brace bytes.now) }
@@ -59,7 +59,7 @@ pub fn behind_brace(bytes: &[u8]) -> Option<&[u8]>
     behind_byte(b'}', rest)
 }
 
-/// Whether a blank stands before what comes behind an anchor and blanks, which may be there, and that.
+/// Skips an anchor, if one comes next, and blanks. Returns whether there were blanks, and the rest.
 #[tactic(auto, unfolding(crate::specs::Arrows::gap_at))]
 fn gap_at(bytes: &[u8]) -> (bool, &[u8])
     ensures { (result.0, result.1.now) ≡ gap_at bytes.now }
@@ -70,7 +70,7 @@ fn gap_at(bytes: &[u8]) -> (bool, &[u8])
     }
 }
 
-/// What stands behind an anchor and the blanks behind it, if one comes next.
+/// The text after an anchor and the blanks after it, if one comes next.
 #[tactic(auto, unfolding(crate::specs::Arrows::behind_anchor))]
 fn behind_anchor(bytes: &[u8]) -> &[u8]
     ensures { result.now ≡ behind_anchor bytes.now }
@@ -81,7 +81,7 @@ fn behind_anchor(bytes: &[u8]) -> &[u8]
     }
 }
 
-/// What stands behind a slope, if one comes next.
+/// The text after a slope, if one comes next.
 #[tactic(auto, unfolding(crate::specs::Arrows::slope_at))]
 fn slope_at(bytes: &[u8]) -> Option<&[u8]>
     ensures { Finds (λ rest. rest.now) result (slope_at bytes.now) }
@@ -89,7 +89,7 @@ fn slope_at(bytes: &[u8]) -> Option<&[u8]>
     behind_byte(b')', behind_run(Class::Digit, behind_byte(b'(', bytes)?))
 }
 
-/// What an arrow is, by its ends and its style.
+/// The form of an arrow, by its ends and its style.
 #[tactic(auto, unfolding(crate::specs::Arrows::form_of))]
 fn form_of(shaft: Shaft) -> ArrowForm
     ensures { result ≡ form_of shaft }
@@ -107,7 +107,7 @@ fn form_of(shaft: Shaft) -> ArrowForm
     }
 }
 
-/// What an arrow does where arrows activate: a dotted one ends an activation, and a lost one does nothing.
+/// If arrows activate: a dotted arrow ends an activation, any other begins one. With a cross or signs it does neither.
 #[tactic(auto, unfolding(crate::specs::Arrows::activates))]
 fn activates(shaft: Shaft, signs: &[u8]) -> Option<bool>
     ensures { result ≡ activates shaft signs.now }
@@ -119,7 +119,7 @@ fn activates(shaft: Shaft, signs: &[u8]) -> Option<bool>
     }
 }
 
-/// An arrow of this shaft. One with two heads or none goes to the right.
+/// An arrow with this shaft. If it has two heads or none, it goes to the right.
 #[tactic(auto, unfolding(crate::specs::Arrows::made))]
 fn made<'a>(
     is_beside: bool,
@@ -145,7 +145,7 @@ fn made<'a>(
     }
 }
 
-/// The participant to which an arrow's right end leads, and what stands behind it.
+/// The participant to which an arrow's right end leads, and the text after it.
 #[tactic(auto, unfolding(crate::specs::Arrows::receiver_at))]
 fn receiver_at(bytes: &[u8]) -> Option<(End<'_>, Behind<'_>)>
     ensures { Finds (λ r. (end_view r.0, behind_view r.1)) result (receiver_at bytes.now) }
@@ -159,7 +159,7 @@ fn receiver_at(bytes: &[u8]) -> Option<(End<'_>, Behind<'_>)>
     Some((end, behind))
 }
 
-/// The same at the edge: only a name comes next.
+/// The same for an arrow from the edge: only a name comes next.
 #[tactic(auto, unfolding(crate::specs::Arrows::named_at))]
 fn named_at(bytes: &[u8]) -> Option<(End<'_>, Behind<'_>)>
     ensures { Finds (λ r. (end_view r.0, behind_view r.1)) result (named_at bytes.now) }
@@ -169,7 +169,7 @@ fn named_at(bytes: &[u8]) -> Option<(End<'_>, Behind<'_>)>
     Some((End { word, label: None }, behind))
 }
 
-/// The one of the two that may stand at this arrow.
+/// The participant at the right end, in the form that this arrow may have.
 fn end_at(is_edge: bool, bytes: &[u8]) -> Option<(End<'_>, Behind<'_>)>
     ensures { Finds (λ r. (end_view r.0, behind_view r.1)) result (end_at is_edge bytes.now) }
 {
@@ -196,7 +196,7 @@ fn unmarked_target(is_edge: bool, is_pointed: bool, bytes: &[u8]) -> Option<Targ
     })
 }
 
-/// The same with a mark, behind which a blank stands.
+/// The same with a mark, which a blank follows.
 #[tactic(auto, unfolding(crate::specs::Arrows::marked_target))]
 fn marked_target(is_edge: bool, is_pointed: bool, bytes: &[u8]) -> Option<Target<'_>>
     ensures { Finds target_view result (marked_target is_edge is_pointed bytes.now) }
@@ -213,7 +213,7 @@ fn marked_target(is_edge: bool, is_pointed: bool, bytes: &[u8]) -> Option<Target
     })
 }
 
-/// The right end of an arrow, the participant there, and what stands behind it.
+/// The right end of an arrow, the participant there, and the text after it.
 #[tactic(auto, unfolding(crate::specs::Arrows::target_at))]
 fn target_at(is_edge: bool, bytes: &[u8]) -> Option<Target<'_>>
     ensures { Finds target_view result (target_at is_edge bytes.now) }
@@ -232,7 +232,7 @@ fn is_pointed(shaft: Shaft) -> bool
     shaft.left.has_head || shaft.right.has_head
 }
 
-/// An arrow from what is written first, behind that. At the edge it has a head.
+/// The rest of an arrow after its first participant or the edge. At the edge it has a head.
 #[tactic(auto, unfolding(crate::specs::Arrows::shaft_from))]
 fn shaft_from<'a>(
     is_beside: bool,
@@ -276,7 +276,7 @@ fn is_edge(byte: u8) -> bool
     byte == b'?' || byte == b'[' || byte == b']'
 }
 
-/// An arrow from the edge whose sign has been read, or isn't there.
+/// An arrow from the edge, whose sign has been read or is missing.
 #[tactic(auto, unfolding(crate::specs::Arrows::from_tip))]
 fn from_tip(is_beside: bool, has_sign: bool, bytes: &[u8]) -> Option<Found<'_>>
     ensures { Finds found_view result (from_tip is_beside has_sign bytes.now) }
@@ -296,7 +296,7 @@ fn from_sign(is_beside: bool, bytes: &[u8]) -> Option<Found<'_>>
     }
 }
 
-/// An arrow from the edge, with a sign of it or without one.
+/// An arrow from the edge, with or without a sign of the edge.
 #[tactic(auto, unfolding(crate::specs::Arrows::from_edge))]
 fn from_edge(is_beside: bool, bytes: &[u8]) -> Option<Found<'_>>
     ensures { Finds found_view result (from_edge is_beside bytes.now) }
@@ -307,7 +307,7 @@ fn from_edge(is_beside: bool, bytes: &[u8]) -> Option<Found<'_>>
     }
 }
 
-/// What stands behind a sign of the edge, before which a mark may stand, and whether that is a cross.
+/// The text after a sign of the edge. A mark may come before the sign, and the result has whether that is a cross.
 #[tactic(auto, unfolding(crate::specs::Arrows::edge_at))]
 fn edge_at(bytes: &[u8]) -> Option<(bool, &[u8])>
     ensures { Finds (λ edge. (edge.0, edge.1.now)) result (edge_at bytes.now) }
@@ -322,7 +322,7 @@ fn edge_at(bytes: &[u8]) -> Option<(bool, &[u8])>
     }
 }
 
-/// A sign of the edge and what stands behind an arrow.
+/// A sign of the edge, and the text after an arrow.
 #[tactic(auto, unfolding(crate::specs::Arrows::signed_tail))]
 fn signed_tail(bytes: &[u8]) -> Option<(bool, Behind<'_>)>
     ensures { Finds (λ tail. (tail.0, behind_view tail.1)) result (signed_tail bytes.now) }
@@ -332,7 +332,7 @@ fn signed_tail(bytes: &[u8]) -> Option<(bool, Behind<'_>)>
     Some((is_crossed, behind))
 }
 
-/// The same, or without the sign.
+/// The same, with or without the sign.
 #[tactic(auto, unfolding(crate::specs::Arrows::edge_tail))]
 fn edge_tail(bytes: &[u8]) -> Option<(bool, Behind<'_>)>
     ensures { Finds (λ tail. (tail.0, behind_view tail.1)) result (edge_tail bytes.now) }
@@ -346,7 +346,7 @@ fn edge_tail(bytes: &[u8]) -> Option<(bool, Behind<'_>)>
     }
 }
 
-/// An arrow to the edge, behind its body.
+/// An arrow to the edge, after its body.
 #[tactic(auto, unfolding(crate::specs::Arrows::to_shaft))]
 fn to_shaft<'a>(
     is_beside: bool,
@@ -374,7 +374,7 @@ fn to_shaft<'a>(
     Some(made(is_beside, first, None, shaft, behind))
 }
 
-/// An arrow to the edge with a style behind its first dashes.
+/// An arrow to the edge, with a style after its first dashes.
 #[tactic(auto, unfolding(crate::specs::Arrows::to_styled))]
 fn to_styled<'a>(is_beside: bool, word: &'a [u8], left: Tip, bytes: &'a [u8]) -> Option<Found<'a>>
     ensures { Finds found_view result (to_styled is_beside word.now left bytes.now) }
@@ -383,7 +383,7 @@ fn to_styled<'a>(is_beside: bool, word: &'a [u8], left: Tip, bytes: &'a [u8]) ->
     to_shaft(is_beside, word, left, body, rest)
 }
 
-/// An arrow to the edge, behind its left head.
+/// An arrow to the edge, after its left head.
 #[tactic(auto, unfolding(crate::specs::Arrows::to_body))]
 fn to_body<'a>(is_beside: bool, word: &'a [u8], left: Tip, bytes: &'a [u8]) -> Option<Found<'a>>
     ensures { Finds found_view result (to_body is_beside word.now left bytes.now) }
@@ -405,7 +405,7 @@ fn to_edge(is_beside: bool, bytes: &[u8]) -> Option<Found<'_>>
     to_body(is_beside, word, left, behind_tip)
 }
 
-/// The arrow that a statement says, if it says one.
+/// The arrow of a statement, if it is one.
 #[tactic(auto, unfolding(crate::specs::Arrows::arrow_of))]
 pub fn arrow_of(words: &[u8]) -> Option<Found<'_>>
     ensures { Finds found_view result (arrow_of words.now) }

@@ -27,7 +27,7 @@ fn is_entry(word: &[u8], bytes: &[u8]) -> bool
     }
 }
 
-/// Whether a style has this word: a comma ends each of its words.
+/// Whether a style has this word. A comma ends each of its words.
 #[tactic(auto, unfolding(crate::specs::Bodies::has_style))]
 fn has_style(word: &[u8], style: &[u8]) -> bool
     ensures { result ≡ has_style true word.now style.now }
@@ -44,7 +44,7 @@ fn has_style(word: &[u8], style: &[u8]) -> bool
     false
 }
 
-/// A body with so many dashes, more than one or not, and this style.
+/// A body with this style, and with several dashes or one.
 #[tactic(auto, unfolding(crate::specs::Bodies::styled))]
 fn styled(is_long: bool, style: &[u8]) -> Body
     ensures { result ≡ styled is_long style.now }
@@ -55,7 +55,7 @@ fn styled(is_long: bool, style: &[u8]) -> Body
     }
 }
 
-/// A style in brackets, and what stands behind it.
+/// A style in brackets, and the text after it.
 #[tactic(auto, unfolding(crate::specs::Bodies::style_at))]
 fn style_at(bytes: &[u8]) -> Option<(&[u8], &[u8])>
     ensures { Finds (λ style. (style.0.now, style.1.now)) result (style_at bytes.now) }
@@ -66,7 +66,7 @@ fn style_at(bytes: &[u8]) -> Option<(&[u8], &[u8])>
     Some((&inner[..length], rest))
 }
 
-/// Dashes, of which one at least comes next; whether there are several, and what stands behind them.
+/// Dashes, of which at least one has to come next: whether there are several, and the text after them.
 #[tactic(auto, unfolding(crate::specs::Bodies::dashes_at))]
 fn dashes_at(bytes: &[u8]) -> Option<(bool, &[u8])>
     ensures { Finds (λ dashes. (dashes.0, dashes.1.now)) result (dashes_at bytes.now) }
@@ -75,7 +75,7 @@ fn dashes_at(bytes: &[u8]) -> Option<(bool, &[u8])>
     Some((dashes.len() > 1, rest))
 }
 
-/// A body with a style behind its first dashes.
+/// A body with a style after its first dashes.
 #[tactic(auto, unfolding(crate::specs::Bodies::styled_body))]
 pub(crate) fn styled_body(bytes: &[u8]) -> Option<(Body, &[u8])>
     ensures { Finds (λ body. (body.0, body.1.now)) result (styled_body bytes.now) }
@@ -105,7 +105,7 @@ fn early_body(bytes: &[u8]) -> Option<(Body, &[u8])>
     Some((styled(is_long, style), rest))
 }
 
-/// A body without a style behind its first dashes.
+/// A body without a style after its first dashes.
 #[tactic(auto, unfolding(crate::specs::Bodies::other_body))]
 pub(crate) fn other_body(bytes: &[u8]) -> Option<(Body, &[u8])>
     ensures { Finds (λ body. (body.0, body.1.now)) result (other_body bytes.now) }
@@ -116,7 +116,7 @@ pub(crate) fn other_body(bytes: &[u8]) -> Option<(Body, &[u8])>
     }
 }
 
-/// The body that comes next, and what stands behind it.
+/// The body that comes next, and the text after it.
 #[tactic(auto, unfolding(crate::specs::Bodies::body_at))]
 pub(crate) fn body_at(bytes: &[u8]) -> Option<(Body, &[u8])>
     ensures { Finds (λ body. (body.0, body.1.now)) result (body_at bytes.now) }

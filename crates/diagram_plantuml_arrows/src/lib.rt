@@ -1,7 +1,7 @@
 //! Arrows of PlantUML's sequence diagrams, with the names, colours, links and texts of its statements.
 //!
-//! What is promised ([`arrow_of`]): a statement is an arrow exactly where its words have the form of one, and what it
-//! says is a function of them. The same holds of the parts that other statements share.
+//! [`arrow_of`] promises this: a statement is an arrow exactly if its words have the form of one, and the arrow depends
+//! only on them. The same holds for the parts that other statements share.
 #![tactic(auto)]
 
 mod arrow;

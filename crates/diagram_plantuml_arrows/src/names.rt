@@ -9,7 +9,7 @@ use diagram_statements::End;
 use texts::bytes::is_blank;
 use texts::{behind_blanks, behind_word};
 
-/// What stands between two quotation marks that come next, and what stands behind them. It has a byte at least.
+/// The text between two quotation marks that come next, and the text after them. It has at least one byte.
 #[tactic(auto, unfolding(crate::specs::Names::quoted_at))]
 pub fn quoted_at(bytes: &[u8]) -> Option<(&[u8], &[u8])>
     ensures shorter { IfSome result (λ text. length text.1.now < length bytes.now) }
@@ -21,7 +21,7 @@ pub fn quoted_at(bytes: &[u8]) -> Option<(&[u8], &[u8])>
     Some((text, rest))
 }
 
-/// The name that comes next: a word, or what stands between two quotation marks.
+/// The name that comes next: a word, or the text between two quotation marks.
 #[tactic(auto, unfolding(crate::specs::Names::name_at))]
 pub fn name_at(bytes: &[u8]) -> Option<(&[u8], &[u8])>
     ensures shorter { IfSome result (λ name. length name.1.now < length bytes.now) }
@@ -33,7 +33,7 @@ pub fn name_at(bytes: &[u8]) -> Option<(&[u8], &[u8])>
     }
 }
 
-/// What stands behind blanks, of which one at least comes next.
+/// The text after blanks, of which at least one has to come next.
 pub fn behind_gap(bytes: &[u8]) -> Option<&[u8]>
     ensures { Finds (λ rest. rest.now) result (behind_gap bytes.now) }
 {
@@ -50,7 +50,7 @@ fn plain_end(word: &[u8]) -> End<'_>
     End { word, label: None }
 }
 
-/// The word behind a label and `as`.
+/// The word after a label and `as`.
 #[tactic(auto, unfolding(crate::specs::Names::word_behind_as))]
 fn word_behind_as(bytes: &[u8]) -> Option<(&[u8], &[u8])>
     ensures { Finds (λ word. (word.0.now, word.1.now)) result (word_behind_as bytes.now) }
@@ -59,7 +59,7 @@ fn word_behind_as(bytes: &[u8]) -> Option<(&[u8], &[u8])>
     run_at(Class::Name, behind_gap(behind)?)
 }
 
-/// The label behind a word and `as`.
+/// The label after a word and `as`.
 #[tactic(auto, unfolding(crate::specs::Names::label_behind_as))]
 fn label_behind_as(bytes: &[u8]) -> Option<(&[u8], &[u8])>
     ensures { Finds (λ label. (label.0.now, label.1.now)) result (label_behind_as bytes.now) }
@@ -102,7 +102,7 @@ fn worded_end<'a>(word: &'a [u8], rest: &'a [u8]) -> (End<'a>, &'a [u8])
     }
 }
 
-/// The participant of an arrow that comes next, perhaps with its label, and what stands behind it.
+/// The participant of an arrow that comes next, perhaps with its label, and the text after it.
 #[tactic(auto, unfolding(crate::specs::Names::participant_at))]
 pub(crate) fn participant_at(bytes: &[u8]) -> Option<(End<'_>, &[u8])>
     ensures { Finds (λ end. (end_view end.0, end.1.now)) result (participant_at bytes.now) }

@@ -8,23 +8,23 @@ use texts::bytes::{is_blank, is_word_byte};
 /// A kind of bytes.
 #[derive(Clone, Copy, Debug)]
 pub enum Class {
-    /// What a word for a participant has: letters, digits, `_`, `.`, `@`, and all bytes beyond ASCII.
+    /// The bytes of a word for a participant: letters, digits, `_`, `.`, `@`, and all bytes beyond ASCII.
     Name,
     /// Letters, digits and `_`.
     Word,
-    /// What the name of a style has: the same and `.`.
+    /// The bytes of a style's name: letters, digits, `_` and `.`.
     Style,
     Digit,
     Dash,
     /// The signs of activations.
     Sign,
-    /// No blank.
+    /// Any byte that is no blank.
     Solid,
-    /// Neither a blank nor a colon.
+    /// Any byte that is neither a blank nor a colon.
     Colour,
-    /// Anything but a quotation mark.
+    /// Any byte but a quotation mark.
     Quoted,
-    /// Anything but a bracket that closes.
+    /// Any byte but a closing bracket.
     Bracketed,
 }
 
@@ -53,7 +53,7 @@ fn first_other(class: Class, bytes: &[u8]) -> Option<usize>
     bytes.iter().position(|byte| !is_in(class, *byte))
 }
 
-/// With how many bytes of this kind the bytes begin.
+/// The number of bytes of this kind at the beginning.
 #[tactic(auto, unfolding(crate::specs::Runs::run_length))]
 pub fn run_length(class: Class, bytes: &[u8]) -> usize
     ensures value { result ≡ run_length class bytes.now }
@@ -65,7 +65,7 @@ pub fn run_length(class: Class, bytes: &[u8]) -> usize
     }
 }
 
-/// The bytes of this kind with which the bytes begin, and what stands behind them. There is one at least.
+/// The bytes of this kind at the beginning, and the text after them. There is at least one.
 #[tactic(auto, unfolding(crate::specs::Runs::run_at))]
 pub fn run_at(class: Class, bytes: &[u8]) -> Option<(&[u8], &[u8])>
     ensures shorter { IfSome result (λ run. length run.1.now < length bytes.now) }
@@ -79,7 +79,7 @@ pub fn run_at(class: Class, bytes: &[u8]) -> Option<(&[u8], &[u8])>
     }
 }
 
-/// What stands behind the bytes of this kind with which the bytes begin.
+/// The text after the bytes of this kind at the beginning.
 #[tactic(auto, unfolding(crate::specs::Runs::behind_run))]
 pub fn behind_run(class: Class, bytes: &[u8]) -> &[u8]
     ensures { result.now ≡ behind_run class bytes.now }
@@ -87,7 +87,7 @@ pub fn behind_run(class: Class, bytes: &[u8]) -> &[u8]
     &bytes[run_length(class, bytes)..]
 }
 
-/// What stands behind this byte, if it comes next.
+/// The text after this byte, if it comes next.
 pub fn behind_byte(known: u8, bytes: &[u8]) -> Option<&[u8]>
     ensures shorter { IfSome result (λ rest. length rest.now < length bytes.now) }
     ensures rest { Finds (λ rest. rest.now) result (behind_byte known bytes.now) }

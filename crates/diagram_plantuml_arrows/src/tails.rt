@@ -1,4 +1,4 @@
-//! What stands behind participants: activations, colours, links and texts.
+//! The text after participants: activations, colours, links and texts.
 ghost use Rattle.std.specs.Prelude.{◌≡◌, option_map};
 ghost use Rattle.texts.specs.Words.{Finds};
 ghost use Rattle.diagram_plantuml_arrows.specs.Tails.{tail_view, behind_view, colon_tail, link_tail, end_tail, behind_colour, behind_at, coloured_tail};
@@ -12,7 +12,7 @@ pub struct Tail<'a> {
     pub text: Option<&'a [u8]>,
 }
 
-/// What stands behind an arrow: signs of activation, and a text, which may be empty.
+/// The end of an arrow's statement: signs of activation, and a text, which may be empty.
 #[derive(Clone, Copy, Debug)]
 pub(crate) struct Behind<'a> {
     pub signs: &'a [u8],
@@ -36,7 +36,7 @@ pub fn colon_tail(bytes: &[u8]) -> Option<Tail<'_>>
     }
 }
 
-/// The same behind a link that has begun.
+/// The same after the beginning of a link.
 #[tactic(auto, unfolding(crate::specs::Tails::link_tail))]
 fn link_tail(bytes: &[u8]) -> Option<Tail<'_>>
     ensures { Finds tail_view result (link_tail bytes.now) }
@@ -53,7 +53,7 @@ fn link_tail(bytes: &[u8]) -> Option<Tail<'_>>
     None
 }
 
-/// What a statement may end with: a link, and a colon with a text.
+/// The end of a statement: a link, and a colon with a text. Each is optional.
 #[tactic(auto, unfolding(crate::specs::Tails::end_tail))]
 fn end_tail(bytes: &[u8]) -> Option<Tail<'_>>
     ensures { Finds tail_view result (end_tail bytes.now) }
@@ -66,7 +66,7 @@ fn end_tail(bytes: &[u8]) -> Option<Tail<'_>>
     }
 }
 
-/// What stands behind a colour of these bytes, if one comes next.
+/// The text after a colour of these bytes, if one comes next.
 #[tactic(auto, unfolding(crate::specs::Tails::behind_colour))]
 pub fn behind_colour(class: Class, bytes: &[u8]) -> &[u8]
     ensures { result.now ≡ behind_colour class bytes.now }
@@ -77,7 +77,7 @@ pub fn behind_colour(class: Class, bytes: &[u8]) -> &[u8]
     }
 }
 
-/// What stands behind the participants of a note.
+/// The end of a note's statement after its participants.
 #[tactic(auto, unfolding(crate::specs::Tails::coloured_tail))]
 pub fn coloured_tail(bytes: &[u8]) -> Option<Tail<'_>>
     ensures { Finds tail_view result (coloured_tail bytes.now) }
@@ -85,7 +85,7 @@ pub fn coloured_tail(bytes: &[u8]) -> Option<Tail<'_>>
     end_tail(behind_colour(Class::Colour, behind_blanks(bytes)))
 }
 
-/// What stands behind an arrow.
+/// The end of an arrow's statement after its participants.
 #[tactic(auto, unfolding(crate::specs::Tails::behind_at))]
 pub(crate) fn behind_at(bytes: &[u8]) -> Option<Behind<'_>>
     ensures { Finds behind_view result (behind_at bytes.now) }

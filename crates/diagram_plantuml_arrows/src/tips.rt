@@ -7,7 +7,7 @@ use crate::runs::behind_byte;
 use texts::begins_blank;
 use texts::bytes::is_blank;
 
-/// What stands at an end of an arrow.
+/// An end of an arrow.
 #[derive(Clone, Copy, Debug)]
 pub(crate) struct Tip {
     /// A head or a cross.
@@ -15,7 +15,7 @@ pub(crate) struct Tip {
     pub is_crossed: bool,
 }
 
-/// What stands behind this byte, once or twice.
+/// The text after this byte, once or twice.
 #[tactic(auto, unfolding(crate::specs::Tips::behind_double))]
 fn behind_double(known: u8, bytes: &[u8]) -> Option<&[u8]>
     ensures { Finds (λ rest. rest.now) result (behind_double known bytes.now) }
@@ -27,7 +27,7 @@ fn behind_double(known: u8, bytes: &[u8]) -> Option<&[u8]>
     }
 }
 
-/// What stands behind the head that comes next. This byte is the one of its whole form.
+/// The text after the head that comes next. `angle` is the byte of a whole head.
 #[tactic(auto, unfolding(crate::specs::Tips::behind_head))]
 fn behind_head(angle: u8, bytes: &[u8]) -> Option<&[u8]>
     ensures { Finds (λ rest. rest.now) result (behind_head angle bytes.now) }
@@ -41,7 +41,7 @@ fn behind_head(angle: u8, bytes: &[u8]) -> Option<&[u8]>
     }
 }
 
-/// Whether a head comes next, and what stands behind it.
+/// Whether a head comes next, and the text after it.
 #[tactic(auto, unfolding(crate::specs::Tips::head_at))]
 pub(crate) fn head_at(angle: u8, bytes: &[u8]) -> (bool, &[u8])
     ensures { (result.0, result.1.now) ≡ head_at angle bytes.now }
@@ -65,7 +65,7 @@ fn cross_of(byte: u8) -> Option<bool>
     }
 }
 
-/// Whether a cross comes next, if it is a cross or a circle, and what stands behind it.
+/// Whether a cross comes next, if a cross or a circle comes next, and the text after it.
 pub(crate) fn mark_at(bytes: &[u8]) -> Option<(bool, &[u8])>
     ensures { Finds (λ mark. (mark.0, mark.1.now)) result (mark_at bytes.now) }
 {
@@ -78,7 +78,7 @@ pub(crate) fn mark_at(bytes: &[u8]) -> Option<(bool, &[u8])>
     }
 }
 
-/// The same, where a blank stands behind it.
+/// The same, if a blank comes after it.
 #[tactic(auto, unfolding(crate::specs::Tips::mark_before_blank))]
 pub(crate) fn mark_before_blank(bytes: &[u8]) -> Option<(bool, &[u8])>
     ensures { Finds (λ mark. (mark.0, mark.1.now)) result (mark_before_blank bytes.now) }
@@ -89,7 +89,7 @@ pub(crate) fn mark_before_blank(bytes: &[u8]) -> Option<(bool, &[u8])>
     }
 }
 
-/// What may stand before a body: a mark, where it may stand there, and a head. At the edge a cross is no head.
+/// The end of an arrow before its body: a mark, if it is allowed there, and a head. At the edge a cross is no head.
 #[tactic(auto, unfolding(crate::specs::Tips::tip_at))]
 pub(crate) fn tip_at(is_edge: bool, is_apart: bool, bytes: &[u8]) -> (Tip, &[u8])
     ensures { (result.0, result.1.now) ≡ tip_at is_edge is_apart bytes.now }

@@ -2,7 +2,7 @@
 use Rattle.std.proofs.Common.{◌≡◌, ℕ, suc, ◌+◌, Bool, true, false, Option, None, Some, option_map, refl, ap, arith, if◌then◌else◌}
 use Rattle.texts.specs.Words.{or_else}
 
--- a later place, so many bytes further on, or else the last one so far
+-- a later place, which is this number of bytes further on, or otherwise the last one so far
 abbrev pub last_of : ℕ → Option ℕ → Option ℕ → Option ℕ
 last_of n last later = or_else (option_map (λ k. n + k) later) last
 

@@ -1,6 +1,6 @@
--- Statements that are about how a diagram looks, and blocks of lines (PlantUML's documentation of sequence diagrams: "Page
--- Title, Header and Footer", "Splitting diagrams", "Adding a title", "Skinparam", "Foot Box", "Space", "Anchors and
--- Duration"; and of sprites and styles).
+-- Statements that only concern how a diagram looks, and blocks of lines (PlantUML's documentation of sequence diagrams:
+-- "Page Title, Header and Footer", "Splitting diagrams", "Adding a title", "Skinparam", "Foot Box", "Space", "Anchors
+-- and Duration"; and of sprites and styles).
 use Rattle.std.specs.Prelude.{ℕ, suc, ◌+◌, ◌-◌, Bool, true, false, not, ◌&&◌, ◌||◌, ◌==◌, nat_lt, List, [], ◌∷◌, codes, length, drop, Option, None, Some, is_some, bytes_eq, nat_eq, slice_get, if◌then◌else◌}
 use Rattle.std.specs.List.{list_all, starts_with}
 use Rattle.texts.specs.Words.{behind_blanks, behind_keyword, behind_keyword_of, behind_word, blank_length, place_of, skip_word, or_else, begins_blank}
@@ -31,7 +31,7 @@ abbrev pub side_by : List ℕ → Option (List ℕ) → List ℕ
 side_by words None = words
 side_by words (Some rest) = behind_blanks rest
 
--- a side may stand before a header or a footer
+-- a side may come before a header or a footer
 unfoldable pub behind_side : List ℕ → List ℕ
 behind_side words =
     side_by words (or_else (behind_word (codes "left") words) (or_else (behind_word (codes "right") words) (behind_word (codes "center") words)))
@@ -50,7 +50,7 @@ abbrev pub text_by : Option (List ℕ) → Bool
 text_by None = false
 text_by (Some rest) = begins_text rest
 
--- a text stands behind this word
+-- a text follows this word
 unfoldable pub has_text : List ℕ → List ℕ → Bool
 has_text word words = text_by (behind_word word words)
 
@@ -58,7 +58,7 @@ abbrev pub header_text : Option (Block × List ℕ) → Bool
 header_text None = false
 header_text (Some header) = begins_text header.1
 
--- a title, or another text round the diagram
+-- a title, or another text around the diagram
 unfoldable pub is_titled : List ℕ → Bool
 is_titled words =
     if has_text (codes "title") words || has_text (codes "mainframe") words || has_text (codes "caption") words
@@ -67,7 +67,7 @@ is_titled words =
 abbrev pub has_no_brace : List ℕ → Bool
 has_no_brace bytes = list_all (λ b. not (b == 123) && not (b == 125)) bytes
 
--- a value stands behind the name of a setting
+-- a value follows the name of a setting
 unfoldable pub is_set : List ℕ → Bool
 is_set bytes = begins_blank bytes && has_no_brace bytes
 
@@ -75,7 +75,7 @@ abbrev pub set_by : List ℕ → Option ℕ → Bool
 set_by bytes None = false
 set_by bytes (Some place) = is_set (behind_run Style (drop (place + 4) bytes))
 
--- a stereotype stands behind it, and a value behind that
+-- a stereotype follows the name of a setting, and a value follows the stereotype
 unfoldable pub is_set_for : List ℕ → Bool
 is_set_for bytes = if starts_with nat_eq bytes (codes "<<") then set_by bytes (place_of (codes ">>") (drop 2 bytes)) else false
 
@@ -83,11 +83,11 @@ abbrev pub locked_by : Option (List ℕ) → Option (List ℕ)
 locked_by None = None
 locked_by (Some rest) = Some (skip_word (codes "locked") rest)
 
--- what stands behind the word for settings
+-- the text after the word for settings
 unfoldable pub setting_rest : List ℕ → Option (List ℕ)
 setting_rest words = locked_by (behind_word (codes "skinparam") words)
 
--- a name, which may be empty, and a value stand behind the word for settings
+-- a name, which may be empty, and a value follow the word for settings
 unfoldable pub is_named_set : List ℕ → Bool
 is_named_set rest =
     begins_blank rest
@@ -101,7 +101,7 @@ setting_by (Some rest) = is_named_set rest
 unfoldable pub is_setting : List ℕ → Bool
 is_setting words = setting_by (setting_rest words)
 
--- what is about how the diagram looks, in a form that comes before arrows
+-- a statement about how the diagram looks, in a form that is tried before arrows
 unfoldable pub is_early_look : List ℕ → Bool
 is_early_look words = is_titled words || is_setting words
 
@@ -125,7 +125,7 @@ abbrev pub whole_header : Option (Block × List ℕ) → Option Block
 whole_header None = None
 whole_header (Some header) = if length header.1 == 0 then Some header.0 else None
 
--- a header or a footer over several lines
+-- a header or a footer that extends over several lines
 unfoldable pub header_block : List ℕ → Option Block
 header_block words = whole_header (header_at words)
 
@@ -135,7 +135,7 @@ last_block words =
     if opens_sprite words then Some blocks.Sprite else (
     if opens_braces words then Some (blocks.Braces 1) else None))
 
--- the block that a statement about looks begins
+-- the block that begins with a statement about looks
 unfoldable pub block_of : List ℕ → Option Block
 block_of words =
     if is_spelled (codes "title") words then Some blocks.Title else (
@@ -174,7 +174,7 @@ abbrev pub space_by : Option (List ℕ) → Bool
 space_by None = false
 space_by (Some rest) = are_bars (behind_run Digit rest)
 
--- room is left
+-- space is left
 unfoldable pub is_space : List ℕ → Bool
 is_space words = space_by (behind_word (codes "||") words)
 
@@ -190,7 +190,7 @@ abbrev pub duration_from : Option (List ℕ) → Bool
 duration_from None = false
 duration_from (Some rest) = duration_to (behind_word (codes "<->") (behind_blanks rest))
 
--- how long it is between two anchors
+-- the duration between two anchors
 unfoldable pub is_duration : List ℕ → Bool
 is_duration words = duration_from (behind_brace words)
 
@@ -202,7 +202,7 @@ abbrev pub other_look_words : List (List ℕ)
 other_look_words =
     codes "sprite" ∷ codes "url" ∷ codes "autonumber" ∷ codes "autonewpage" ∷ codes "hide" ∷ codes "show" ∷ []
 
--- what stands behind a word that is about how the diagram looks
+-- the text after a word about how the diagram looks
 unfoldable pub behind_look_word : List ℕ → Option (List ℕ)
 behind_look_word words = behind_keyword_of look_words words
 
@@ -212,7 +212,7 @@ behind_other_look_word words = behind_keyword_of other_look_words words
 unfoldable pub is_look_word : List ℕ → Bool
 is_look_word words = is_some (behind_look_word words) || is_some (behind_other_look_word words)
 
--- what is about how the diagram looks, in a form that comes behind all others
+-- a statement about how the diagram looks, in a form that is tried after all others
 unfoldable pub is_late_look : List ℕ → Bool
 is_late_look words =
     is_look_word words || is_page words || is_footbox words || is_space words || is_duration words

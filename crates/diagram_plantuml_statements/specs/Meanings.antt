@@ -1,5 +1,5 @@
--- What a statement says (PlantUML's documentation of sequence diagrams). Of several forms the first one counts, in the order
--- in which PlantUML tries them.
+-- The meanings of statements (PlantUML's documentation of sequence diagrams). The first form that a statement has
+-- decides, in the order in which PlantUML tries them.
 use Rattle.std.specs.Prelude.{◌≡◌, ℕ, ◌-◌, Bool, true, false, ◌&&◌, ◌||◌, ◌==◌, nat_lt, List, [], ◌∷◌, codes, length, drop, map, is_some, Option, None, Some, option_map, bytes_eq, nat_eq, if◌then◌else◌}
 use Rattle.std.specs.List.{starts_with}
 use Rattle.diagram_statements.specs.Statements.{ElementView, element_view, Named, NoteElement, Deactivate, Return, ArrowsActivate, Begin, Branch, EndElement, Box, Divider, Delay, Reference, AtArrow, AtParticipant, AtSeveral}
@@ -22,15 +22,15 @@ use Rattle.diagram_plantuml_statements.specs.declared.meaning.Meaning.{Meaning}
 use Rattle.diagram_plantuml_statements.specs.declared.meaning.Meaning.TheVariants as meanings
 use Rattle.diagram_plantuml_statements.specs.declared.meaning.Reading.{Reading}
 
--- what a statement means
+-- the meaning of a statement
 pub data MeaningView : Type 0 where
-  -- it is about how the diagram looks
+  -- it only concerns how the diagram looks
   Look : MeaningView
   Says : (element : ElementView) → MeaningView
   Arrow : (found : FoundView) → MeaningView
-  -- a participant, which is activated, or whose activation ends, or neither
+  -- a participant that is activated, whose activation ends, or neither
   Life : (word : List ℕ) → (activates : Option Bool) → MeaningView
-  -- it names participants, and then says this
+  -- it names participants, and is then this element
   Names : (names : List ℕ) → (element : ElementView) → MeaningView
 
 abbrev pub meaning_view : Meaning → MeaningView
@@ -40,7 +40,7 @@ meaning_view (meanings.Arrow found) = Arrow (found_view found)
 meaning_view (meanings.Life word activates) = Life word.now activates
 meaning_view (meanings.Names names element) = Names names.now (element_view element)
 
--- what a statement means, and the block that it begins
+-- the meaning of a statement, and the block that it begins
 abbrev pub ReadingView : Type 0
 ReadingView = MeaningView × Option Block
 
@@ -60,7 +60,7 @@ abbrev pub group_by : Option (List ℕ) → Bool
 group_by None = false
 group_by (Some rest) = ends_word (behind_colour Word rest)
 
--- a group begins with this word: a colour may stand behind it
+-- a group begins with this word; a colour may follow the word
 unfoldable pub is_group : List ℕ → List ℕ → Bool
 is_group word words = group_by (behind_word word words)
 
@@ -78,7 +78,7 @@ abbrev pub grouped_by : List ℕ → Option Group → Option ElementView
 grouped_by rest None = branch_or_end rest
 grouped_by rest (Some group) = Some (Begin group)
 
--- what a statement says of groups
+-- the beginning, the branch or the end of a group
 unfoldable pub group_of : List ℕ → Option ElementView
 group_of words = grouped_by (row_at words).1 (group_at groups (row_at words).1)
 
@@ -86,7 +86,7 @@ abbrev pub box_by : Option (List ℕ) → Bool
 box_by None = false
 box_by (Some rest) = ends_word rest || starts_with nat_eq rest (codes "#")
 
--- a box round participants begins
+-- a box around participants begins
 unfoldable pub is_box : List ℕ → Bool
 is_box words = box_by (behind_word (codes "box") words)
 
@@ -94,7 +94,7 @@ abbrev pub box_end_by : Option (List ℕ) → Bool
 box_end_by None = false
 box_end_by (Some rest) = is_spelled (codes "box") (behind_blanks rest)
 
--- it ends
+-- a box around participants ends
 unfoldable pub is_box_end : List ℕ → Bool
 is_box_end words = box_end_by (behind_word (codes "end") words)
 
@@ -102,7 +102,7 @@ abbrev pub answer_by : List ℕ → List ℕ → List ℕ → List ℕ
 answer_by rest blanks behind =
     if nat_lt (length behind) (length blanks) && begins_blank behind then stripped behind else stripped rest
 
--- the text of a return: a colour may stand before it
+-- the text of a return; a colour may come before it
 unfoldable pub answer_of : List ℕ → List ℕ
 answer_of rest = answer_by rest (behind_blanks rest) (behind_colour Word (behind_blanks rest))
 
@@ -114,7 +114,7 @@ return_by is_beside (Some rest) = Some (Return (answer_of rest) is_beside)
 unfoldable pub return_of : List ℕ → Option ElementView
 return_of words = return_by (row_at words).0 (behind_keyword (codes "return") (row_at words).1)
 
--- nothing but colours comes next: two at most
+-- only colours come next: two at most
 unfoldable pub are_colours : List ℕ → Bool
 are_colours bytes =
     length (behind_blanks (behind_colour Word (behind_blanks (behind_colour Word (behind_blanks bytes))))) == 0
@@ -123,7 +123,7 @@ abbrev pub verb_by : Option Bool → Option (List ℕ) → Option (Option Bool �
 verb_by activates None = None
 verb_by activates (Some rest) = Some (activates, rest)
 
--- a verb, and whether it begins or ends an activation
+-- the text after a verb, and whether the verb begins or ends an activation
 unfoldable pub verb_at : List ℕ → Option (Option Bool × List ℕ)
 verb_at words =
     or_else (verb_by (Some true) (behind_word (codes "activate") words)) (
@@ -149,7 +149,7 @@ signs_by activates (Some rest) = Some (activates, rest)
 unfoldable pub signs_at : List ℕ → Option (Bool × List ℕ)
 signs_at bytes = or_else (signs_by true (behind_word (codes "++") bytes)) (signs_by false (behind_word (codes "--") bytes))
 
--- an activation by signs behind a word
+-- an activation by signs after a word
 unfoldable pub short_life_of : List ℕ → Option MeaningView
 short_life_of words = do
   name ← run_at Name words
@@ -161,19 +161,19 @@ switch_by word =
     if is_spelled (codes "on") word then Some (ArrowsActivate true) else (
     if is_spelled (codes "off") word then Some (ArrowsActivate false) else None)
 
--- arrows activate from here on, or don't
+-- arrows activate from here on, or no longer do
 unfoldable pub switch_of : List ℕ → Option ElementView
 switch_of words = do
   rest ← behind_word (codes "autoactivate") words
   word ← behind_gap rest
   switch_by word
 
--- a divider stands between two equality signs at each end
+-- a divider is between two equality signs at each end
 unfoldable pub is_divider : List ℕ → Bool
 is_divider words =
     nat_lt 3 (length words) && starts_with nat_eq words (codes "==") && bytes_eq (drop (length words - 2) words) (codes "==")
 
--- time passes: three dots, or one sign for them
+-- a delay: three dots, or one character for them
 unfoldable pub is_delay : List ℕ → Bool
 is_delay words = starts_with nat_eq words (codes "...") || starts_with nat_eq words (226 ∷ 128 ∷ 166 ∷ [])
 
@@ -181,7 +181,7 @@ abbrev pub only_by : List ℕ → Option (List ℕ) → Option (List ℕ)
 only_by name None = Some name
 only_by name (Some next) = None
 
--- the word of the one participant that is named
+-- the word of the single participant that is named
 unfoldable pub only_name : List ℕ → Option (List ℕ)
 only_name names = do
   name ← name_at names
@@ -203,11 +203,11 @@ abbrev pub note_by : NoteView → Option (List ℕ) → MeaningView
 note_by note None = unnamed_note note.1
 note_by note (Some names) = named_note names note.2 (only_name names)
 
--- what a note means
+-- the meaning of a note
 unfoldable pub note_meaning : NoteView → MeaningView
 note_meaning note = note_by note note.0
 
--- a block begins where a text doesn't stand in the same line
+-- a block begins if there is no text in the same line
 abbrev pub block_without : Option (List ℕ) → Block → Option Block
 block_without None block = Some block
 block_without (Some text) block = None
@@ -257,7 +257,7 @@ boxing words =
     if is_box words then alone (Says Box) else (
     if is_box_end words then alone Look else grouping words)
 
--- the forms behind arrows
+-- the forms that are tried after arrows
 unfoldable pub listed : List ℕ → Option ReadingView
 listed words = or_else (noted words) (boxing words)
 
@@ -288,6 +288,6 @@ abbrev pub arrow_or : List ℕ → Option FoundView → Option ReadingView
 arrow_or words None = listed words
 arrow_or words (Some found) = alone (Arrow found)
 
--- what a statement means, if it can be read
+-- the meaning of a statement, if it can be read
 unfoldable pub reading_of : List ℕ → Option ReadingView
 reading_of words = or_else (early words) (arrow_or words (arrow_of words))

@@ -13,14 +13,14 @@ use Rattle.diagram_plantuml_arrows.specs.Tails.{behind_colour, colon_tail, colou
 use Rattle.diagram_plantuml_arrows.specs.declared.runs.Class.TheVariants.{Word, Colour}
 use Rattle.diagram_plantuml_statements.specs.declared.note.Note.{Note}
 
--- where the names of its participants begin, whether it stands at all, and its text, if it stands in this line
+-- the beginning of its participants' names, whether it is at all participants, and its text, if that is in this line
 abbrev pub NoteView : Type 0
 NoteView = Option (List ℕ) × Bool × Option (List ℕ)
 
 abbrev pub note_view : Note → NoteView
 note_view n = (option_map (λ names. names.now) n.names, n.is_across, option_map (λ text. text.now) n.text)
 
--- what stands behind a comma and the blanks round it
+-- the text after a comma and the blanks around it
 unfoldable pub behind_comma : List ℕ → Option (List ℕ)
 behind_comma bytes = option_map behind_blanks (behind_byte 44 (behind_blanks bytes))
 
@@ -28,18 +28,18 @@ abbrev pub others_by : (List ℕ → Option (List ℕ)) → List ℕ → Option 
 others_by others behind None = Some behind
 others_by others behind (Some next) = others next
 
--- what stands behind at most so many names
+-- the text after at most this many names
 abbrev pub behind_names_from : ℕ → List ℕ → Option (List ℕ)
 behind_names_from zero bytes = None
 behind_names_from (suc n) bytes = do
   name ← name_at bytes
   others_by (behind_names_from n) name.1 (behind_comma name.1)
 
--- what stands behind names with commas between them
+-- the text after names with commas between them
 unfoldable pub behind_names : List ℕ → Option (List ℕ)
 behind_names bytes = behind_names_from (suc (length bytes)) bytes
 
--- a participant is named by this word
+-- a statement that names a participant by this word
 abbrev pub name_statement : Place → List ℕ → StatementView
 name_statement place word = record { place = place; element = Named (record { word = word; label = None }) }
 
@@ -51,12 +51,12 @@ abbrev pub statements_by : (List ℕ → List StatementView) → Place → Optio
 statements_by others place None = []
 statements_by others place (Some name) = name_statement place name.0 ∷ statements_next others (behind_comma name.1)
 
--- participants are named by at most so many words
+-- statements that name participants by at most this many words
 abbrev pub statements_from : ℕ → Place → List ℕ → List StatementView
 statements_from zero place bytes = []
 statements_from (suc n) place bytes = statements_by (statements_from n place) place (name_at bytes)
 
--- participants are named by these words, with commas between them
+-- statements that name participants by these words, with commas between the words
 unfoldable pub name_statements : Place → List ℕ → List StatementView
 name_statements place bytes = statements_from (suc (length bytes)) place bytes
 
@@ -69,7 +69,7 @@ unfoldable pub behind_stereotype : List ℕ → List ℕ
 behind_stereotype bytes =
     if starts_with nat_eq bytes (codes "<<") then stereotype_by bytes (place_of (codes ">>") (drop 2 bytes)) else bytes
 
--- the word for a note, by its shape
+-- the text after the word for a note, by its shape
 unfoldable pub note_word : List ℕ → Option (List ℕ)
 note_word bytes =
     or_else (behind_word (codes "note") bytes) (or_else (behind_word (codes "hnote") bytes) (behind_word (codes "rnote") bytes))
@@ -78,11 +78,11 @@ abbrev pub slash_by : List ℕ → Option (List ℕ) → List ℕ
 slash_by bytes None = behind_blanks bytes
 slash_by bytes (Some rest) = behind_blanks rest
 
--- a slash says that a note is beside the one above it
+-- a slash states that a note is beside the one above it
 unfoldable pub behind_slash : List ℕ → List ℕ
 behind_slash bytes = slash_by bytes (behind_byte 47 bytes)
 
--- what stands behind the words with which a note begins
+-- the text after the words with which a note begins
 unfoldable pub behind_note : List ℕ → Option (List ℕ)
 behind_note words = do
   rest ← note_word (behind_slash (row_at words).1)
@@ -96,7 +96,7 @@ placed_at bytes = do
   text ← coloured_tail rest
   Some (Some names, false, text)
 
--- the word for a side
+-- the text after the word for a side
 unfoldable pub side_word : List ℕ → Option (List ℕ)
 side_word bytes =
     or_else (behind_word (codes "left") bytes) (or_else (behind_word (codes "right") bytes) (behind_word (codes "over") bytes))
@@ -114,13 +114,13 @@ placed_of bytes = do
 abbrev pub placed_by : List ℕ → Option NoteView
 placed_by rest = or_else (placed_of rest) (placed_at rest)
 
--- a note at participants that it names: `of` may stand before them
+-- a note at participants that it names; `of` may come before them
 unfoldable pub placed : List ℕ → Option NoteView
 placed bytes = do
   rest ← side_word bytes
   placed_by rest
 
--- a note without names, behind this word
+-- a note without names, after this word
 unfoldable pub unplaced : Bool → List ℕ → List ℕ → Option NoteView
 unplaced is_across word bytes = do
   rest ← behind_word word bytes
@@ -140,13 +140,13 @@ across bytes = or_else (unplaced true (codes "across") bytes) (unplaced true (co
 abbrev pub note_by : List ℕ → Option NoteView
 note_by rest = or_else (placed rest) (or_else (bare rest) (across rest))
 
--- the note that a statement says or begins
+-- the note that a statement is or begins
 unfoldable pub note_of : List ℕ → Option NoteView
 note_of words = do
   rest ← behind_note words
   note_by rest
 
--- the reference that a statement says or begins
+-- the reference that a statement is or begins
 unfoldable pub reference_of : List ℕ → Option NoteView
 reference_of words = do
   behind_ref ← behind_word (codes "ref") words

@@ -18,7 +18,7 @@ DeclaredView = EndView × Bool
 abbrev pub declared_view : Declared → DeclaredView
 declared_view d = (end_view d.end, d.opens)
 
--- the place where these bytes last stand
+-- the last place of these bytes
 unfoldable pub last_place : List ℕ → List ℕ → Option ℕ
 last_place known [] = None
 last_place known (b ∷ bs) =
@@ -30,7 +30,7 @@ minus_length bytes = if starts_with nat_eq bytes (codes "-") then 1 else 0
 abbrev pub order_by : ℕ → ℕ → ℕ → Option ℕ
 order_by blanks sign digits = if blanks == 0 || digits == 0 then None else Some (blanks + sign + digits)
 
--- how many bytes an order has behind its word: blanks, and a number
+-- the length of an order after its word: blanks, and a number
 unfoldable pub order_length : List ℕ → Option ℕ
 order_length bytes =
     order_by (blank_length bytes) (minus_length (drop (blank_length bytes) bytes))
@@ -39,8 +39,8 @@ order_length bytes =
 abbrev pub colour_length : ℕ → Option ℕ
 colour_length length = if length == 0 then None else Some (length + 1)
 
--- how many bytes a decoration has: a blank, a stereotype, a link, a colour or an order (a stereotype and a link go up to
--- the last end that stands behind)
+-- the length of a decoration: a blank, a stereotype, a link, a colour or an order; a stereotype and a link go up to the
+-- last of their ends
 unfoldable pub decoration_length : List ℕ → Option ℕ
 decoration_length [] = None
 decoration_length (b ∷ bs) =
@@ -50,12 +50,12 @@ decoration_length (b ∷ bs) =
     if b == 35 then colour_length (run_length Solid bs) else (
     if begins (codes "order") (b ∷ bs) then option_map (λ l. l + 5) (order_length (drop 5 (b ∷ bs))) else None))))
 
--- how many bytes behind the first one still belong to a decoration
+-- the number of bytes after the first one that still belong to a decoration
 unfoldable pub next_within : ℕ → List ℕ → Option ℕ
 next_within within bytes =
     if nat_lt 0 within then Some (within - 1) else option_map (λ l. l - 1) (decoration_length bytes)
 
--- a bracket alone begins a block
+-- a single bracket begins a block
 abbrev pub opens : List ℕ → Option Bool
 opens bytes = if bytes_eq bytes (codes "[") then Some true else None
 
@@ -63,18 +63,18 @@ abbrev pub decorated_by : (ℕ → Option Bool) → List ℕ → Option ℕ → 
 decorated_by others bytes None = opens bytes
 decorated_by others bytes (Some next) = others next
 
--- decorations, and perhaps what begins a block, are all that stands here
+-- only decorations, and perhaps the beginning of a block, are here
 unfoldable pub decorated : ℕ → List ℕ → Option Bool
 decorated within [] = Some false
 decorated within (b ∷ bs) = decorated_by (λ next. decorated next bs) (b ∷ bs) (next_within within (b ∷ bs))
 
--- a participant with what stands behind it
+-- a participant with the text after it
 unfoldable pub with_decoration : List ℕ → Option (List ℕ) → List ℕ → Option DeclaredView
 with_decoration word label bytes = do
   opens ← decorated 0 bytes
   Some (record { word = word; label = label }, opens)
 
--- what stands behind `as` and the blanks round it
+-- the text after `as` and the blanks around it
 unfoldable pub behind_as : List ℕ → Option (List ℕ)
 behind_as bytes = do
   gap ← behind_gap bytes
@@ -105,7 +105,7 @@ shortened bytes = do
   word ← run_at Name rest
   with_decoration word.0 (Some label.0) word.1
 
--- a name alone
+-- a single name
 unfoldable pub plain : List ℕ → Option DeclaredView
 plain bytes = do
   word ← name_at bytes
@@ -126,11 +126,11 @@ kinds =
     codes "participant" ∷ codes "actor" ∷ codes "boundary" ∷ codes "control" ∷ codes "entity" ∷ codes "queue"
     ∷ codes "database" ∷ codes "collections" ∷ []
 
--- what stands behind the word for a kind
+-- the text after the word for a kind
 unfoldable pub behind_kind : List ℕ → Option (List ℕ)
 behind_kind words = behind_keyword_of kinds words
 
--- a participant behind the word for its kind
+-- a participant after the word for its kind
 unfoldable pub kind_in : List ℕ → Option DeclaredView
 kind_in words = do
   rest ← behind_kind words

@@ -1,4 +1,4 @@
--- The statements that a meaning comes to.
+-- The statements of a meaning.
 use Rattle.std.specs.Prelude.{ℕ, Bool, true, false, ◌&&◌, ◌==◌, List, [], ◌∷◌, ◌++◌, Option, None, Some, if◌then◌else◌}
 use Rattle.diagram_statements.specs.Statements.{StatementView, ElementView, Named, ArrowElement, Activate, Deactivate}
 use Rattle.diagram_statements.specs.declared.statement.Place.{Place}
@@ -8,13 +8,13 @@ use Rattle.diagram_plantuml_statements.specs.Meanings.{MeaningView, Look, Says, 
 abbrev pub one_statement : Place → ElementView → StatementView
 one_statement place element = record { place = place; element = element }
 
--- two signs behind an arrow: activations begin and end, and others mean nothing
+-- the statement of two signs after an arrow: they begin or end an activation, and others have no meaning
 abbrev pub pair_statements : Place → ℕ → ℕ → List StatementView
 pair_statements place a b =
     if a == 43 && b == 43 then one_statement place Activate ∷ [] else (
     if a == 45 && b == 45 then one_statement place Deactivate ∷ [] else [])
 
--- the signs behind an arrow, two at a time
+-- the statements of the signs after an arrow, two signs at a time
 abbrev pub sign_statements : Place → List ℕ → List StatementView
 sign_statements place [] = []
 sign_statements place (a ∷ []) = []
@@ -30,7 +30,7 @@ abbrev pub life_statements : Place → List ℕ → Option Bool → List Stateme
 life_statements place word activates =
     one_statement place (Named (record { word = word; label = None })) ∷ [] ++ activation_statements place activates
 
--- what a statement at this place says
+-- the statements of a meaning at this place
 abbrev pub statements_of : Place → MeaningView → List StatementView
 statements_of place Look = []
 statements_of place (Says element) = one_statement place element ∷ []

@@ -1,8 +1,8 @@
 //! Statements of PlantUML's sequence diagrams.
 //!
-//! What is promised ([`reading_of`]): what a statement means is a function of its words: the first of PlantUML's
-//! forms that it has, and the block that it begins. [`add_meaning`] adds what it says, and memory is refused at a
-//! growth alone.
+//! [`reading_of`] promises this: the meaning of a statement, and the block that it begins, depend only on its words.
+//! The first of PlantUML's forms that it has decides. [`add_meaning`] adds the statements of a meaning, and memory is
+//! refused only at a growth.
 #![tactic(auto)]
 
 mod life;

@@ -10,7 +10,7 @@ use diagram_statements::Element;
 use texts::bytes::is_spelled;
 use texts::{behind_blanks, behind_word};
 
-/// Whether nothing but colours comes next: two at most.
+/// Whether only colours come next: two at most.
 #[tactic(auto, unfolding(crate::specs::Meanings::are_colours))]
 fn are_colours(bytes: &[u8]) -> bool
     ensures { result ≡ are_colours bytes.now }
@@ -20,7 +20,7 @@ fn are_colours(bytes: &[u8]) -> bool
     behind_blanks(second).is_empty()
 }
 
-/// What stands behind this verb, and whether it begins or ends an activation.
+/// The text after this verb, and whether the verb begins or ends an activation.
 #[tactic(auto, unfolding(crate::specs::Meanings::verb_at))]
 fn verb_at(words: &[u8]) -> Option<(Option<bool>, &[u8])>
     ensures { Finds (λ verb. (verb.0, verb.1.now)) result (verb_at words.now) }
@@ -37,7 +37,7 @@ fn verb_at(words: &[u8]) -> Option<(Option<bool>, &[u8])>
     }
 }
 
-/// The activation that a statement says.
+/// The activation of a statement, if it is one.
 #[tactic(auto, unfolding(crate::specs::Meanings::life_of))]
 pub(crate) fn life_of(words: &[u8]) -> Option<Meaning<'_>>
     ensures { Finds meaning_view result (life_of words.now) }
@@ -51,7 +51,7 @@ pub(crate) fn life_of(words: &[u8]) -> Option<Meaning<'_>>
     }
 }
 
-/// What stands behind two signs of activation, and whether they begin one.
+/// The text after two signs of activation, and whether they begin an activation.
 #[tactic(auto, unfolding(crate::specs::Meanings::signs_at))]
 fn signs_at(bytes: &[u8]) -> Option<(bool, &[u8])>
     ensures { Finds (λ signs. (signs.0, signs.1.now)) result (signs_at bytes.now) }
@@ -65,7 +65,7 @@ fn signs_at(bytes: &[u8]) -> Option<(bool, &[u8])>
     }
 }
 
-/// The activation that a statement says by signs behind a word.
+/// The activation of a statement that has signs after a word.
 #[tactic(auto, unfolding(crate::specs::Meanings::short_life_of))]
 pub(crate) fn short_life_of(words: &[u8]) -> Option<Meaning<'_>>
     ensures { Finds meaning_view result (short_life_of words.now) }
@@ -79,7 +79,7 @@ pub(crate) fn short_life_of(words: &[u8]) -> Option<Meaning<'_>>
     }
 }
 
-/// Whether arrows activate from here on.
+/// The statement that switches whether arrows activate.
 #[tactic(auto, unfolding(crate::specs::Meanings::switch_of))]
 pub(crate) fn switch_of(words: &[u8]) -> Option<Element<'_>>
     ensures { Finds element_view result (switch_of words.now) }

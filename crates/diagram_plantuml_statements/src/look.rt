@@ -1,4 +1,4 @@
-//! Statements that are about how a diagram looks, and blocks of lines.
+//! Statements that only concern how a diagram looks, and blocks of lines.
 ghost use Rattle.std.specs.Prelude.{◌≡◌, ◌-◌, ◌==◌, slice_get, length};
 ghost use Rattle.std.specs.List.{list_all};
 ghost use Rattle.texts.specs.Words.{Finds};
@@ -14,7 +14,7 @@ use texts::{
     blank_length, place_of, skip_word,
 };
 
-/// The words that are about how the diagram looks.
+/// Words about how the diagram looks.
 const LOOK_WORDS: [&[u8]; 6] = [
     b"skin",
     b"allowmixing",
@@ -24,7 +24,7 @@ const LOOK_WORDS: [&[u8]; 6] = [
     b"minwidth",
 ];
 
-/// Others.
+/// More of these words.
 const MORE_LOOK_WORDS: [&[u8]; 6] = [
     b"sprite",
     b"url",
@@ -34,7 +34,7 @@ const MORE_LOOK_WORDS: [&[u8]; 6] = [
     b"show",
 ];
 
-/// A block of lines, which goes on up to its end.
+/// A block of lines, which continues up to its end.
 #[derive(Clone, Copy, Debug)]
 pub enum Block {
     Title,
@@ -43,7 +43,7 @@ pub enum Block {
     Footer,
     Style,
     Sprite,
-    /// Lines in braces, of which so many are open.
+    /// Lines in braces, with the number of open braces.
     Braces(u64),
     Note,
     Reference,
@@ -78,7 +78,7 @@ pub fn ends_with_brace(bytes: &[u8]) -> bool
     }
 }
 
-/// What stands behind the word for a side, if one comes next.
+/// The text after the word for a side, if one comes next.
 #[tactic(auto, unfolding(crate::specs::Looks::behind_side))]
 fn behind_side(words: &[u8]) -> &[u8]
     ensures { result.now ≡ behind_side words.now }
@@ -95,7 +95,7 @@ fn behind_side(words: &[u8]) -> &[u8]
     }
 }
 
-/// The header or the footer that comes next, and what stands behind its word.
+/// The header or the footer that comes next, and the text after its word.
 #[tactic(auto, unfolding(crate::specs::Looks::header_at))]
 fn header_at(words: &[u8]) -> Option<(Block, &[u8])>
     ensures { Finds (λ header. (header.0, header.1.now)) result (header_at words.now) }
@@ -110,7 +110,7 @@ fn header_at(words: &[u8]) -> Option<(Block, &[u8])>
     }
 }
 
-/// Whether a text stands behind this word.
+/// Whether a text follows this word.
 #[tactic(auto, unfolding(crate::specs::Looks::has_text))]
 fn has_text(word: &[u8], words: &[u8]) -> bool
     ensures { result ≡ has_text word.now words.now }
@@ -121,7 +121,7 @@ fn has_text(word: &[u8], words: &[u8]) -> bool
     }
 }
 
-/// Whether a statement is a title, or another text round the diagram.
+/// Whether a statement is a title, or another text around the diagram.
 #[tactic(auto, unfolding(crate::specs::Looks::is_titled))]
 fn is_titled(words: &[u8]) -> bool
     ensures { result ≡ is_titled words.now }
@@ -141,7 +141,7 @@ fn has_no_brace(bytes: &[u8]) -> bool
     bytes.iter().all(|byte| *byte != b'{' && *byte != b'}')
 }
 
-/// Whether a value stands behind the name of a setting.
+/// Whether a value follows the name of a setting.
 #[tactic(auto, unfolding(crate::specs::Looks::is_set))]
 fn is_set(bytes: &[u8]) -> bool
     ensures { result ≡ is_set bytes.now }
@@ -149,7 +149,7 @@ fn is_set(bytes: &[u8]) -> bool
     begins_blank(bytes) && has_no_brace(bytes)
 }
 
-/// Whether a stereotype stands behind the name of a setting, and a value behind that.
+/// Whether a stereotype follows the name of a setting, and a value follows the stereotype.
 #[tactic(auto, unfolding(crate::specs::Looks::is_set_for))]
 fn is_set_for(bytes: &[u8]) -> bool
     ensures { result ≡ is_set_for bytes.now }
@@ -163,7 +163,7 @@ fn is_set_for(bytes: &[u8]) -> bool
     }
 }
 
-/// What stands behind the word for settings.
+/// The text after the word for settings.
 #[tactic(auto, unfolding(crate::specs::Looks::setting_rest))]
 fn setting_rest(words: &[u8]) -> Option<&[u8]>
     ensures { Finds (λ rest. rest.now) result (setting_rest words.now) }
@@ -174,7 +174,7 @@ fn setting_rest(words: &[u8]) -> Option<&[u8]>
     }
 }
 
-/// Whether a name and a value stand behind the word for settings.
+/// Whether a name and a value follow the word for settings.
 #[tactic(auto, unfolding(crate::specs::Looks::is_named_set))]
 fn is_named_set(rest: &[u8]) -> bool
     ensures { result ≡ is_named_set rest.now }
@@ -196,7 +196,7 @@ fn is_setting(words: &[u8]) -> bool
     }
 }
 
-/// Whether a statement is about how the diagram looks, in a form that comes before arrows.
+/// Whether a statement only concerns how the diagram looks, in a form that is tried before arrows.
 #[tactic(auto, unfolding(crate::specs::Looks::is_early_look))]
 pub(crate) fn is_early_look(words: &[u8]) -> bool
     ensures { result ≡ is_early_look words.now }
@@ -226,7 +226,7 @@ fn opens_sprite(words: &[u8]) -> bool
     }
 }
 
-/// The header or the footer that goes over several lines.
+/// The header or the footer that extends over several lines.
 #[tactic(auto, unfolding(crate::specs::Looks::header_block))]
 fn header_block(words: &[u8]) -> Option<Block>
     ensures { result ≡ header_block words.now }
@@ -237,7 +237,7 @@ fn header_block(words: &[u8]) -> Option<Block>
     }
 }
 
-/// The block that a statement about looks begins.
+/// The block that begins with a statement about looks.
 #[tactic(auto, unfolding(crate::specs::Looks::block_of))]
 pub(crate) fn block_of(words: &[u8]) -> Option<Block>
     ensures { result ≡ block_of words.now }
@@ -264,7 +264,7 @@ pub(crate) fn block_of(words: &[u8]) -> Option<Block>
     }
 }
 
-/// Whether a statement begins a page, or says that none begins.
+/// Whether a statement begins a page, or states that none begins.
 #[tactic(auto, unfolding(crate::specs::Looks::is_page))]
 fn is_page(words: &[u8]) -> bool
     ensures { result ≡ is_page words.now }
@@ -308,7 +308,7 @@ fn are_bars(bytes: &[u8]) -> bool
     !bytes.is_empty() && has_only_bars(bytes)
 }
 
-/// Whether a statement leaves room: `|||` or `||20||`.
+/// Whether a statement leaves space: `|||` or `||20||`.
 #[tactic(auto, unfolding(crate::specs::Looks::is_space))]
 fn is_space(words: &[u8]) -> bool
     ensures { result ≡ is_space words.now }
@@ -319,7 +319,7 @@ fn is_space(words: &[u8]) -> bool
     }
 }
 
-/// Whether a statement says how long it is between two anchors.
+/// Whether a statement gives the duration between two anchors.
 #[tactic(auto, unfolding(crate::specs::Looks::is_duration))]
 fn is_duration(words: &[u8]) -> bool
     ensures { result ≡ is_duration words.now }
@@ -350,7 +350,7 @@ fn behind_other_look_word(words: &[u8]) -> Option<&[u8]>
     behind_keyword_of(&MORE_LOOK_WORDS, words)
 }
 
-/// Whether a statement begins with a word that is about how the diagram looks.
+/// Whether a statement begins with a word about how the diagram looks.
 #[tactic(auto, unfolding(crate::specs::Looks::is_look_word))]
 fn is_look_word(words: &[u8]) -> bool
     ensures { result ≡ is_look_word words.now }
@@ -358,7 +358,7 @@ fn is_look_word(words: &[u8]) -> bool
     behind_look_word(words).is_some() || behind_other_look_word(words).is_some()
 }
 
-/// Whether a statement is about how the diagram looks, in a form that comes behind all others.
+/// Whether a statement only concerns how the diagram looks, in a form that is tried after all others.
 #[tactic(auto, unfolding(crate::specs::Looks::is_late_look))]
 pub(crate) fn is_late_look(words: &[u8]) -> bool
     ensures { result ≡ is_late_look words.now }

@@ -1,4 +1,4 @@
-//! What a statement says.
+//! The meanings of statements.
 ghost use Rattle.std.specs.Prelude.{◌≡◌, map, option_map};
 ghost use Rattle.texts.specs.Words.{Finds};
 ghost use Rattle.diagram_statements.specs.Statements.{element_view};
@@ -19,20 +19,20 @@ use texts::{
     begins_blank, begins_with, behind_blanks, behind_keyword, behind_word, ends_word, stripped,
 };
 
-/// What a statement means.
+/// The meaning of a statement.
 #[derive(Clone, Copy, Debug)]
 pub enum Meaning<'a> {
-    /// It is about how the diagram looks.
+    /// It only concerns how the diagram looks.
     Look,
     Says(Element<'a>),
     Arrow(Found<'a>),
-    /// A participant, which is activated, or whose activation ends, or neither.
+    /// A participant that is activated (`true`), whose activation ends (`false`), or neither.
     Life(&'a [u8], Option<bool>),
-    /// It names participants, from these bytes on, and then says this.
+    /// It names the participants in these bytes, and is then this element.
     Names(&'a [u8], Element<'a>),
 }
 
-/// What a statement means, and the block that it begins.
+/// The meaning of a statement, and the block that it begins.
 #[derive(Clone, Copy, Debug)]
 pub struct Reading<'a> {
     pub meaning: Meaning<'a>,
@@ -51,7 +51,7 @@ const GROUPS: [(&[u8], Group); 8] = [
     (b"group", Group::Choice),
 ];
 
-/// Whether a group begins with this word: a colour may stand behind it.
+/// Whether a group begins with this word. A colour may follow the word.
 #[tactic(auto, unfolding(crate::specs::Meanings::is_group))]
 fn is_group(word: &[u8], words: &[u8]) -> bool
     ensures { result ≡ is_group word.now words.now }
@@ -74,7 +74,7 @@ fn group_at(groups: &[(&[u8], Group)], words: &[u8]) -> Option<Group>
     None
 }
 
-/// What a statement says of groups.
+/// The beginning, the branch or the end of a group that a statement is.
 #[tactic(auto, unfolding(crate::specs::Meanings::group_of))]
 fn group_of(words: &[u8]) -> Option<Element<'_>>
     ensures { Finds element_view result (group_of words.now) }
@@ -93,7 +93,7 @@ fn group_of(words: &[u8]) -> Option<Element<'_>>
     }
 }
 
-/// Whether a statement begins a box round participants.
+/// Whether a statement begins a box around participants.
 #[tactic(auto, unfolding(crate::specs::Meanings::is_box))]
 fn is_box(words: &[u8]) -> bool
     ensures { result ≡ is_box words.now }
@@ -104,7 +104,7 @@ fn is_box(words: &[u8]) -> bool
     }
 }
 
-/// Whether a statement ends a box round participants.
+/// Whether a statement ends a box around participants.
 #[tactic(auto, unfolding(crate::specs::Meanings::is_box_end))]
 fn is_box_end(words: &[u8]) -> bool
     ensures { result ≡ is_box_end words.now }
@@ -129,7 +129,7 @@ fn answer_of(rest: &[u8]) -> &[u8]
     }
 }
 
-/// The `return` that a statement says.
+/// The `return` of a statement, if it is one.
 #[tactic(auto, unfolding(crate::specs::Meanings::return_of))]
 fn return_of(words: &[u8]) -> Option<Element<'_>>
     ensures { Finds element_view result (return_of words.now) }
@@ -152,7 +152,7 @@ fn is_divider(words: &[u8]) -> bool
     words.len() > 3 && begins_with(words, b"==") && &words[words.len() - 2..] == b"==".as_slice()
 }
 
-/// Whether time passes.
+/// Whether a statement is a delay.
 #[tactic(auto, unfolding(crate::specs::Meanings::is_delay))]
 fn is_delay(words: &[u8]) -> bool
     ensures { result ≡ is_delay words.now }
@@ -160,7 +160,7 @@ fn is_delay(words: &[u8]) -> bool
     begins_with(words, b"...") || begins_with(words, b"\xe2\x80\xa6")
 }
 
-/// The words of a participant alone, where a note names one.
+/// The word of a single participant, if a note names only one.
 #[tactic(auto, unfolding(crate::specs::Meanings::only_name))]
 fn only_name(names: &[u8]) -> Option<&[u8]>
     ensures { Finds (λ name. name.now) result (only_name names.now) }
@@ -172,7 +172,7 @@ fn only_name(names: &[u8]) -> Option<&[u8]>
     }
 }
 
-/// A text, which is empty where there is none.
+/// A text, or nothing without one.
 fn text_or_none(text: Option<&[u8]>) -> &[u8]
     ensures { result.now ≡ text_or_none (option_map (λ text. text.now) text.entry) }
 {
@@ -182,13 +182,13 @@ fn text_or_none(text: Option<&[u8]>) -> &[u8]
     }
 }
 
-/// A note of several participants.
+/// A note at several participants.
 const SEVERAL: Element<'static> = Element::Note {
     at: NoteAt::Several,
     text: &[],
 };
 
-/// What a note means.
+/// The meaning of a note.
 #[tactic(auto, unfolding(crate::specs::Meanings::note_meaning))]
 fn note_meaning(note: Note<'_>) -> Meaning<'_>
     ensures { meaning_view result ≡ note_meaning (note_view note.entry) }
@@ -212,7 +212,7 @@ fn note_meaning(note: Note<'_>) -> Meaning<'_>
     }
 }
 
-/// The block that begins where a text doesn't stand in the same line.
+/// The block that begins if there is no text in the same line.
 fn block_without(text: Option<&[u8]>, block: Block) -> Option<Block>
     ensures { result ≡ block_without (option_map (λ text. text.now) text.entry) block }
 {
@@ -222,7 +222,7 @@ fn block_without(text: Option<&[u8]>, block: Block) -> Option<Block>
     }
 }
 
-/// What a note or a reference means, and the block that it begins.
+/// The meaning of a note, and the block that it begins.
 #[tactic(auto, unfolding(crate::specs::Meanings::noted))]
 fn noted(words: &[u8]) -> Option<Reading<'_>>
     ensures { Finds reading_view result (noted words.now) }
@@ -236,7 +236,7 @@ fn noted(words: &[u8]) -> Option<Reading<'_>>
     }
 }
 
-/// What a reference means, and the block that it begins.
+/// The meaning of a reference, and the block that it begins.
 #[tactic(auto, unfolding(crate::specs::Meanings::referred))]
 fn referred(words: &[u8]) -> Option<Reading<'_>>
     ensures { Finds reading_view result (referred words.now) }
@@ -259,7 +259,7 @@ fn alone(meaning: Meaning<'_>) -> Option<Reading<'_>>
     })
 }
 
-/// What a statement means that has one of the last forms.
+/// The meaning of a statement that has one of the last forms.
 #[tactic(auto, unfolding(crate::specs::Meanings::late))]
 fn late(words: &[u8]) -> Option<Reading<'_>>
     ensures { Finds reading_view result (late words.now) }
@@ -286,7 +286,7 @@ fn late(words: &[u8]) -> Option<Reading<'_>>
     }
 }
 
-/// What a statement means that is no arrow.
+/// The meaning of a statement that is no arrow.
 #[tactic(auto, unfolding(crate::specs::Meanings::listed))]
 fn listed(words: &[u8]) -> Option<Reading<'_>>
     ensures { Finds reading_view result (listed words.now) }
@@ -309,7 +309,7 @@ fn listed(words: &[u8]) -> Option<Reading<'_>>
     }
 }
 
-/// What a statement means that names a participant.
+/// The meaning of a statement that names a participant.
 #[tactic(auto, unfolding(crate::specs::Meanings::declaring))]
 fn declaring(words: &[u8]) -> Option<Reading<'_>>
     ensures { Finds reading_view result (declaring words.now) }
@@ -327,7 +327,7 @@ fn declaring(words: &[u8]) -> Option<Reading<'_>>
     }
 }
 
-/// What a statement means that has one of the first forms.
+/// The meaning of a statement that has one of the first forms.
 #[tactic(auto, unfolding(crate::specs::Meanings::early))]
 fn early(words: &[u8]) -> Option<Reading<'_>>
     ensures { Finds reading_view result (early words.now) }
@@ -354,7 +354,7 @@ fn early(words: &[u8]) -> Option<Reading<'_>>
     }
 }
 
-/// What a statement means, if it can be read: the first of these forms that it has.
+/// The meaning of a statement, if it can be read: that of the first of these forms that it has.
 #[tactic(auto, unfolding(crate::specs::Meanings::reading_of))]
 pub fn reading_of(words: &[u8]) -> Option<Reading<'_>>
     ensures { Finds reading_view result (reading_of words.now) }

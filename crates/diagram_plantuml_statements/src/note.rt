@@ -16,15 +16,15 @@ use texts::{begins_with, behind_blanks, behind_word, place_of};
 /// A note or a reference.
 #[derive(Clone, Copy, Debug)]
 pub(crate) struct Note<'a> {
-    /// Where the names of its participants begin, if it has any.
+    /// The beginning of its participants' names, if it has any.
     pub names: Option<&'a [u8]>,
-    /// Whether it stands at all participants.
+    /// Whether it is at all participants.
     pub is_across: bool,
-    /// Its text, if it stands in this line.
+    /// Its text, if that is in this line.
     pub text: Option<&'a [u8]>,
 }
 
-/// What stands behind a comma and the blanks round it.
+/// The text after a comma and the blanks around it.
 #[tactic(auto, unfolding(crate::specs::Notes::behind_comma))]
 pub(crate) fn behind_comma(bytes: &[u8]) -> Option<&[u8]>
     ensures rest { Finds (λ rest. rest.now) result (behind_comma bytes.now) }
@@ -36,7 +36,7 @@ pub(crate) fn behind_comma(bytes: &[u8]) -> Option<&[u8]>
     }
 }
 
-/// What stands behind names with commas between them, of which one at least comes next.
+/// The text after names with commas between them. At least one name has to come next.
 fn behind_names(bytes: &[u8]) -> Option<&[u8]>
     ensures { Finds (λ rest. rest.now) result (behind_names bytes.now) }
 {
@@ -90,7 +90,7 @@ pub(crate) fn add_names<'a>(
     }
 }
 
-/// What stands behind a stereotype, if one comes next.
+/// The text after a stereotype, if one comes next.
 #[tactic(auto, unfolding(crate::specs::Notes::behind_stereotype))]
 fn behind_stereotype(bytes: &[u8]) -> &[u8]
     ensures { result.now ≡ behind_stereotype bytes.now }
@@ -104,7 +104,7 @@ fn behind_stereotype(bytes: &[u8]) -> &[u8]
     }
 }
 
-/// What stands behind the word for a note.
+/// The text after the word for a note.
 #[tactic(auto, unfolding(crate::specs::Notes::note_word))]
 fn note_word(bytes: &[u8]) -> Option<&[u8]>
     ensures { Finds (λ rest. rest.now) result (note_word bytes.now) }
@@ -118,7 +118,7 @@ fn note_word(bytes: &[u8]) -> Option<&[u8]>
     }
 }
 
-/// What stands behind a slash and the blanks behind it, if one comes next.
+/// The text after a slash and the blanks after it, if one comes next.
 #[tactic(auto, unfolding(crate::specs::Notes::behind_slash))]
 fn behind_slash(bytes: &[u8]) -> &[u8]
     ensures { result.now ≡ behind_slash bytes.now }
@@ -129,7 +129,7 @@ fn behind_slash(bytes: &[u8]) -> &[u8]
     }
 }
 
-/// What stands behind the words with which a note begins.
+/// The text after the words with which a note begins.
 #[tactic(auto, unfolding(crate::specs::Notes::behind_note))]
 fn behind_note(words: &[u8]) -> Option<&[u8]>
     ensures { Finds (λ rest. rest.now) result (behind_note words.now) }
@@ -153,7 +153,7 @@ fn placed_at(bytes: &[u8]) -> Option<Note<'_>>
     })
 }
 
-/// What stands behind the word for a side.
+/// The text after the word for a side.
 #[tactic(auto, unfolding(crate::specs::Notes::side_word))]
 fn side_word(bytes: &[u8]) -> Option<&[u8]>
     ensures { Finds (λ rest. rest.now) result (side_word bytes.now) }
@@ -167,7 +167,7 @@ fn side_word(bytes: &[u8]) -> Option<&[u8]>
     }
 }
 
-/// What stands behind `of`.
+/// The text after `of`.
 #[tactic(auto, unfolding(crate::specs::Notes::behind_of))]
 fn behind_of(bytes: &[u8]) -> Option<&[u8]>
     ensures { Finds (λ rest. rest.now) result (behind_of bytes.now) }
@@ -175,7 +175,7 @@ fn behind_of(bytes: &[u8]) -> Option<&[u8]>
     behind_word(b"of", behind_gap(bytes)?)
 }
 
-/// A note behind the word `of`.
+/// A note after the word `of`.
 #[tactic(auto, unfolding(crate::specs::Notes::placed_of))]
 fn placed_of(bytes: &[u8]) -> Option<Note<'_>>
     ensures { Finds note_view result (placed_of bytes.now) }
@@ -195,7 +195,7 @@ fn placed(bytes: &[u8]) -> Option<Note<'_>>
     }
 }
 
-/// A note without names, behind the word that says where it stands.
+/// A note without names, after the word for its position.
 #[tactic(auto, unfolding(crate::specs::Notes::unplaced))]
 fn unplaced<'a>(is_across: bool, word: &[u8], bytes: &'a [u8]) -> Option<Note<'a>>
     ensures { Finds note_view result (unplaced is_across word.now bytes.now) }
@@ -236,7 +236,7 @@ fn across(bytes: &[u8]) -> Option<Note<'_>>
     }
 }
 
-/// The note that a statement says or begins, if it does so.
+/// The note that a statement is or begins, if it does so.
 #[tactic(auto, unfolding(crate::specs::Notes::note_of))]
 pub(crate) fn note_of(words: &[u8]) -> Option<Note<'_>>
     ensures { Finds note_view result (note_of words.now) }
@@ -251,7 +251,7 @@ pub(crate) fn note_of(words: &[u8]) -> Option<Note<'_>>
     }
 }
 
-/// The reference that a statement says or begins, if it does so.
+/// The reference that a statement is or begins, if it does so.
 #[tactic(auto, unfolding(crate::specs::Notes::reference_of))]
 pub(crate) fn reference_of(words: &[u8]) -> Option<Note<'_>>
     ensures { Finds note_view result (reference_of words.now) }

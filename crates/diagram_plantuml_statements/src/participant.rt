@@ -10,7 +10,7 @@ use diagram_statements::End;
 use texts::bytes::is_blank;
 use texts::{begins, begins_with, behind_keyword_of, behind_word, blank_length};
 
-/// The words that say what a participant is.
+/// The words for the kinds of participants.
 const KINDS: [&[u8]; 8] = [
     b"participant",
     b"actor",
@@ -22,14 +22,14 @@ const KINDS: [&[u8]; 8] = [
     b"collections",
 ];
 
-/// A participant, and whether a block begins in which more is said of it.
+/// A participant, and whether a block with more about it begins.
 #[derive(Clone, Copy, Debug)]
 pub(crate) struct Declared<'a> {
     pub end: End<'a>,
     pub opens: bool,
 }
 
-/// The place where these bytes last stand.
+/// The last place of these bytes.
 #[tactic(auto, unfolding(crate::specs::Participants::last_place), using(crate::proofs::PlaceLoops::later))]
 pub fn last_place(known: &[u8], bytes: &[u8]) -> Option<usize>
     ensures value { result ≡ last_place known.now bytes.now }
@@ -50,7 +50,7 @@ pub fn last_place(known: &[u8], bytes: &[u8]) -> Option<usize>
     last
 }
 
-/// How many bytes an order has behind its word, if it is one.
+/// The length of an order after its word, if it is one.
 #[tactic(auto, unfolding(crate::specs::Participants::order_length))]
 fn order_length(bytes: &[u8]) -> Option<usize>
     ensures value { result ≡ order_length bytes.now }
@@ -70,7 +70,7 @@ fn order_length(bytes: &[u8]) -> Option<usize>
     }
 }
 
-/// How many bytes the decoration has that comes next: a blank, a stereotype, a link, a colour or an order.
+/// The length of the decoration that comes next: a blank, a stereotype, a link, a colour or an order.
 #[tactic(auto, unfolding(crate::specs::Participants::decoration_length))]
 fn decoration_length(bytes: &[u8]) -> Option<usize>
     ensures value { result ≡ decoration_length bytes.now }
@@ -106,7 +106,7 @@ fn decoration_length(bytes: &[u8]) -> Option<usize>
     }
 }
 
-/// How many bytes behind the first one still belong to a decoration.
+/// The number of bytes after the first one that still belong to a decoration.
 #[tactic(auto, unfolding(crate::specs::Participants::next_within))]
 fn next_within(within: usize, bytes: &[u8]) -> Option<usize>
     ensures { result ≡ next_within within bytes.now }
@@ -120,7 +120,7 @@ fn next_within(within: usize, bytes: &[u8]) -> Option<usize>
     }
 }
 
-/// Whether a block begins behind decorations, if nothing else stands there.
+/// Whether a block begins after decorations, if nothing else is there.
 #[tactic(auto, unfolding(crate::specs::Participants::decorated))]
 fn decorated(bytes: &[u8]) -> Option<bool>
     ensures { result ≡ decorated 0 bytes.now }
@@ -148,7 +148,7 @@ fn opens(bytes: &[u8]) -> Option<bool>
     }
 }
 
-/// A participant with what stands behind it.
+/// A participant with the text after it.
 #[tactic(auto, unfolding(crate::specs::Participants::with_decoration))]
 fn with_decoration<'a>(
     word: &'a [u8],
@@ -164,7 +164,7 @@ fn with_decoration<'a>(
     })
 }
 
-/// What stands behind `as` and the blanks round it.
+/// The text after `as` and the blanks around it.
 #[tactic(auto, unfolding(crate::specs::Participants::behind_as))]
 fn behind_as(bytes: &[u8]) -> Option<&[u8]>
     ensures { Finds (λ rest. rest.now) result (behind_as bytes.now) }
@@ -202,7 +202,7 @@ fn shortened(bytes: &[u8]) -> Option<Declared<'_>>
     with_decoration(word, Some(label), behind)
 }
 
-/// A name alone.
+/// A single name.
 #[tactic(auto, unfolding(crate::specs::Participants::plain))]
 fn plain(bytes: &[u8]) -> Option<Declared<'_>>
     ensures { Finds declared_view result (plain bytes.now) }
@@ -228,7 +228,7 @@ fn named_in(bytes: &[u8]) -> Option<Declared<'_>>
     }
 }
 
-/// What stands behind the word for a creation.
+/// The text after the word for a creation.
 #[tactic(auto, unfolding(crate::specs::Participants::behind_create))]
 fn behind_create(words: &[u8]) -> Option<&[u8]>
     ensures { Finds (λ rest. rest.now) result (behind_create words.now) }
@@ -236,7 +236,7 @@ fn behind_create(words: &[u8]) -> Option<&[u8]>
     behind_gap(behind_word(b"create", words)?)
 }
 
-/// What stands behind the word for a kind.
+/// The text after the word for a kind.
 #[tactic(auto, unfolding(crate::specs::Participants::behind_kind))]
 fn behind_kind(words: &[u8]) -> Option<&[u8]>
     ensures { Finds (λ rest. rest.now) result (behind_kind words.now) }
@@ -244,7 +244,7 @@ fn behind_kind(words: &[u8]) -> Option<&[u8]>
     behind_keyword_of(&KINDS, words)
 }
 
-/// The participant behind the word for its kind.
+/// The participant after the word for its kind.
 #[tactic(auto, unfolding(crate::specs::Participants::kind_in))]
 fn kind_in(words: &[u8]) -> Option<Declared<'_>>
     ensures { Finds declared_view result (kind_in words.now) }
@@ -253,7 +253,7 @@ fn kind_in(words: &[u8]) -> Option<Declared<'_>>
     named_in(behind_gap(rest)?)
 }
 
-/// The participant that a statement names, if it does so.
+/// The participant that a statement names, if it names one.
 #[tactic(auto, unfolding(crate::specs::Participants::participant_of))]
 pub(crate) fn participant_of(words: &[u8]) -> Option<Declared<'_>>
     ensures { Finds declared_view result (participant_of words.now) }

@@ -1,4 +1,4 @@
-//! The statements that a meaning comes to.
+//! The statements of a meaning.
 ghost use Rattle.std.specs.Prelude.{◌≡◌, ◌++◌, ◌∷◌, [], map, OnOk};
 ghost use Rattle.diagram_statements.specs.Statements.{statement_view, element_view};
 ghost use Rattle.diagram_plantuml_statements.specs.Meanings.{meaning_view};
@@ -22,7 +22,7 @@ pub fn add_one<'a>(
     Ok(())
 }
 
-/// Adds what two signs behind an arrow say: activations begin and end, and others mean nothing.
+/// Adds the statement of two signs after an arrow. They begin or end an activation, and others have no meaning.
 fn add_pair<'a>(
     place: Place,
     first: u8,
@@ -41,7 +41,7 @@ fn add_pair<'a>(
     Ok(())
 }
 
-/// Adds what the signs behind an arrow say, two at a time.
+/// Adds the statements of the signs after an arrow, two signs at a time.
 fn add_signs<'a>(
     place: Place,
     signs: &[u8],
@@ -58,7 +58,7 @@ fn add_signs<'a>(
     Ok(())
 }
 
-/// Adds a participant, and what its activation says.
+/// Adds the statements of a participant and its activation.
 fn add_life<'a>(
     place: Place,
     word: &'a [u8],
@@ -76,7 +76,7 @@ fn add_life<'a>(
     }
 }
 
-/// Adds what a statement at this place says.
+/// Adds the statements of a meaning at this place.
 pub fn add_meaning<'a>(
     place: Place,
     meaning: Meaning<'a>,

@@ -25,7 +25,7 @@ use Rattle.diagram_round_trip.specs.Laws.{LevelAtOnce}
 use Rattle.diagram_round_trip.specs.LevelCharts.{Passed, ends_at, at_once}
 use Rattle.diagram_round_trip.proofs.Lists.{each_of, all_at, each_append, each_get, Counts, counts_range, counts_has, counts_front, counts_on, Has, has_left, has_right, get_seam}
 
--- Places of what counts up.
+-- Places of numbers that count up.
 
 counts_all : (k : ℕ) (xs : List ℕ) (x : ℕ) → Counts k xs → k ≤ x → x < k + length xs → Has xs x
 counts_all k [] x all low high = absurd (omega arith)
@@ -50,13 +50,13 @@ is_there p x e h = elim (cases_eq e.instance p) [
     go (inl same) own = (own, same)
     go (inr none) own = absurd none
 
--- Rows of messages alone.
+-- Rows of only messages.
 
 abbrev IsLevelRow : Chart → Row → Type 0
 IsLevelRow c (rows.Message s r) = BelongsTo c (place_of s) (place_of r)
 IsLevelRow c (rows.Event e) = ⊥
 
--- an event in such rows has its message there
+-- an event in such rows is there with both ends of its message
 record HasPair (c : Chart) (above : List Row) (p x : ℕ) : Type 0 where
   pub send : EventNo
   pub receive : EventNo
@@ -161,7 +161,7 @@ evens q p (m ∷ messages) apart all =
     ∙ ap (λ n. count_by (is_receive_from q) (ends_at p m) + n) (evens q p messages apart all.1)
     ∙ sym (counts_joined (is_receive_from q) (ends_at p m) (at_once messages p))
 
--- one more on the way
+-- one more event that passes the test
 tally_here : (test : Event → Bool) (line front back : List Event) (x : Event) → line ≡ front ++ x ∷ back → test x ≡ true → tally test line (suc (length front)) ≡ count_by test front + 1
 tally_here test line front back x is its =
     let whole : (front ++ x ∷ []) ++ back ≡ front ++ x ∷ back = append_assoc front (x ∷ []) back in
@@ -173,7 +173,7 @@ laid_out_joined : (one other : List Row) (p : ℕ) → laid_out (one ++ other) p
 laid_out_joined [] other p = refl
 laid_out_joined (row ∷ one) other p = ap (λ l. row_on p row ++ l) (laid_out_joined one other p) ∙ sym (append_assoc (row_on p row) (laid_out one p) (laid_out other p))
 
--- so many events are still drawn with a message whose ends both are
+-- one more message fits, if the rows have both of its ends
 fits : (done : List Passed) (m : Passed) (k : ℕ → ℕ) → m.from ≢ m.to → ((p : ℕ) → length (at_once done p) ≤ k p) → length (at_once done m.from) < k m.from → length (at_once done m.to) < k m.to
     → (p : ℕ) → length (at_once (done ++ m ∷ []) p) ≤ k p
 fits done m k two all sent taken p =
@@ -208,9 +208,9 @@ module _ (lines : List LineView) (drawing : List Row) (messages : List Passed) (
             ∙ sym (tally_here (is_receive_from m.from) (c m.to) (at_once done m.to) (at_once left m.to) (Receive m.from m.name 0) receiver (eq-eqb m.from m.from refl));
       }
 
-  -- in rows of messages alone
+  -- in rows of only messages
   module _ (above : List Row) (level : Each (IsLevelRow c) above) where
-    -- where one end of a message is drawn, so is the other
+    -- if one end of a message is drawn, so is the other
     other_taken : (s r : Place) → BelongsTo c s r → Has (laid_out above s.instance) s.index → Has (laid_out above r.instance) r.index
     other_taken s r b h =
         let w = pair_at c above s.instance s.index level h in
@@ -231,7 +231,7 @@ module _ (lines : List LineView) (drawing : List Row) (messages : List Passed) (
               subst (λ (x : Place). Has (laid_out above x.instance) x.index) (same_send c (place_of w.send) s r mine b) w.send_laid_out
         ]
 
-  -- an event that has no turn stands alone only where no message is level: its send would stand above, and so would it
+  -- an event without a turn is alone only if no message is level; otherwise its send is above, and so is the event
   greedy_at : (above : List Row) → Each (IsLevelRow c) above → ((p : ℕ) → Counts 1 (laid_out above p)) → (e : EventNo) → e.index ≡ 1 + length (laid_out above e.instance) → Comes c (length lines) above [] (rows.Event e)
       → (s r : Place) → BelongsTo c s r → IsNext above s → IsNext above r → ⊥
   greedy_at above level counts e next (inl turn) s r b next_s next_r = turn.0
@@ -249,7 +249,7 @@ module _ (lines : List LineView) (drawing : List Row) (messages : List Passed) (
         early.1 on.0 on.2 s r on.1 b (record { event = sends; next = next_s }) (record { event = receives; next = next_r })
   ]
 
-  -- below rows of messages alone no event stands alone
+  -- below rows of only messages no event is alone
   module _ (above : List Row) (level : Each (IsLevelRow c) above) (counts : (p : ℕ) → Counts 1 (laid_out above p)) (e : EventNo) (next : e.index ≡ 1 + length (laid_out above e.instance)) (within : e.index ≤ length (c e.instance))
       (greedy : (s r : Place) → BelongsTo c s r → IsNext above s → IsNext above r → ⊥) where
     abbrev k : ℕ → ℕ

@@ -1,4 +1,4 @@
--- What is known of the events of a chart whose messages are level.
+-- Facts about the events of a chart whose messages are level.
 use Rattle.std.proofs.Common.{◌≡◌, ℕ, zero, suc, ◌<◌, ◌≤◌, ◌==◌, inl, inr, Bool, true, false, cond, List, [], ◌∷◌, None, Some, All, length, eqb-true, refl, sym, ap, ◌∙◌, subst, arith}
 use Rattle.std.specs.Prelude.{slice_get, bytes_eq, slice_index_or}
 use Rattle.std.proofs.Math.Path.{fun_ext}
@@ -67,7 +67,7 @@ on_line lines (suc p) (suc i) m e = elim (slice_get_cases lines p).1 [
   | inr w ↦ absurd (none-some m (subst (λ (l : LineView). slice_get l.events i ≡ Some m) (get_or_past lines p (record { instance = suc p; events = [] }) w.0) e))
 ]
 
--- what is known of an event
+-- facts about an event
 pub record IsKnown (n p : ℕ) (m : Event) : Type 0 where
   pub place : ℕ
   pub partner : ℕ
@@ -112,7 +112,7 @@ module _ (names : List (List ℕ)) (lines : List LineView) (drawing : List Row) 
         region = all_at (λ x. region_of x ≡ 0) on.line.events on.number m on.event (all_at (λ l. All (λ x. region_of x ≡ 0) l.events) lines on.place on.line on.here is.regions);
       }
 
-  -- a receive has a send, and that its name
+  -- a receive has a send, which has its name
   sends : (q : ℕ) (r : Place) → IsReceiveFrom c q r → (s : Place) × BelongsTo c s r
   sends q r from =
       let possible = is.possible in
@@ -168,7 +168,7 @@ module _ (names : List (List ℕ)) (lines : List LineView) (drawing : List Row) 
             taken = f ∙ ap (λ x. Some (Receive x name' region)) (eqb-true from s.instance u ∙ k.instance) ∙ ap (λ x. Some (Receive (suc k.place) x region)) (sym same) ∙ ap (λ x. Some (Receive (suc k.place) name x)) l.region;
           }
 
-  -- a send that nobody receives
+  -- a lost send
   pub record IsLost (e : EventNo) : Type 0 where
     pub from : ℕ
     pub to : ℕ
@@ -215,7 +215,7 @@ module _ (names : List (List ℕ)) (lines : List LineView) (drawing : List Row) 
       let m = ith_at (c e.instance) e.index low (omega arith) in
       lost_at e m.0 m.1 (is.level i e here)
 
-  -- behind a send that nobody receives no message of its lane is received
+  -- after a lost send no message of its lane is received
   pub stays_lost : (e s r : EventNo) (q : ℕ) → IsSendTo c q (place_of e) → IsEnd c (place_of e) None → BelongsTo c (place_of s) (place_of r) → s.instance ≡ e.instance → r.instance ≡ q → e.index < s.index → ⊥
   stays_lost e s r q sends_to alone b same_line to less =
       let mine = subst (λ x. IsSendTo c x (place_of e)) (sym to) sends_to in

@@ -1,4 +1,4 @@
--- The messages of a diagram that was exported, and the lines of its chart.
+-- The messages of an exported diagram, and the lines of its chart.
 use Rattle.std.proofs.Common.{◌≡◌, ℕ, zero, suc, ◌+◌, ◌<◌, ◌≤◌, ◌==◌, Bool, true, false, List, [], ◌∷◌, ◌++◌, None, Some, length, nat_lt, lt-ltb, ne_eqb, codes, drop, take, get_or, refl, sym, ap, ◌∙◌, subst, append_assoc, arith}
 use Rattle.std.specs.Prelude.{slice_get, position, bytes_eq}
 use Rattle.std.specs.List.{position_or_len}
@@ -36,7 +36,7 @@ use Rattle.diagram_round_trip.proofs.ExportedRows.{ExportedRow, Sent, RaceNote, 
 
 -- Names.
 
--- a name that no earlier one is, is called by itself
+-- a name that no earlier name equals stays as it is
 not_given : (done : List (List ℕ)) (name : List ℕ) → ((i : ℕ) (other : List ℕ) → slice_get done i ≡ Some other → bytes_eq name other ≡ false) → is_given done name ≡ false
 not_given [] name apart = refl
 not_given (other ∷ done) name apart = rw (apart 0 other refl) (not_given done name (λ i another e. apart (suc i) another e))
@@ -104,7 +104,7 @@ abbrev pub messages_from : ℕ → List Placed → List Message
 messages_from k [] = []
 messages_from k (t ∷ placed) = message_by k t.0 t.1 (messages_from (k + 1) placed)
 
--- the races are left out
+-- the notes of races are skipped
 abbrev pub note_by : ExportedRow → Place → List LeftOut → List LeftOut
 note_by (Sent is_lost from to name) place left_out = left_out
 note_by (RaceNote at words) place left_out = with_one left_out kinds.Note (place_of place)
@@ -113,7 +113,7 @@ abbrev pub notes_in : List Placed → List LeftOut → List LeftOut
 notes_in [] left_out = left_out
 notes_in (t ∷ placed) left_out = notes_in placed (note_by t.0 t.1 left_out)
 
--- the words of races say no event
+-- the words of races state no event
 blank_behind : (word : List ℕ) (rest : List ℕ) → Each (λ b. (b == 32) ≡ false) word → position (λ b. b == 32) (word ++ 32 ∷ rest) ≡ Some (length word)
 blank_behind word rest all = its_place (λ b. b == 32) (word ++ 32 ∷ rest) (length word) 32 (get_seam word 32 rest) refl (before word all)
   where
@@ -139,7 +139,7 @@ no_event names own words =
     )
     refl
 
--- what the items come to
+-- the collected messages of the items
 abbrev so_far : List Message → List LeftOut → CollectedView
 so_far messages left_out = record { messages = messages; waiting = []; left_out = left_out; fault = None }
 
@@ -155,7 +155,7 @@ items_collected names k ((RaceNote at words, place) ∷ placed) messages left_ou
     ap (λ e. with_items names (k + 1) (items_from (k + 1) placed) (with_event k n e (so_far messages left_out))) (no_event names (suc at) words)
     ∙ items_collected names (k + 1) placed messages (with_one left_out kinds.Note (place_of place))
 
--- each item stands where it may
+-- no item is misplaced
 stand_here : (n row k : ℕ) (s : ExportedRow) (place : Place) → row ≤ k → IsExported n s → may_stand n row (item_by k s place) ≡ true
 unfolding may_stand is_placed row_of
 stand_here n row k (Sent is_lost from to name) place le is =

@@ -1,4 +1,4 @@
--- The diagram of what was read of an export.
+-- The diagram that is read from an export.
 use Rattle.std.proofs.Common.{◌≡◌, ℕ, zero, suc, ◌+◌, ◌-◌, ◌<◌, ◌≤◌, ◌==◌, min, Bool, true, false, List, [], ◌∷◌, ◌++◌, None, Some, Ok, length, map, nat_lt, lt-ltb, ne_eqb, refl, sym, ap, ◌∙◌, append_assoc, arith}
 use Rattle.std.specs.Prelude.{slice_get, bytes_eq}
 use Rattle.std.proofs.lemmas.Bool.Decides.{nat_tests}
@@ -20,12 +20,12 @@ use Rattle.diagram_round_trip.proofs.MscLemmas.{Placed, arc_by, arc_of, arcs_of,
 use Rattle.diagram_round_trip.proofs.PlainBytes.{ArePlain, says_itself, plain_both}
 use Rattle.diagram_round_trip.proofs.ExportedRows.{ExportedRow, Sent, RaceNote, race_words}
 
--- what is said has participants of so many, a message two
+-- a row has participants among the first n; a message has two
 abbrev pub IsExported : ℕ → ExportedRow → Type 0
 IsExported n (Sent is_lost from to name) = (from < n) × (to < n) × (from ≡ to → ⊥) × IsName name × ArePlain name
 IsExported n (RaceNote at words) = (at < n) × ArePlain words
 
--- names that differ
+-- different names
 differ : (names : List (List ℕ)) (i j : ℕ) (one other : List ℕ) → AreNames names → slice_get names i ≡ Some one → slice_get names j ≡ Some other → (i ≡ j → ⊥) → bytes_eq one other ≡ false
 differ names i j one other are e f apart = go (bytes_eq one other) refl
   where
@@ -70,7 +70,7 @@ known_all names done participants (e ∷ entities) are is =
     ∙ ap (λ l. Some (record { words = l; participants = (participants ++ participant_of (entity_of e) ∷ []) ++ participants_of entities; left_out = [] })) (append_assoc done (e.name ∷ []) (names_in entities))
     ∙ ap (λ l. Some (record { words = done ++ e.name ∷ names_in entities; participants = l; left_out = [] })) (append_assoc participants (participant_of (entity_of e) ∷ []) (participants_of entities)))
 
--- the item that is said in a row
+-- the item of a row
 abbrev pub arrow_by : ℕ → Bool → ℕ → ℕ → List ℕ → Place → ArrowView
 arrow_by row is_lost from to name place = record {
   place = place_of place;

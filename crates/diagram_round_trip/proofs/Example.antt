@@ -1,4 +1,4 @@
--- A chart whose messages are level: one is received, and another one isn't.
+-- A chart whose messages are level: one is received, and the other is lost.
 use Rattle.std.proofs.Common.{◌≡◌, ◌≢◌, ℕ, zero, suc, ◌<◌, ◌≤◌, inl, inr, List, [], ◌∷◌, Option, None, Some, All, length, codes, get_or, ne_eqb, refl, sym, ap, ◌∙◌, subst, arith}
 use Rattle.std.specs.Prelude.{slice_get}
 use Rattle.std.specs.List.{range_with_len}
@@ -62,7 +62,7 @@ content name = record { name = name; body = [] }
 abbrev history : List Occurrence
 history = occurrences.Send 1 2 (content (codes "n")) ∷ occurrences.Receive 2 1 0 ∷ occurrences.Send 1 2 (content (codes "m")) ∷ []
 
--- the events that there are
+-- the events of the chart
 
 received : (p i q : ℕ) → IsReceiveFrom c q (at p i) → (p ≡ 2) × (i ≡ 1)
 received zero zero q (m, e, t) = absurd (none-some m e)

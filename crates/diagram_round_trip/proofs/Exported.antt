@@ -1,4 +1,4 @@
--- The text of an export for mscgen whose messages are level, and what its rows say of each line.
+-- The text of an export for mscgen whose messages are level, and the content of its rows for each line.
 use Rattle.std.proofs.Common.{◌≡◌, ℕ, zero, suc, ◌+◌, ◌<◌, ◌≤◌, ◌==◌, ◌⊎◌, inl, inr, cond, List, [], ◌∷◌, ◌++◌, Option, None, Some, length, map, codes, ne_eqb, refl, sym, ap, ◌∙◌, subst, append_assoc, arith}
 use Rattle.std.specs.Prelude.{slice_get, unwrap_or}
 use Rattle.std.specs.List.{flat_map, range_with_len}
@@ -164,7 +164,7 @@ module _ (first : List ℕ) (others : List (List ℕ)) (lines : List LineView) (
       ∙ ap (λ x. codes "msc {\n" ++ x)
       (all_declared names lines drawing reports ends notes starts lines first others (exported_rows names all_say.exported (codes "}\n")) (omega arith) (λ j l e. is.chart.numbered j l e) (λ j n e. named_here names j n e))
 
-  -- the lines of what is said
+  -- the lines of the exported rows
   pub line_exported : (ends_of_all : List End) → ((p : ℕ) → line_of p ends_of_all ≡ record { instance = p; events = events_on p all_say.exported }) → lines_from ends_of_all 1 (length names) ≡ lines
   line_exported ends_of_all are =
       lines_all ends_of_all 1 (length names) lines (sym is.many)

@@ -8,7 +8,7 @@ use Rattle.texts.specs.Instances.{name_at}
 use Rattle.diagram_round_trip.proofs.PlainBytes.{ArePlain, plain_both}
 use Rattle.diagram_round_trip.proofs.TokenLemmas.{HasTokens, quoted, msc_word, indented, to_next, to_end, brace, arrow, cross, note, row_without, label}
 
--- what a row of an export says
+-- the content of a row of an export
 pub data ExportedRow : Type 0 where
   -- a message between two participants, by their places, and whether nobody receives it
   Sent : (is_lost : Bool) (from to : ℕ) (name : List ℕ) → ExportedRow
@@ -32,7 +32,7 @@ abbrev pub relation : Bool → Relation
 relation true = LostTo
 relation false = To
 
--- what it says, before the rest of the text
+-- the text of a row, before the rest of the text
 abbrev pub exported_text : List (List ℕ) → ExportedRow → List ℕ → List ℕ
 exported_text names (Sent is_lost from to name) rest =
     codes "  " ++ quote (name_at names (suc from)) (signed is_lost (quote (name_at names (suc to)) (labelled name rest)))
@@ -47,7 +47,7 @@ abbrev pub rows_text : List (List ℕ) → List ExportedRow → List ℕ → Lis
 rows_text names [] rest = codes "  |||;\n" ++ rest
 rows_text names (s ∷ exported) rest = all_text names (s ∷ exported) rest
 
--- the entities behind the first
+-- the entities after the first
 abbrev pub others_text : List (List ℕ) → List ℕ → List ℕ
 others_text [] rest = codes ";\n" ++ rest
 others_text (name ∷ names) rest = codes ",\n  " ++ quote name (others_text names rest)
@@ -56,7 +56,7 @@ abbrev pub whole_text : List ℕ → List (List ℕ) → List ExportedRow → Li
 whole_text first others exported =
     codes "msc {\n" ++ (codes "  " ++ quote first (others_text others (rows_text (first ∷ others) exported (codes "}\n"))))
 
--- the tokens of the same
+-- the tokens of the same text
 abbrev pub label_kinds : List ℕ → List KindView → List KindView
 label_kinds bytes more = Mark 91 ∷ Word (codes "label") ∷ Mark 61 ∷ Text bytes ∷ Mark 93 ∷ Mark 59 ∷ more
 
@@ -82,7 +82,7 @@ abbrev pub whole_kinds : List ℕ → List (List ℕ) → List ExportedRow → L
 whole_kinds first others exported =
     Word (codes "msc") ∷ Mark 123 ∷ Text first ∷ others_kinds others (rows_kinds (first ∷ others) exported (Mark 125 ∷ []))
 
--- what is said has plain bytes
+-- the names and words of a row have plain bytes
 abbrev pub IsPlain : ExportedRow → Type 0
 IsPlain (Sent is_lost from to name) = ArePlain name
 IsPlain (RaceNote at words) = ArePlain words

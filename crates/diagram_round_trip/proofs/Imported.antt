@@ -44,7 +44,7 @@ unskipped line (b ∷ text) = go (b == 10) (unskipped (line_behind line b) text)
     go true more = ap (λ l. b ∷ l) more
     go false more = ap (λ l. b ∷ l) more
 
--- Where no receive has races there are no notes.
+-- Without races of receives there are no notes.
 
 neither : (a b : Bool) → (a || b) ≡ false → (a ≡ false) × (b ≡ false)
 neither true b h = absurd (false≢true (sym h))

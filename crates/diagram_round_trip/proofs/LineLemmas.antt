@@ -1,4 +1,4 @@
--- The chart of messages that were exported, one in a row.
+-- The chart of exported messages, one in each row.
 use Rattle.std.proofs.Common.{◌≡◌, ℕ, suc, ◌+◌, ◌*◌, ◌<◌, ◌≤◌, ◌==◌, ◌&&◌, ◌||◌, ◌⊎◌, inl, inr, not, Bool, true, false, cond, List, [], ◌∷◌, ◌++◌, Option, None, Some, length, map, nat_lt, ne_eqb, eq-eqb, refl, sym, ap, ◌∙◌, subst, append_assoc, arith}
 use Rattle.std.specs.Prelude.{fold}
 use Rattle.std.specs.List.{list_any}
@@ -37,7 +37,7 @@ never true true = refl
 never true false = refl
 never false b = refl
 
--- each stands above the row
+-- each of them is above the row
 abbrev Above : ℕ → List Message → Type 0
 Above k messages = Each (λ (m : Message). m.ends < k) messages
 
@@ -66,14 +66,14 @@ no_faults k earlier ((Sent is_lost from to name, place) ∷ placed) all =
     ∙ no_faults (k + 1) (earlier ++ m ∷ []) placed (above_push k earlier m refl all)
 no_faults k earlier ((RaceNote at words, place) ∷ placed) all = no_faults (k + 1) earlier placed (above_more k earlier all)
 
--- No lost one is left out.
+-- No lost message is skipped.
 
--- it is a message from one to another that is received
+-- it is a message from one to the other that is received
 abbrev pub is_taken : ℕ → ℕ → ExportedRow → Bool
 is_taken q p (Sent is_lost from to name) = (suc from == q && suc to == p) && not is_lost
 is_taken q p (RaceNote at words) = false
 
--- behind a lost message no other one of its lane is received
+-- after a lost message no other one of its lane is received
 abbrev pub StaysLost : ExportedRow → List ExportedRow → Type 0
 StaysLost (Sent true from to name) later = list_any (is_taken (suc from) (suc to)) later ≡ false
 StaysLost (Sent false from to name) later = Unit {0}
@@ -117,7 +117,7 @@ abbrev taken_on : ℕ → ExportedRow → List Event
 taken_on p (Sent is_lost from to name) = cond (suc to == p) (cond is_lost [] (receive_event (suc from) name 0 ∷ [])) []
 taken_on p (RaceNote at words) = []
 
--- the events of p that are said, from the top on
+-- the events of p in the rows, from the top
 abbrev pub event_on : ℕ → ExportedRow → List Event
 event_on p s = sent_on p s ++ taken_on p s
 
@@ -125,7 +125,7 @@ abbrev pub events_on : ℕ → List ExportedRow → List Event
 events_on p [] = []
 events_on p (s ∷ exported) = event_on p s ++ events_on p exported
 
--- No line has too many.
+-- No line has too many events.
 
 abbrev MayHave : List Message → List ExportedRow → Type 0
 MayHave messages exported = (p : ℕ) → load messages p + length (events_on p exported) ≤ MAX_EVENTS
@@ -232,7 +232,7 @@ its_end p k n (Sent is_lost from to name) is = elim (cases_eq (suc from) p) [
 abbrev ends_on : ℕ → ℕ → List ExportedRow → List End
 ends_on p k exported = own_ends p (all_ends (named_in k exported))
 
--- each of them is of an earlier turn
+-- each of them has an earlier turn
 abbrev Before : ℕ → List End → Type 0
 Before t ends = Each (λ (e : End). e.turn < t) ends
 
@@ -255,7 +255,7 @@ before_later : (t u : ℕ) (ends : List End) → Before t ends → t ≤ u → B
 before_later t u [] all le = tt
 before_later t u (x ∷ ends) all le = let one = all.0 in (omega arith, before_later t u ends all.1 le)
 
--- they stand in turn
+-- they are in the order of their turns
 stand_in_turn : (p n k : ℕ) (exported : List ExportedRow) (ends : List End) → Each (IsExported n) exported → Before (2 * k) ends → fold (put_by turn_of) ends (ends_on p k exported) ≡ ends ++ ends_on p k exported
 unfolding all_ends
 stand_in_turn p n k [] ends all before = sym (append-nil ends)
@@ -272,7 +272,7 @@ stand_in_turn p n k (s ∷ exported) ends all before = elim (its_end p k n s all
   | inr its ↦ rw (its.own (named_in (k + 1) exported)) (stand_in_turn p n (k + 1) exported ends all.1 (before_later (2 * k) (2 * (k + 1)) ends before (omega arith)))
 ]
 
--- none goes on with a coregion
+-- none continues a coregion
 goes_no_further : (p n k : ℕ) (exported : List ExportedRow) (e : End) → Each (IsExported n) exported → e.turn < 2 * k → begins e (ends_on p k exported) ≡ false
 unfolding all_ends
 goes_no_further p n k [] e all lt = refl
@@ -299,7 +299,7 @@ apart_from t (Some x) e past le =
     let apart : (x.turn == e.turn) ≡ false = ne_eqb x.turn e.turn (λ same. omega arith) in
     rw (apart, never (not x.sends) (not e.sends)) refl
 
--- the events that they are
+-- the events of these ends
 events_are : (p n k : ℕ) (exported : List ExportedRow) (last : Option End) (line : List Event) → Each (IsExported n) exported → IsPast (2 * k) last → with_ends last line (ends_on p k exported) ≡ line ++ events_on p exported
 unfolding all_ends with_ends
 events_are p n k [] last line all past = sym (append-nil line)

@@ -1,4 +1,4 @@
--- What holds of each element of a list, and of each element and each later one.
+-- A property of each element of a list, and a relation between each element and each later one.
 use Rattle.std.proofs.Common.{◌≡◌, ℕ, zero, suc, ◌+◌, ◌<◌, ◌≤◌, ◌⊎◌, inl, inr, arith, Bool, true, false, List, [], ◌∷◌, ◌++◌, None, Some, All, length, nat_lt, lt-ltb, refl, ap, ◌∙◌, subst}
 use Rattle.std.specs.Prelude.{slice_get, position}
 use Rattle.std.proofs.lemmas.List.Elements.{All-nil, All-cons}
@@ -7,7 +7,7 @@ use Rattle.std.proofs.lemmas.Bool.Decides.{nat_tests}
 use Rattle.std.proofs.lemmas.Option.{none-some, same_Some, slice_get_within, get_or_from_slice_get}
 use Rattle.diagrams.specs.Messages.Each.{Each, Pairs}
 
--- what holds at each place
+-- a property at each place
 pub each_of : {A : Type 0} (P : A → Type 0) (xs : List A) → ((i : ℕ) (x : A) → slice_get xs i ≡ Some x → P x) → Each P xs
 each_of P [] all = tt
 each_of P (x ∷ xs) all = (all 0 x refl, each_of P xs (λ i y e. all (suc i) y e))
@@ -35,7 +35,7 @@ pub get_seam : {A : Type 0} (xs : List A) (y : A) (ys : List A) → slice_get (x
 get_seam [] y ys = refl
 get_seam (x ∷ xs) y ys = get_seam xs y ys
 
--- nothing passes a test
+-- no element passes a test
 pub none_passes : {A : Type 0} (test : A → Bool) (xs : List A) → ((i : ℕ) (x : A) → slice_get xs i ≡ Some x → test x ≡ false) → position_or_len test xs ≡ length xs
 none_passes test [] all = refl
 none_passes test (x ∷ xs) all = rw (all 0 x refl, none_passes test xs (λ i y e. all (suc i) y e)) (omega arith)
@@ -46,7 +46,7 @@ no_place test xs all =
     let past : nat_lt (length xs) (length xs) ≡ false = grind (arith, nat_tests) in
     rw (here, past) refl
 
--- the first that does
+-- the first element that passes
 first_at : {A : Type 0} (test : A → Bool) (xs : List A) (i : ℕ) (x : A) → slice_get xs i ≡ Some x → test x ≡ true → ((j : ℕ) (y : A) → j < i → slice_get xs j ≡ Some y → test y ≡ false) → position_or_len test xs ≡ i
 first_at test [] i x e its before = absurd (none-some x e)
 first_at test (y ∷ xs) zero x e its before = rw (ap test (same_Some y x e) ∙ its) refl
@@ -95,7 +95,7 @@ counts_has k [] x all h = absurd h
 counts_has k (y ∷ xs) x all (inl e) = let first = all.0 in (omega arith, omega arith)
 counts_has k (y ∷ xs) x all (inr h) = let w = counts_has (k + 1) xs x all.1 h in let low = w.0 in let high = w.1 in (omega arith, omega arith)
 
--- an element of which something holds at each place
+-- an element of a list whose elements all have a property
 pub all_at : {A : Type 0} (P : A → Type 0) (xs : List A) (i : ℕ) (x : A) → slice_get xs i ≡ Some x → All P xs → P x
 all_at P xs i x e all = subst P (get_or_from_slice_get xs i x x e) (all i x (slice_get_within xs i x e))
 

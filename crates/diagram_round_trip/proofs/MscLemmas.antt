@@ -1,4 +1,4 @@
--- What is read of the tokens of an export.
+-- The chart that is read from the tokens of an export.
 use Rattle.std.proofs.Common.{◌≡◌, ℕ, zero, suc, ◌<◌, Bool, true, false, cond, List, [], ◌∷◌, ◌++◌, None, Some, Ok, length, map, codes, refl, sym, ap, ◌∙◌, append_assoc, arith}
 use Rattle.texts.specs.Instances.{name_at}
 use Rattle.diagram_mscgen.specs.Grammar.Arcs.{ArcView, arc_in, ends_in, pair_in, relation_in, partner_in}
@@ -13,7 +13,7 @@ use Rattle.texts.specs.declared.bytes.place.Place.{Place}
 use Rattle.diagram_round_trip.proofs.ExportedRows.{ExportedRow, Sent, RaceNote, race_words, relation, label_kinds, exported_kinds, all_kinds, rows_kinds, others_kinds, whole_kinds}
 use Rattle.diagram_round_trip.proofs.TokenLemmas.{AreKinds}
 
--- what a row says, where it stands
+-- the content of a row, at its place
 abbrev pub Placed : Type 0
 Placed = ExportedRow × Place
 
@@ -37,7 +37,7 @@ arc_by names (RaceNote at words) place = record {
   place = place;
 }
 
--- the arc that it is
+-- the arc of a row
 abbrev pub arc_of : List (List ℕ) → Placed → ArcView
 arc_of names t = arc_by names t.0 t.1
 
@@ -45,7 +45,7 @@ arc_of names t = arc_by names t.0 t.1
 abbrev pub space_at : Place → ArcView
 space_at place = record { kind = arcs.Spacer; from = []; to = []; label = None; skip = 0; ends_row = true; place = place }
 
--- an entity, where it stands
+-- an entity, at its place
 pub record Entity : Type 0 where
   pub name : List ℕ
   pub place : Place
@@ -53,7 +53,7 @@ pub record Entity : Type 0 where
 abbrev pub entity_of : Entity → EntityView
 entity_of e = record { word = e.name; label = None; place = e.place }
 
--- what is read, and the tokens behind it
+-- the arc that is read, and the tokens after it
 record ReadsArc (names : List (List ℕ)) (s : ExportedRow) (more : List KindView) (tokens : Tokens) : Type 0 where
   pub place : Place
   pub rest : Tokens
@@ -84,7 +84,7 @@ reads_arc names (Sent is_lost from to name) more tokens (p, a, t1, e1, (q, b, t2
 reads_arc names (RaceNote at words) more tokens (p, a, t1, e1, (q, b, t2, e2, (r, c, t3, e3, (s, d, t4, e4, (t, e, t5, e5, (u, f, t6, e6, (v, g, t7, e7, (w, h, t8, e8, (x, i, rest, e9, are))))))))) =
     rw (e1, e2, e3, e4, e5, e6, e7, e8, e9) (record { place = p; rest = rest; behind = are; shorter = omega arith; read = noted_read (name_at names (suc at)) (race_words words) p q r s t u v w x a b c d e f g h i rest })
 
--- the brace is next, or it isn't
+-- the brace comes next, or it doesn't
 brace_next : (rest : Tokens) → AreKinds (Mark 125 ∷ []) rest → is_last true rest ≡ true
 unfolding skip_mark
 brace_next rest (p, t, us, e, are) = rw e refl
@@ -101,7 +101,7 @@ always : (names : List (List ℕ)) (s : ExportedRow) (place : Place) → (arc_by
 always names (Sent is_lost from to name) place = refl
 always names (RaceNote at words) place = refl
 
--- the arcs that were read, and the brace behind them
+-- the arcs that are read, and the brace after them
 record ReadsArcs (names : List (List ℕ)) (exported : List ExportedRow) (n : ℕ) (so_far : List ArcView) (tokens : Tokens) : Type 0 where
   pub placed : List Placed
   pub last : Tokens
@@ -188,7 +188,7 @@ reads_entities name (other ∷ names) more (suc n) so_far tokens enough are =
       read = rw first.read (others.read ∙ ap (λ l. Ok (l, others.rest)) (append_assoc so_far (entity_of e ∷ []) (map entity_of others.entities)));
     }
 
--- the arcs of the rows: one without anything, where there is nothing to say
+-- the arcs of the rows: an empty row if there are none
 abbrev pub arcs_of : List (List ℕ) → Place → List Placed → List ArcView
 arcs_of names place [] = space_at place ∷ []
 arcs_of names place (t ∷ placed) = map (arc_of names) (t ∷ placed)
@@ -228,7 +228,7 @@ reads_rows names [] tokens are =
 reads_rows names (s ∷ exported) tokens are =
     rows_by names tokens s exported (suc (length tokens)) refl (reads_arcs names s exported (suc (length tokens)) [] tokens (omega arith) are)
 
--- what is read of the whole text
+-- the chart that is read from the whole text
 pub record ReadsWhole (names : List (List ℕ)) (exported : List ExportedRow) (tokens : Tokens) : Type 0 where
   pub entities : List Entity
   pub placed : List Placed

@@ -7,14 +7,14 @@ use Rattle.chart.specs.Names.{is_name_byte}
 use Rattle.diagram_mscgen.specs.Grammar.Lengths.{closing}
 use Rattle.diagram_mscgen.specs.Reading.Texts.{text_of}
 
--- no quotation mark, no backslash and no line's end
+-- no quotation mark, no backslash and no end of a line
 abbrev pub is_plain : ℕ → Bool
 is_plain b = not (b == 34) && (not (b == 92) && (not (b == 10) && not (b == 13)))
 
 abbrev pub ArePlain : List ℕ → Type 0
 ArePlain bytes = list_all is_plain bytes ≡ true
 
--- what a plain byte isn't
+-- the bytes that a plain byte isn't
 record Isnt (b : ℕ) : Type 0 where
   pub quote : (b == 34) ≡ false
   pub backslash : (b == 92) ≡ false
@@ -48,7 +48,7 @@ plain_all test each (b ∷ bytes) h =
 pub plain_both : (one other : List ℕ) → ArePlain one → ArePlain other → ArePlain (one ++ other)
 plain_both one other h k = list_all-append is_plain one other ∙ rw (h, k) refl
 
--- the mark that ends them is found behind them
+-- the quotation mark that ends them is found after them
 pub closes : (before : ℕ) (bytes rest : List ℕ) → ArePlain bytes → (before == 92) ≡ false → closing before (bytes ++ 34 ∷ rest) ≡ Some (length bytes)
 unfolding closing
 closes before [] rest h nb = rw nb refl
@@ -57,7 +57,7 @@ closes before (b ∷ bytes) rest h nb =
     let is = isnt b parts.0 in
     rw (is.quote, closes b bytes rest parts.1 is.backslash) refl
 
--- they say themselves
+-- they are their own text
 pub says_itself : (bytes : List ℕ) → ArePlain bytes → text_of bytes ≡ bytes
 unfolding text_of
 says_itself [] h = refl

@@ -1,4 +1,4 @@
--- Nothing is told of names that stay as they are, and nothing but notes is left out.
+-- No name is reported if all stay as they are, and only notes are skipped.
 use Rattle.std.proofs.Common.{◌≡◌, ℕ, zero, suc, ◌+◌, ◌==◌, Bool, true, false, List, [], ◌∷◌, ◌++◌, Option, None, Some, length, map, ne_eqb, refl, sym, ap, ◌∙◌, subst, append_assoc, arith}
 use Rattle.std.specs.Prelude.{slice_set, slice_index_or}
 use Rattle.std.specs.List.{list_all}
@@ -40,7 +40,7 @@ no_blanks (b ∷ bytes) all =
 not_renamed : (name : List ℕ) → IsName name → is_renamed name name ≡ false
 not_renamed name is = rw (no_blanks name (name_bytes name is).1, (bytes_eq-Decides name name).1 refl) refl
 
--- what is their own name isn't told
+-- a label that is its own name isn't reported
 no_renames : (renames : List (List ℕ × List ℕ)) (names : List (List ℕ)) → Each IsName names → renamed_from renames names names ≡ renames
 unfolding renamed_from
 no_renames renames [] all = refl
@@ -76,7 +76,7 @@ own_labels n items k front labels ((RaceNote at words, place) ∷ placed) is lon
     (is ∙ sym (append_assoc front (item_by k (RaceNote at words) place ∷ []) (items_from (k + 1) placed)))
     (omega (arith, long, length-append front (item_by k (RaceNote at words) place ∷ []))) own all.1
 
--- of an export's names and labels none is told
+-- none of an export's names and labels is reported
 pub none_renamed : (n : ℕ) (names : List (List ℕ)) (entities : List Entity) (placed : List Placed) → map (λ (e : Entity). e.name) entities ≡ names
     → Each (λ (e : Entity). IsName e.name × ArePlain e.name) entities → Each IsName names → Each (λ (t : Placed). IsExported n t.0) placed
     → renamed_from (renamed_from [] (map (λ (p : ParticipantView). p.label) (participants_of entities)) names)
@@ -109,7 +109,7 @@ one_more left_out place None all = each_append IsNote left_out (one kinds.Note p
 one_more left_out place (Some i) all =
     set_notes left_out i (and_one (slice_index_or left_out i (one kinds.Note place)) place) all (note_at left_out i (one kinds.Note place) all refl)
 
--- only notes are left out
+-- only notes are skipped
 pub only_notes : (placed : List Placed) (left_out : List LeftOut) → Each IsNote left_out → Each IsNote (notes_in placed left_out)
 unfolding with_one
 only_notes [] left_out all = all

@@ -1,4 +1,4 @@
--- What is read of an export for mscgen whose messages are level is the chart.
+-- The chart is read from an export for mscgen whose messages are level.
 use Rattle.std.proofs.Common.{◌≡◌, ℕ, zero, suc, ◌+◌, ◌≤◌, ◌||◌, inl, inr, false, cond, List, [], ◌∷◌, Option, None, Ok, Err, length, map, nat_lt, refl, sym, ap, ◌∙◌, subst, arith}
 use Rattle.std.proofs.lemmas.Bool.Decides.{nat_tests}
 use Rattle.std.proofs.lemmas.Option.{slice_get_cases, get_or_from_slice_get}
@@ -55,7 +55,7 @@ exported_plain : (n : ℕ) (s : ExportedRow) → IsExported n s → IsPlain s
 exported_plain n (Sent is_lost from to name) is = is.4
 exported_plain n (RaceNote at words) is = is.1
 
--- where nothing but messages is said nothing is left out
+-- if the rows have only messages, nothing is skipped
 pub none_noted : (placed : List Placed) (left_out : List LeftOut) → Each IsSent (exported_of placed) → notes_in placed left_out ≡ left_out
 none_noted [] left_out all = refl
 none_noted ((Sent is_lost from to name, place) ∷ placed) left_out all = none_noted placed left_out all.1

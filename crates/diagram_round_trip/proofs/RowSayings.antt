@@ -1,4 +1,4 @@
--- What the rows of an export say.
+-- The content of an export's rows.
 use Rattle.std.proofs.Common.{◌≡◌, ℕ, zero, suc, ◌+◌, ◌<◌, ◌==◌, ◌%◌, ◌/◌, inl, inr, Bool, true, false, cond, List, [], ◌∷◌, ◌++◌, Option, None, Some, All, length, map, codes, decimal, nat_lt, lt-ltb, ne_eqb, eq-eqb, eqb-true, ◌&&◌, append-nil, refl, sym, ap, ◌∙◌, subst, append_assoc, arith}
 use Rattle.std.specs.Prelude.{unwrap_or}
 use Rattle.std.specs.Fmt.{digits, digits_onto, digit_glyph}
@@ -136,7 +136,7 @@ pub map_both : {A B : Type 0} (f : A → B) (xs ys : List A) → map f (xs ++ ys
 map_both f [] ys = refl
 map_both f (x ∷ xs) ys = ap (λ l. f x ∷ l) (map_both f xs ys)
 
--- which message a row is
+-- the message of a row
 pub record IsRowOf (row : Row) (q p : ℕ) : Type 0 where
   pub send : EventNo
   pub receive : EventNo
@@ -169,7 +169,7 @@ module _ (names : List (List ℕ)) (lines : List LineView) (drawing : List Row) 
   abbrev pub v : ExportView
   v = view names lines drawing reports ends notes starts
 
-  -- a message's line, and a lost one's
+  -- the line of a received message, and of a lost one
   arrow_exported : (is_lost : Bool) (from to : ℕ) (name rest : List ℕ)
       → whole_arrow v (cond is_lost (lost_sign Mscgen) (arrow_sign Mscgen)) (suc from) (suc to) name ++ rest ≡ exported_text names (Sent is_lost from to name) rest
   unfolding whole_arrow arrow indent quoted spelled lost_sign arrow_sign label_start label_end
@@ -202,7 +202,7 @@ module _ (names : List (List ℕ)) (lines : List LineView) (drawing : List Row) 
         quiet = λ none. absurd (cc none);
       }
 
-  -- what a row says: its message, and the races of its receive
+  -- the content of a row: its message, and the races of its receive
   pub record RowSays (row : Row) : Type 0 where
     pub head : ExportedRow
     pub message : IsSent head
@@ -228,7 +228,7 @@ module _ (names : List (List ℕ)) (lines : List LineView) (drawing : List Row) 
       abbrev Noted : EventNo → Type 0
       Noted e = (report : ReportView) → note_of v e ≡ Some report → (at : ℕ) × (report.receive.instance ≡ suc at) × (at < length lines)
 
-      -- each event has a name that is plain
+      -- each event has a plain name
       named : Names v
       named = plain_event v (each_of ArePlain names (λ i n e. plain_name n (all_at IsName names i n e is.named))) (λ p i m e.
           let on = on_line lines p i m e in

@@ -1,4 +1,4 @@
--- The tokens of texts, by what they are.
+-- The tokens of texts, by their kinds.
 use Rattle.std.proofs.Common.{◌≡◌, ℕ, zero, suc, ◌+◌, ◌-◌, ◌≤◌, true, false, not, List, [], ◌∷◌, ◌++◌, None, Some, length, take, codes, nat_lt, lt-ltb, refl, ap, ◌∙◌, subst, append_assoc, arith}
 use Rattle.std.specs.List.{list_all, prefix_len}
 use Rattle.std.proofs.Math.Seq.{take-append_seam, drop-append_seam}
@@ -15,12 +15,12 @@ use Rattle.texts.specs.declared.bytes.place.Place.{Place}
 use Rattle.diagram_mscgen.specs.declared.grammar.relation.Relation.TheVariants.{To, LostTo}
 use Rattle.diagram_round_trip.proofs.PlainBytes.{ArePlain, closes}
 
--- the tokens are these, wherever they stand
+-- the tokens have these kinds, at any places
 abbrev pub AreKinds : List KindView → Tokens → Type 0
 AreKinds [] tokens = tokens ≡ []
 AreKinds (k ∷ kinds) tokens = (place : Place) × (text : List ℕ) × (rest : Tokens) × (tokens ≡ record { kind = k; place = place; rest = text } ∷ rest) × AreKinds kinds rest
 
--- the text's tokens are these, wherever it stands
+-- the text's tokens have these kinds, at any places
 pub record HasTokens (text : List ℕ) (kinds : List KindView) : Type 0 where
   pub tokens : (n : ℕ) (place : Place) → length text ≤ n → AreKinds kinds (tokens_from n place text)
 
@@ -31,7 +31,7 @@ nothing = record { tokens = all }
     all zero place le = refl
     all (suc n) place le = refl
 
--- a piece that is a token, and what stands behind it
+-- a piece that is a token, and the tokens after it
 pub token : (b : ℕ) (bytes rest : List ℕ) (kind : KindView) (more : List KindView) → (piece_at (b ∷ bytes ++ rest)).length ≡ suc (length bytes)
     → kind_of (piece_at (b ∷ bytes ++ rest)).shape (b ∷ bytes) ≡ Some kind → HasTokens rest more → HasTokens (b ∷ bytes ++ rest) (kind ∷ more)
 unfolding first_token
@@ -66,7 +66,7 @@ word_ends word b rest h other =
     let within : nat_lt (length word) (length (word ++ b ∷ rest)) ≡ true = lt-ltb _ _ (omega (arith, length-append word (b ∷ rest))) in
     rw (here, within) refl
 
--- what stands between two quotation marks
+-- the text between two quotation marks
 pub quoted : (bytes rest : List ℕ) (more : List KindView) → ArePlain bytes → HasTokens rest more → HasTokens (34 ∷ bytes ++ 34 ∷ rest) (Text bytes ∷ more)
 unfolding piece_at inner
 quoted bytes rest more plain behind_it =

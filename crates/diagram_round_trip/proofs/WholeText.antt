@@ -1,4 +1,4 @@
--- What all rows of an export say, and its whole text.
+-- The content of all rows of an export, and its whole text.
 use Rattle.std.proofs.Common.{◌≡◌, ℕ, suc, ◌+◌, ◌<◌, ◌||◌, inl, Bool, true, false, List, [], ◌∷◌, ◌++◌, Option, None, Some, length, map, refl, sym, ap, ◌∙◌, subst, append_assoc, arith}
 use Rattle.std.specs.Prelude.{slice_get}
 use Rattle.std.specs.List.{flat_map, list_any}
@@ -23,7 +23,7 @@ use Rattle.diagram_round_trip.proofs.Lists.{each_append, Counts, counts_on, coun
 use Rattle.diagram_round_trip.proofs.RowSayings.{IsRaceNote, IsSent, event_at, IsRowOf, view, RowSays, map_both}
 use Rattle.diagram_round_trip.proofs.ExportedRows.{ExportedRow, Sent, RaceNote, exported_text, all_text}
 
--- what is said joined
+-- the joined texts of rows
 
 texts_joined : (names : List (List ℕ)) (one other : List ExportedRow) (rest : List ℕ) → all_text names (one ++ other) rest ≡ all_text names one (all_text names other rest)
 texts_joined names [] other rest = refl
@@ -75,7 +75,7 @@ module _ (names : List (List ℕ)) (lines : List LineView) (drawing : List Row) 
     pub one : 0 < length some → (s : ExportedRow) × (more : List ExportedRow) × (exported ≡ s ∷ more)
     pub quiet : ((e : EventNo) → note_of v e ≡ None) → Each IsSent exported
 
-  -- with one row more
+  -- with one more row
   module _ (row : Row) (some : List Row) (k : ℕ → ℕ) (counts : (p : ℕ) → Counts (k p) (laid_out (row ∷ some) p))
       (alone : (e : EventNo) → row ≡ rows.Event e → IsEnd c (place_of e) None)
       (belong : (i : ℕ) (s r : EventNo) → slice_get some i ≡ Some (rows.Message s r) → BelongsTo c (place_of s) (place_of r))

@@ -23,11 +23,11 @@ use Rattle.diagram_round_trip.specs.LevelCharts.{IsLevelChart, Passed, at_once}
 abbrev pub all_lines : Bool → OptionsView
 all_lines is_strict = record { skipped = []; joins = []; is_strict = is_strict }
 
--- the tool is named, or the text has to tell it
+-- the tool is named, or has to be detected
 abbrev pub IsDetectedOr : Tool → Option Tool → Type 0
 IsDetectedOr tool named = (named ≡ Some tool) ⊎ (named ≡ None)
 
--- what was read is the chart with these names and lines, no name is told, and nothing but notes is left out
+-- the result is the chart with these names and lines; no name is reported, and only notes are skipped
 pub record IsChartOf (names : List (List ℕ)) (lines : List LineView) (read : Result JoinedChartView Refusal) : Type 0 where
   pub built : DiagramChartView
   pub is : read ≡ Ok (record { built = built; overtaking = [] })
@@ -44,22 +44,22 @@ pub record IsLevelExport (names : List (List ℕ)) (lines : List LineView) (rows
   pub ends_are : AreEnds (chart_lines lines) ends
   pub export : IsExportOf Mscgen names lines rows reports ends v
 
--- the text that is written of it for mscgen is imported as the same chart, whether the tool is named or not; and so it
--- is where nothing may be left out, if no receive has races: else their notes are
+-- The text for mscgen is imported as the same chart, whether the tool is named or not. A strict import does so too, if
+-- no receive has races: their notes would be skipped.
 abbrev pub MscgenRoundTrip : Type 0
 MscgenRoundTrip = (names : List (List ℕ)) (lines : List LineView) (rows : List Row) (reports : List ReportView)
     (ends : List (List (Option EventNo))) (v : ExportView) → IsLevelExport names lines rows reports ends v
     → (tool : Option Tool) → IsDetectedOr Mscgen tool → (is_strict : Bool) → (is_strict ≡ true → has_races reports ≡ false)
     → IsChartOf names lines (imported tool (export_text v) (all_lines is_strict))
 
--- there is such an export: of a chart with a message that is received, and one that nobody receives
+-- there is such an export: that of a chart with a received message and a lost one
 abbrev pub SomeLevelExport : Type 0
 SomeLevelExport = (names : List (List ℕ)) × (lines : List LineView) × (rows : List Row) × (reports : List ReportView)
     × (ends : List (List (Option EventNo))) × (v : ExportView) × IsLevelExport names lines rows reports ends v
     × ((s : EventNo) × (r : EventNo) × (slice_get rows 0 ≡ Some (Message s r)))
     × ((e : EventNo) × (slice_get rows 1 ≡ Some (Event e)))
 
--- where each message is received before the next one is sent, the chart's layout has it level, and no event alone
+-- if each message is received before the next one is sent, the chart's layout draws it level, and no event is alone
 abbrev pub LevelAtOnce : Type 0
 LevelAtOnce = (lines : List LineView) (rows : List Row) (messages : List Passed) → IsLayout lines [] rows
     → ((p : ℕ) → chart_lines lines p ≡ at_once messages p) → All (λ m. m.from ≢ m.to) messages

@@ -1,5 +1,5 @@
--- Charts that mscgen's language can say whole: without coregions, and with each received message drawn level (this
--- project's profile).
+-- Charts that mscgen's language can express completely: without coregions, and with each received message drawn level
+-- (this project's profile).
 use Rattle.std.specs.Prelude.{◌≡◌, ℕ, ◌==◌, List, [], ◌∷◌, ◌++◌, length, slice_get, Some, None, All, if◌then◌else◌}
 use Rattle.chart.specs.Charts.{Chart, LineView, IsChart, IsPossible, chart_lines}
 use Rattle.chart.specs.Events.{name_of, region_of, send_event, receive_event}
@@ -21,7 +21,7 @@ HasNoRegions lines = All (λ l. All (λ m. region_of m ≡ 0) l.events) lines
 abbrev pub HaveNames : List LineView → Type 0
 HaveNames lines = All (λ l. All (λ m. IsName (name_of m)) l.events) lines
 
--- the messages that are received are level: no event that stands alone has another end
+-- the received messages are level: no event that is alone has another end
 abbrev pub AreLevel : Chart → List Row → Type 0
 AreLevel c drawing = (i : ℕ) (e : EventNo) → slice_get drawing i ≡ Some (rows.Event e) → IsEnd c (place_of e) None
 
@@ -43,13 +43,13 @@ pub record Passed : Type 0 where
   pub to : ℕ
   pub name : List ℕ
 
--- what it adds to a line: its send, or its receive
+-- the event that a message adds to a line: its send, or its receive
 abbrev pub ends_at : ℕ → Passed → List Event
 ends_at p m =
     (if m.from == p then send_event m.to m.name ∷ [] else [])
     ++ (if m.to == p then receive_event m.from m.name 0 ∷ [] else [])
 
--- the line of an instance where each message is received before the next one is sent
+-- the line of an instance, if each message is received before the next one is sent
 abbrev pub at_once : List Passed → Chart
 at_once [] p = []
 at_once (m ∷ messages) p = ends_at p m ++ at_once messages p

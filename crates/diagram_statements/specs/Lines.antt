@@ -7,7 +7,7 @@ use Rattle.diagram_statements.specs.declared.statement.Place.{Place}
 abbrev pub line_place : LineView → Place
 line_place l = record { line = l.number; column = l.column }
 
--- what stands behind so many bytes of a line
+-- the rest of a line after this number of bytes
 abbrev pub after : ℕ → LineView → LineView
 after count l = record { number = l.number; column = l.column + count; words = drop count l.words }
 
@@ -15,19 +15,19 @@ after count l = record { number = l.number; column = l.column + count; words = d
 unfoldable pub stripped_line : LineView → LineView
 stripped_line l = record { number = l.number; column = l.column + blank_length l.words; words = stripped l.words }
 
--- so many of its first bytes, without the blanks at their ends
+-- this number of its first bytes, without the blanks at their ends
 unfoldable pub front_of : ℕ → LineView → LineView
 front_of count l = stripped_line (record { number = l.number; column = l.column; words = take count l.words })
 
--- how many bytes stand before the line feed that ends the line, or the text's end
+-- the number of bytes before the line feed that ends the line, or before the text's end
 unfoldable pub line_length : List ℕ → ℕ
 line_length text = unwrap_or (first_place 10 text) (length text)
 
--- the first line of a text, of this number, without the blanks at its ends
+-- the first line of a text, with this number and without the blanks at its ends
 abbrev pub first_line : ℕ → List ℕ → LineView
 first_line number text = stripped_line (record { number = number; column = 1; words = take (line_length text) text })
 
--- at most so many lines of a text, the first of which has this number
+-- at most this many lines of a text; the first one has this number
 abbrev pub lines_from : ℕ → ℕ → List ℕ → List LineView
 lines_from zero number text = []
 lines_from (suc n) number [] = []

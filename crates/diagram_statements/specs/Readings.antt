@@ -1,4 +1,4 @@
--- What is read of a text: its statements from the top, up to its first fault.
+-- The statements of a text from the top, up to its first fault.
 use Rattle.std.specs.Prelude.{List, ◌++◌, Option, map}
 use Rattle.diagram_statements.specs.Statements.{StatementView, statement_view}
 use Rattle.diagram_statements.specs.declared.reading.ReadText.{ReadText}
@@ -10,6 +10,6 @@ ReadView = List StatementView × Option Fault
 abbrev pub read_view : ReadText → ReadView
 read_view r = (map statement_view r.statements.items, r.fault)
 
--- what statements say behind those so far
+-- the statements so far, and then those that are read
 abbrev pub behind : List StatementView → ReadView → ReadView
 behind so_far read = (so_far ++ read.0, read.1)

@@ -1,4 +1,4 @@
--- What a diagram of lines says, with the words of its text.
+-- Statements of PlantUML and Mermaid diagrams, with the words of their text.
 use Rattle.std.specs.Prelude.{◌≡◌, ℕ, Bool, List, Option, None, Some, Result, Ok, Err, option_map}
 use Rattle.diagram_statements.specs.declared.line.Line.{Line}
 use Rattle.diagram_statements.specs.declared.statement.Arrow.{Arrow}
@@ -32,7 +32,7 @@ pub record EndView : Type 0 where
 abbrev pub end_view : End → EndView
 end_view e = record { word = e.word.now; label = option_map (λ label. label.now) e.label }
 
--- an arrow, between the participant that is written first and the second one, or the edge
+-- an arrow: the participants that are written first and second, or the edge, and its other parts
 pub record ArrowView : Type 0 where
   pub first : Option EndView
   pub second : Option EndView
@@ -53,7 +53,7 @@ arrow_view a = record {
   activates = a.activates;
 }
 
--- at what a note stands
+-- the position of a note
 pub data NoteAtView : Type 0 where
   AtArrow : NoteAtView
   AtParticipant : (word : List ℕ) → NoteAtView
@@ -64,7 +64,7 @@ note_at_view notes.Arrow = AtArrow
 note_at_view (notes.Participant word) = AtParticipant word.now
 note_at_view notes.Several = AtSeveral
 
--- what a statement says
+-- the content of a statement
 pub data ElementView : Type 0 where
   Named : (participant : EndView) → ElementView
   Renamed : (participant : EndView) → ElementView
@@ -118,7 +118,7 @@ abbrev pub Fails : {Y : Type 0} → ReadError → Result Y Fault → Type 0
 Fails errors.Memory read = Unit {0}
 Fails (errors.Fault fault) read = read ≡ Err fault
 
--- what a call returned, seen by view, is what reading gives, unless memory ran out
+-- the result, seen through view, is the defined one, unless memory ran out
 abbrev pub Reads : {X Y : Type 0} → (X → Y) → Result X ReadError → Result Y Fault → Type 0
 Reads view (Ok x) read = read ≡ Ok (view x)
 Reads view (Err e) read = Fails e read

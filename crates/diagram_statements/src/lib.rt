@@ -1,7 +1,7 @@
-//! What a diagram of lines says, statement by statement: shared by the readers of PlantUML and of Mermaid.
+//! Statements of PlantUML and Mermaid diagrams, shared by the readers of both.
 //!
-//! What is promised: a line, its text and its length are those of a definition, for any bytes (`specs/Lines`). The
-//! diagram that the statements make is told by [`to_diagram`].
+//! What is promised: a line, its text and its length are those of a definition, for any bytes (`specs/Lines`).
+//! [`to_diagram`] has the diagram of the statements.
 #![tactic(auto)]
 
 mod line;

@@ -17,7 +17,7 @@ pub struct Line<'a> {
 }
 
 impl<'a> Line<'a> {
-    /// Where its first byte stands.
+    /// The place of its first byte.
     pub fn place(&self) -> Place
         ensures { result ≡ line_place (line_view self.now) }
     {
@@ -27,7 +27,7 @@ impl<'a> Line<'a> {
         }
     }
 
-    /// What stands behind so many of its bytes.
+    /// The rest of the line after its first `count` bytes.
     pub fn after(self, count: usize) -> Line<'a>
         requires within { count ≤ length self.words.now }
         requires room { self.column + length self.words.now < 2 ^ 64 }
@@ -42,7 +42,7 @@ impl<'a> Line<'a> {
         }
     }
 
-    /// It without the blanks at its ends.
+    /// The line without the blanks at its ends.
     #[tactic(auto, unfolding(crate::specs::Lines::stripped_line, texts::specs::Words::stripped, texts::specs::Words::behind_blanks))]
     pub fn stripped(self) -> Line<'a>
         requires { self.column + length self.words.now < 2 ^ 64 }
@@ -58,7 +58,7 @@ impl<'a> Line<'a> {
         }
     }
 
-    /// So many of its first bytes, without the blanks at their ends.
+    /// Its first `count` bytes, without the blanks at their ends.
     #[tactic(auto, unfolding(crate::specs::Lines::front_of))]
     pub fn front(self, count: usize) -> Line<'a>
         requires within { count ≤ length self.words.now }
@@ -74,7 +74,7 @@ impl<'a> Line<'a> {
     }
 }
 
-/// How many bytes stand before the first line feed, or the end.
+/// The number of bytes before the first line feed, or before the end.
 #[tactic(auto, unfolding(crate::specs::Lines::line_length))]
 pub fn line_length(text: &[u8]) -> usize
     ensures value { result ≡ line_length text.now }
@@ -86,7 +86,7 @@ pub fn line_length(text: &[u8]) -> usize
     }
 }
 
-/// The first line of a text, of this number, without the blanks at its ends.
+/// The first line of a text, with this number and without the blanks at its ends.
 #[tactic(auto, unfolding(crate::specs::Lines::stripped_line))]
 pub fn first_line(number: u64, text: &[u8]) -> Line<'_>
     ensures line { line_view result ≡ first_line number text.now }
@@ -101,7 +101,7 @@ pub fn first_line(number: u64, text: &[u8]) -> Line<'_>
     line.stripped()
 }
 
-/// What stands behind the first line of a text.
+/// The text after its first line.
 #[tactic(auto, using(texts::proofs::ByteLoops::drop_all))]
 pub fn behind_line(text: &[u8]) -> &[u8]
     ensures value { result.now ≡ drop (suc (line_length text.now)) text.now }

@@ -1,7 +1,7 @@
-//! What is read of a text.
+//! The statements of a text, as they are read.
 use crate::statement::{Fault, Statement};
 
-/// What is read of a text: its statements from the top, up to its first fault, if it has one.
+/// The statements of a text from the top, up to its first fault, if it has one.
 #[derive(Debug, Drop)]
 pub struct ReadText<'a> {
     pub statements: Vec<Statement<'a>>,

@@ -4,7 +4,7 @@ ghost use Rattle.diagram_statements.specs.declared.statement.ReadError.TheVarian
 
 use std::alloc::{AllocError, AllocFailed};
 
-/// Where something stands in a text.
+/// A place in a text.
 #[derive(Clone, Copy, Debug, PartialEq, Eq)]
 pub struct Place {
     /// From 1.
@@ -20,11 +20,11 @@ pub struct End<'a> {
     pub label: Option<&'a [u8]>,
 }
 
-/// What an arrow is.
+/// The form of an arrow.
 #[derive(Clone, Copy, Debug, PartialEq, Eq)]
 pub enum ArrowForm {
     Message,
-    /// A message that gets lost.
+    /// A lost message.
     Lost,
     /// It has a head at each end.
     BothWays,
@@ -37,9 +37,9 @@ pub enum ArrowForm {
 /// An arrow.
 #[derive(Clone, Copy, Debug)]
 pub struct Arrow<'a> {
-    /// The participant that is written first; none where the arrow comes from the edge of the diagram.
+    /// The participant that is written first, or none for the edge of the diagram.
     pub first: Option<End<'a>>,
-    /// The one that is written second; none where it goes to the edge.
+    /// The participant that is written second, or none for the edge.
     pub second: Option<End<'a>>,
     /// Whether it goes from the second to the first.
     pub goes_back: bool,
@@ -47,11 +47,12 @@ pub struct Arrow<'a> {
     pub label: &'a [u8],
     /// Whether it is in the row of the arrow above it.
     pub is_beside: bool,
-    /// What it does to its receiver where arrows activate: it begins an activation, ends one, or neither.
+    /// Its effect on its receiver, if arrows activate: it begins an activation (`true`), ends one (`false`), or does
+    /// neither.
     pub activates: Option<bool>,
 }
 
-/// At what a note stands.
+/// The position of a note.
 #[derive(Clone, Copy, Debug)]
 pub enum NoteAt<'a> {
     /// The arrow above it.
@@ -67,13 +68,13 @@ pub enum NoteAt<'a> {
 pub enum Group {
     /// Its branches are parallel.
     Parallel,
-    /// It breaks off what stands around it.
+    /// It breaks off the statements around it.
     Break,
-    /// Any other: one of its branches is taken.
+    /// Any other group: one of its branches is taken.
     Choice,
 }
 
-/// What a statement says.
+/// The content of a statement.
 #[derive(Clone, Copy, Debug)]
 pub enum Element<'a> {
     /// A participant, perhaps with its label: the first statement that names it decides.
@@ -82,13 +83,13 @@ pub enum Element<'a> {
     Renamed(End<'a>),
     Arrow(Arrow<'a>),
     Note { at: NoteAt<'a>, text: &'a [u8] },
-    /// The participant to which the arrow above it goes is active from here on.
+    /// The receiver of the arrow above it is active from here on.
     Activate,
     /// The innermost activation ends.
     Deactivate,
     /// An answer to the arrow of the innermost activation.
     Return { label: &'a [u8], is_beside: bool },
-    /// From here on arrows activate, or don't any more.
+    /// From here on arrows activate, or no longer do.
     ArrowsActivate(bool),
     Begin(Group),
     /// Another branch of the innermost group.
@@ -97,14 +98,14 @@ pub enum Element<'a> {
     End,
     /// A box around statements.
     BeginBox,
-    /// A box around participants, which nothing has to end.
+    /// A box around participants, which needs no end.
     Box,
     Divider,
     Delay,
     Reference,
-    /// A line of the pre-processor, left out wherever it stands.
+    /// A line of the preprocessor, which is skipped in each branch, taken or not.
     Preprocessor,
-    /// Another diagram of the text, left out wherever it stands.
+    /// Another diagram of the text, which is skipped in each branch, taken or not.
     OtherDiagram,
 }
 
@@ -118,7 +119,7 @@ pub struct Statement<'a> {
 /// Why a text isn't a diagram.
 #[derive(Clone, Copy, Debug, PartialEq, Eq)]
 pub enum Fault {
-    /// What stands at this place can't be read.
+    /// The text at this place can't be read.
     NotRead(Place),
     /// The text ends too early.
     Unfinished,

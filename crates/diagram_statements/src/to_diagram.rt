@@ -1,9 +1,10 @@
-//! Diagrams of lines: what the statements of a PlantUML or Mermaid diagram come to.
+//! The diagram of the statements of a PlantUML or Mermaid text.
 //!
-//! What is promised ([`diagram_of`]): the diagram is a function of the statements: its participants as they are first
-//! named, an item for each arrow and note in a branch that is taken, with its row, and each kind of what is left out
-//! with its count and its first place; or the first branch or end that stands outside of a group is the fault. Memory
-//! is refused at a growth alone.
+//! [`diagram_of`] promises this: the diagram depends only on the statements. Its participants are in the order in which
+//! they are first named. In branches that are taken, it has an item, with its row, for each message between two
+//! participants. It also has one for each note with a text at one participant. It has each kind of skipped constructs,
+//! with its count and its first place. If a branch or an end is outside of a group, the first of them is the fault.
+//! Memory is refused only at a growth.
 
 mod act;
 mod activations;

@@ -1,9 +1,8 @@
-//! The tool of a sequence diagram, as the text itself tells it.
+//! The tool of a sequence diagram, detected from its text.
 //!
-//! What is promised ([`detected_tool`]): the text's first word that stands in no comment decides, and nothing
-//! behind it. mscgen, PlantUML and Mermaid each have one, and Mermaid another in the line that begins a title
-//! block. Any other text gets the place of its first word, and a text without a word that it has none. Nothing here
-//! takes memory.
+//! [`detected_tool`] promises this: only the text's first word outside of comments decides. mscgen, PlantUML and
+//! Mermaid have one such word each. Mermaid also has the line that begins a title block. For any other text the error
+//! has the place of the first word, or states that there is none. Nothing here takes memory.
 
 mod detection;
 mod gaps;

@@ -1,6 +1,6 @@
 //! Tools that draw sequence diagrams from a text.
 //!
-//! [`detection`] tells the tool of a text.
+//! [`detection`] finds the tool of a text.
 #![tactic(auto)]
 
 /// A tool that draws sequence diagrams from a text.

@@ -1,4 +1,4 @@
--- A diagram's chart, of its parts.
+-- A diagram's chart, made from its parts.
 use Rattle.std.proofs.Common.{◌≡◌, ℕ, ◌+◌, ◌≤◌, List, [], ◌∷◌, ◌++◌, Result, Ok, Bool, true, false, ◌||◌, length, map, refl, sym, ap, ◌∙◌, arith}
 use Rattle.std.specs.Prelude.{nat_lt}
 use Rattle.std.proofs.lemmas.Bool.{ltb-false}
@@ -22,7 +22,7 @@ use Rattle.diagrams.specs.declared.left_out.LeftOut.{LeftOut}
 use Rattle.diagrams.specs.declared.message.Message.{Message}
 use Rattle.diagrams.proofs.MessagesLemmas.LinesLemmas.{length-lines}
 
--- a step that failed decides
+-- the first step that fails decides
 fails_first : {A B : Type 0} (error : DrawError) (r : Result A DrawError) (f : A → Result B DrawError) → Fails error r → Fails error (r >>= f)
 fails_first Memory r f h = tt
 fails_first Instances r f h = ap (λ s. s >>= f) h
@@ -34,7 +34,7 @@ pub labels_seen : (participants : List Participant) → map (λ (p : Participant
 labels_seen [] = refl
 labels_seen (p ∷ participants) = ap (λ labels. p.label.items ∷ labels) (labels_seen participants)
 
--- a chart and what is told, of their parts
+-- a chart and the names to report, from their parts
 pub built_parts : (participants : List Participant) (items : List ItemView) (names : List (List ℕ)) (messages : List Message) (left_out : List LeftOut)
     (lines : List LineView) (renames : List (List ℕ × List ℕ))
     → lines ≡ lines_from (all_ends (named_from none items messages)) 1 (length names)
@@ -50,7 +50,7 @@ unfolding chart_built
 as_many_names v participants items names stay is =
     ap (λ (w : DiagramChartView). length w.names) is ∙ sym (length-lines (all_ends (named_from none items stay.0)) 1 (length names)) ∙ sym (ap (λ (w : DiagramChartView). length w.lines) is)
 
--- a chart has so many participants
+-- the number of participants of a chart
 pub has_chart : (n : ℕ) → has_no_chart n ≡ false → (2 ≤ n) × (n ≤ MAX_INSTANCES)
 has_chart n has = go (nat_lt n 2) (nat_lt MAX_INSTANCES n) refl refl has
   where

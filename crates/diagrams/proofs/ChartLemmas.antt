@@ -1,4 +1,4 @@
--- The messages of a diagram that stay are messages of which a chart can be drawn.
+-- The messages of a diagram that stay have a chart.
 use Rattle.std.proofs.Common.{◌≡◌, ℕ, List, [], Option, None, Some, Result, Ok, Err, length, refl, sym, ap, subst}
 use Rattle.diagram_labels.specs.Labels.{none}
 use Rattle.diagrams.specs.Collecting.{CollectedView, nothing, collected}
@@ -16,7 +16,7 @@ use Rattle.diagrams.specs.declared.message.Message.{Message}
 use Rattle.diagrams.proofs.PlacedLemmas.{AreCollected, items_collected, items_fault}
 use Rattle.diagrams.proofs.StayingLemmas.{none_overtakes, stay_built}
 
--- of these messages those stay that aren't left out, since nothing refuses them
+-- the messages that stay are those that aren't skipped, and nothing refuses them
 record StaySo (fault : Option ℕ) (messages stay : List Message) : Type 0 where
   pub sound : fault_from fault [] messages ≡ None
   pub few : full_from [] (kept messages) ≡ None
@@ -36,7 +36,7 @@ stay_so fault messages left_out stay is = go (fault_from fault [] messages) refl
     go None e (Some line) d is = absurd (cc is)
     go None e None d is = record { sound = e; few = d; stay_is = sym (ap messages_or is) }
 
--- the messages of a diagram's items, where there is no fault
+-- the messages of a diagram's items, if there is no fault
 pub items_sound : (names : List (List ℕ)) (items : List ItemView) (left_out : List LeftOut) → (collected names items left_out).fault ≡ None
     → (row : ℕ) × AreCollected (length names) row (collected names items left_out).messages
 unfolding collected

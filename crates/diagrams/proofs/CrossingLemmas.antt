@@ -1,4 +1,5 @@
--- How far down messages of each lane are received, with one more; and what crosses by that.
+-- The row furthest down in which a message of each lane is received: with one more message, and as a test of what
+-- crosses.
 use Rattle.std.proofs.Common.{◌≡◌, ℕ, ◌+◌, ◌<◌, ◌≤◌, ◌==◌, max, Bool, true, false, not, ◌&&◌, ◌||◌, cond, List, [], ◌∷◌, ◌++◌, Option, None, Some, length, drop, take, get_or, refl, sym, ap, ap₂, ◌∙◌, subst, arith, eqb-true}
 use Rattle.std.specs.Prelude.{nat_lt}
 use Rattle.std.specs.List.{list_any}
@@ -16,12 +17,12 @@ use Rattle.diagrams.proofs.LaneTables.{numbers-same}
 lost_never : (m : Message) (q p : ℕ) → m.is_lost ≡ true → is_received q p m ≡ false
 lost_never m q p lost = and_right (is_on q p m) (not m.is_lost) (ap not lost)
 
--- and changes no lane's row
+-- a lost message changes no lane's row
 pub lost_same : (m : Message) (earlier : List Message) → m.is_lost ≡ true → (q p : ℕ) → furthest earlier q p ≡ furthest (m ∷ earlier) q p
 unfolding furthest
 lost_same m earlier lost q p = rw (lost_never m q p lost) refl
 
--- the row of its own lane is another, those of the others stay
+-- the row of its own lane changes, and those of the others stay
 at_lane : (its : Bool) (f : Numbers) (a b q p n : ℕ) → (a == q && b == p) ≡ its → cond its (max n (f a b)) (f q p) ≡ cond (its && true) (max n (f q p)) (f q p)
 at_lane true f a b q p n same =
     let ends = and_parts (a == q) (b == p) same in
@@ -33,11 +34,11 @@ pub received_next : (m : Message) (earlier : List Message) → m.is_lost ≡ fal
 unfolding furthest
 received_next m earlier stays q p = rw stays (at_lane (m.sender == q && m.receiver == p) (furthest earlier) m.sender m.receiver q p m.ends refl)
 
--- a row that is below another one's is below the lower of two
+-- a row is above the lower of two rows if it is above either of them
 below_either : (e a b : ℕ) → nat_lt e (max a b) ≡ (nat_lt e a || nat_lt e b)
 below_either e a b = grind arith
 
--- by the row furthest down
+-- crossing, decided by the row furthest down
 over_at : (its : Bool) (e ends row : ℕ) (rest : Bool) → rest ≡ nat_lt e row → ((its && nat_lt e ends) || rest) ≡ nat_lt e (cond its (max ends row) row)
 over_at true e ends row rest same = ap (λ b. nat_lt e ends || b) same ∙ sym (below_either e ends row)
 over_at false e ends row rest same = same
@@ -56,7 +57,7 @@ crosses_none [] m lost = refl
 crosses_none (n ∷ earlier) m lost =
     ap (λ b. (not b && (is_received m.sender m.receiver n && nat_lt m.ends n.ends)) || list_any (λ x. overtakes m x) earlier) lost ∙ crosses_none earlier m lost
 
--- one that crosses none leaves the fault
+-- a message that crosses none leaves the fault as it is
 pub fault_stays : (fault : Option ℕ) (m : Message) (earlier : List Message) → crosses earlier m ≡ false → fault_with fault m earlier ≡ fault
 unfolding crosses fault_with
 fault_stays fault m [] none = refl
@@ -64,7 +65,7 @@ fault_stays fault m (n ∷ earlier) none =
     let parts = or_parts (overtakes m n) (list_any (λ x. overtakes m x) earlier) none in
     rw parts.0 (fault_stays fault m earlier parts.1)
 
--- and so does one that comes below it
+-- so does a message whose line isn't above the fault
 beside_known : (fault : Option ℕ) (m n : Message) → is_known fault m.whole ≡ true → fault_beside fault m n ≡ fault
 beside_known None m n known = absurd (cc known)
 beside_known (Some k) m n known = go (overtakes m n)
@@ -78,7 +79,7 @@ unfolding fault_with
 fault_known fault m [] known = refl
 fault_known fault m (n ∷ earlier) known = ap (λ f. fault_with f m earlier) (beside_known fault m n known) ∙ fault_known fault m earlier known
 
--- one earlier message more
+-- one more earlier message
 pub beside_more : (fault more : Option ℕ) (m : Message) (n : ℕ) (earlier : List Message) (other : Message) → n < length earlier → other ≡ get_or earlier n other
     → more ≡ fault_beside fault m other → fault_with more m (drop (n + 1) earlier) ≡ fault_with fault m (drop n earlier)
 unfolding fault_with
@@ -88,7 +89,7 @@ pub beside_end : (fault : Option ℕ) (m : Message) (n : ℕ) (earlier : List Me
 unfolding fault_with
 beside_end fault m n earlier past = rw (drop_all n earlier past) refl
 
--- a row furthest down is the same whichever message comes last
+-- the row furthest down is the same, wherever a message is in the list
 furthest_push : (earlier : List Message) (m : Message) (q p : ℕ) → furthest (earlier ++ m ∷ []) q p ≡ furthest (m ∷ earlier) q p
 unfolding furthest
 furthest_push [] m q p = refl
@@ -108,7 +109,7 @@ furthest_push (n ∷ earlier) m q p = go (is_received q p n) (is_received q p m)
 pub furthest_next : (table : List ℕ) (m : Message) (earlier : List Message) → AreFurthest table (m ∷ earlier) → AreFurthest table (earlier ++ m ∷ [])
 furthest_next table m earlier are = numbers-same table _ _ (λ q p. sym (furthest_push earlier m q p)) are
 
--- one message more
+-- one more message
 pub fault_more : (fault more : Option ℕ) (n : ℕ) (messages : List Message) (m : Message) → n < length messages → m ≡ get_or messages n m
     → more ≡ fault_with fault m (take n messages)
     → fault_from more (take (n + 1) messages) (drop (n + 1) messages) ≡ fault_from fault (take n messages) (drop n messages)
@@ -125,7 +126,7 @@ pub fault_end : (fault : Option ℕ) (n : ℕ) (messages : List Message) → len
 unfolding fault_from
 fault_end fault n messages past = rw (drop_all n messages past) refl
 
--- of no messages none is received
+-- without messages none is received
 pub none_furthest : (table : List ℕ) → AreNumbers table (λ q p. 0) → AreFurthest table []
 unfolding furthest
 none_furthest table zeros = zeros

@@ -1,4 +1,4 @@
--- How many events instances have, with one message more.
+-- The number of events of each instance, with one more message.
 use Rattle.std.proofs.Common.{◌≡◌, ℕ, ◌+◌, ◌<◌, ◌≤◌, Bool, true, false, ◌||◌, List, [], ◌∷◌, None, Some, length, drop, get_or, refl, sym, ap, ◌∙◌}
 use Rattle.std.specs.Prelude.{nat_lt}
 use Rattle.std.proofs.lemmas.Bool.{lt-ltb, le-ltb}
@@ -9,12 +9,12 @@ use Rattle.diagrams.specs.Loads.{AreCounts, AreLoads, raised}
 use Rattle.diagrams.specs.declared.message.Message.{Message}
 use Rattle.diagrams.proofs.MessagesLemmas.ListLemmas.{from_here}
 
--- of no messages there are none
+-- without messages there are no events
 pub none_loaded : (table : List ℕ) → AreCounts table (λ p. 0) → AreLoads table []
 unfolding load
 none_loaded table zeros = zeros
 
--- one message more
+-- one more message
 pub loads_next : (table : List ℕ) (m : Message) (earlier : List Message) (n : ℕ) → n ≡ receives m
     → AreCounts table (raised (raised (load earlier) m.sender 1) m.receiver n) → AreLoads table (m ∷ earlier)
 unfolding load

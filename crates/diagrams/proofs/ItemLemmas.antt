@@ -6,7 +6,7 @@ use Rattle.diagrams.specs.declared.diagram.Item.{Item}
 use Rattle.diagrams.specs.Collecting.{CollectedView, with_item, with_items}
 use Rattle.diagrams.specs.Diagrams.{item_view}
 
--- one item more
+-- one more item
 pub item_more : (names : List (List ℕ)) (n : ℕ) (items : List Item) (c more : CollectedView) (x : Item) → n < length items → x ≡ get_or items n x
     → more ≡ with_item names n (item_view x) c
     → with_items names (n + 1) (map item_view (drop (n + 1) items)) more ≡ with_items names n (map item_view (drop n items)) c

@@ -1,4 +1,4 @@
--- Tables with a number for each lane, when one is changed.
+-- Tables with a number for each lane, if one number changes.
 use Rattle.std.proofs.Common.{◌≡◌, ℕ, ◌*◌, ◌<◌, inl, inr, ◌==◌, ◌&&◌, Bool, true, false, cond, List, length, set, replicate, refl, sym, ap, ◌∙◌, subst, arith, eqb-true, eq-eqb}
 use Rattle.std.specs.Prelude.{slice_index}
 use Rattle.std.proofs.lemmas.Bool.{cases_eq, and_parts}
@@ -6,24 +6,24 @@ use Rattle.std.proofs.lemmas.List.{get_or-set_same, get_or-set_other, get_or-rep
 use Rattle.chart.specs.declared.instance.TheConstants.{MAX_INSTANCES}
 use Rattle.diagrams.specs.Lanes.{slot_of, IsInstance, Numbers, AreNumbers, changed}
 
--- a lane's place is within
+-- a lane's place is within the table
 pub slot-within : (q p : ℕ) → IsInstance q → IsInstance p → slot_of q p < MAX_INSTANCES * MAX_INSTANCES
 slot-within q p is_q is_p = omega (arith, is_q.0, is_q.1, is_p.0, is_p.1)
 
--- two lanes with one place are one
+-- two lanes with the same place are the same
 slot-same : (q p a b : ℕ) → IsInstance q → IsInstance p → IsInstance a → IsInstance b → slot_of q p ≡ slot_of a b → (q ≡ a) × (p ≡ b)
 slot-same q p a b is_q is_p is_a is_b same =
     (omega (arith, is_q.0, is_q.1, is_p.0, is_p.1, is_a.0, is_a.1, is_b.0, is_b.1, same), omega (arith, is_q.0, is_q.1, is_p.0, is_p.1, is_a.0, is_a.1, is_b.0, is_b.1, same))
 
--- the same numbers
+-- equal numbers have the same table
 pub numbers-same : (table : List ℕ) (f g : Numbers) → ((q p : ℕ) → f q p ≡ g q p) → AreNumbers table f → AreNumbers table g
 numbers-same table f g same are q p is_q is_p = are q p is_q is_p ∙ same q p
 
--- zeros
+-- a table of zeros
 pub numbers-zeros : AreNumbers (replicate (MAX_INSTANCES * MAX_INSTANCES) 0) (λ q p. 0)
 numbers-zeros q p is_q is_p = get_or-replicate (MAX_INSTANCES * MAX_INSTANCES) (slot_of q p) 0 0 (slot-within q p is_q is_p)
 
--- one number changed
+-- one changed number
 pub numbers-changed : (table : List ℕ) (f : Numbers) (a b n : ℕ) → length table ≡ MAX_INSTANCES * MAX_INSTANCES → IsInstance a → IsInstance b → AreNumbers table f → AreNumbers (set table (slot_of a b) n) (changed f a b n)
 numbers-changed table f a b n whole is_a is_b are q p is_q is_p = elim (cases_eq (slot_of a b) (slot_of q p)) [
   | inl same ↦

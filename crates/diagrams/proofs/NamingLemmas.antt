@@ -13,7 +13,7 @@ use Rattle.diagrams.specs.declared.message.Message.{Message}
 use Rattle.diagrams.specs.declared.messages.message.Named.{Named}
 use Rattle.diagrams.proofs.MessagesLemmas.ListLemmas.{from_here}
 
--- a name that a new label is called is none of those that were given
+-- the name for a new label is none of the given names
 pub not_among : (names : List (List ℕ)) (word name : List ℕ) → IsCalled names word name → Contains names name → ⊥
 not_among names word name called among =
     not_there names name (fresh (is_given names word) refl called) among
@@ -22,7 +22,7 @@ not_among names word name called among =
     fresh true e h = ap (is_given names) h.1 ∙ h.2.free
     fresh false e h = ap (is_given names) h ∙ e
 
--- one participant more
+-- one more participant
 pub name_more : (names more : List (List ℕ)) (n : ℕ) (participants : List Participant) (p : Participant) → n < length participants → p ≡ get_or participants n p
     → more ≡ names ++ called names (spelled p.label.items) ∷ []
     → names_from more (map participant_view (drop (n + 1) participants)) ≡ names_from names (map participant_view (drop n participants))
@@ -33,7 +33,7 @@ pub names_end : (names : List (List ℕ)) (n : ℕ) (participants : List Partici
 unfolding names_from
 names_end names n participants past = rw (drop_all n participants past) refl
 
--- one message more
+-- one more message
 pub labels_more : (labels more : Labelling) (items : List ItemView) (n : ℕ) (messages : List Message) (m : Message) → n < length messages → m ≡ get_or messages n m
     → more ≡ with_label labels (label_at items m.item)
     → labels_from more items (drop (n + 1) messages) ≡ labels_from labels items (drop n messages)

@@ -1,4 +1,4 @@
--- What the messages keep that a diagram's items come to, where each item may stand where it does.
+-- Properties of the messages of a diagram's items, if no item is misplaced.
 use Rattle.std.proofs.Common.{◌≡◌, ◌≢◌, ℕ, zero, suc, ◌+◌, ◌<◌, ◌≤◌, ◌==◌, ◌&&◌, not, Bool, true, false, cond, List, [], ◌∷◌, ◌++◌, Option, None, Some, Result, Ok, Err, length, refl, sym, ap, ◌∙◌, arith}
 use Rattle.std.specs.Prelude.{nat_lt, slice_get, slice_set, position, bytes_eq, option_map}
 use Rattle.std.proofs.lemmas.Bool.{and_parts, ltb-true, ltb-false, eqb-false}
@@ -17,7 +17,7 @@ use Rattle.diagrams.specs.declared.note_event.NoteEvent.{NoteEvent}
 use Rattle.diagrams.specs.Messages.Each.{Each, Pairs}
 use Rattle.diagrams.proofs.MessagesLemmas.EachLemmas.{each_weaker, each_append, pairs_push, each_get, each_set}
 
--- a message between two of n instances, sent in no row below this one, and not received above its send
+-- a message between two of n instances, sent in this row or above, and not received above its send
 pub record IsCollected (n row : ℕ) (m : Message) : Type 0 where
   pub two : AreTwo n m.sender m.receiver
   pub down : m.is_lost ≡ false → m.begins ≤ m.ends
@@ -28,21 +28,21 @@ pub record AreCollected (n row : ℕ) (messages : List Message) : Type 0 where
   pub each : Each (IsCollected n row) messages
   pub order : Pairs (λ m k. m.begins ≤ k.begins) messages
 
--- further down
+-- the same for a row further down
 lower : (n row next : ℕ) (messages : List Message) → row ≤ next → AreCollected n row messages → AreCollected n next messages
 lower n row next messages le are = record {
   each = each_weaker (IsCollected n row) (IsCollected n next) (λ m is. record { two = is.two; down = is.down; above = omega (arith, is.above) }) messages are.each;
   order = are.order;
 }
 
--- one message more
+-- one more message
 pushed : (n row : ℕ) (messages : List Message) (m : Message) → m.begins ≡ row → IsCollected n row m → AreCollected n row messages → AreCollected n row (messages ++ m ∷ [])
 pushed n row messages m e is are = record {
   each = each_append (IsCollected n row) messages (m ∷ []) are.each (is, tt);
   order = pairs_push (λ m k. m.begins ≤ k.begins) messages m are.order (each_weaker (IsCollected n row) (λ k. k.begins ≤ m.begins) (λ k at. omega (arith, at.above, e)) messages are.each);
 }
 
--- the order of the sends is the same with another message that is sent in the same row
+-- the order of the sends stays if another message of the same row takes a message's place
 same_order : (messages : List Message) (i : ℕ) (x y : Message) → slice_get messages i ≡ Some x → y.begins ≡ x.begins → Pairs (λ m k. m.begins ≤ k.begins) messages → Pairs (λ m k. m.begins ≤ k.begins) (slice_set messages i y)
 same_order [] i x y at_i e all = tt
 same_order (m ∷ messages) zero x y at_i e all =
@@ -56,7 +56,7 @@ same_order (m ∷ messages) (suc i) x y at_i e all =
     let below : m.begins ≤ x.begins = each_get (λ k. m.begins ≤ k.begins) messages i x at_i all.0 in
     (each_set (λ k. m.begins ≤ k.begins) messages i y all.0 (omega (arith, below, e)), same_order messages i x y at_i e all.1)
 
--- a message that is received
+-- a message that a note receives
 taken : (n : ℕ) (note : NoteView) (messages : List Message) (i : ℕ) (o : Option Message) → slice_get messages i ≡ o → AreCollected n note.row messages → AreCollected n note.row (received_at note messages i o)
 taken n note messages i None at_i are = are
 taken n note messages i (Some m) at_i are =

@@ -1,4 +1,4 @@
--- Items one after the other, up to the first that may not stand where it does.
+-- Items one after the other, up to the first misplaced one.
 use Rattle.std.proofs.Common.{◌≡◌, ℕ, ◌+◌, ◌<◌, ◌≤◌, true, false, List, None, Some, length, map, drop, get_or, refl}
 use Rattle.std.proofs.lemmas.List.{drop_all}
 use Rattle.diagrams.specs.Diagrams.{item_view}
@@ -6,7 +6,7 @@ use Rattle.diagrams.specs.Placing.{row_of, place_of, may_stand, first_misplaced}
 use Rattle.diagrams.specs.declared.diagram.Item.{Item}
 use Rattle.diagrams.proofs.MessagesLemmas.ListLemmas.{from_here}
 
--- an item that may stand there, and one that may not
+-- an item that may follow, and a misplaced one
 pub placed_more : (count row next n : ℕ) (items : List Item) (i : Item) → n < length items → i ≡ get_or items n i → may_stand count row (item_view i) ≡ true → next ≡ row_of (item_view i)
     → first_misplaced count next (map item_view (drop (n + 1) items)) ≡ first_misplaced count row (map item_view (drop n items))
 unfolding first_misplaced

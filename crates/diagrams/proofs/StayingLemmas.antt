@@ -1,5 +1,5 @@
--- What the messages of a chart keep: none of those that stay overtakes another one of its lane, behind a lost one none of
--- its lane is received, and no instance has too many events. So the chart is possible.
+-- Properties of the messages of a chart. None of those that stay overtakes another one of its lane, and after a lost
+-- one none of its lane is received. No instance has too many events. So the chart is possible.
 use Rattle.std.proofs.Common.{◌≡◌, ℕ, ◌+◌, ◌≤◌, ◌==◌, ◌&&◌, Bool, true, false, cond, List, [], ◌∷◌, ◌++◌, Option, None, Some, length, refl, sym, ◌∙◌, subst, arith}
 use Rattle.std.specs.Prelude.{nat_lt, max}
 use Rattle.std.specs.List.{list_any}
@@ -42,7 +42,7 @@ with_none fault m (n ∷ earlier) none =
     let first = beside_none fault m n rest.0 in
     (first.0, (first.1, rest.1))
 
--- of these, each that comes after the earlier ones, and each that comes after another one
+-- none of these messages overtakes an earlier one, or one of these before it
 pub record NoneOvertakes (fault : Option ℕ) (earlier messages : List Message) : Type 0 where
   pub fault_is : fault ≡ None
   pub before : Each (λ m. Each (λ n. overtakes m n ≡ false) earlier) messages
@@ -60,7 +60,7 @@ none_overtakes fault earlier (m ∷ messages) none =
       within = (each_weaker (λ k. Each (λ n. overtakes k n ≡ false) (earlier ++ m ∷ [])) (λ k. overtakes k m ≡ false) (λ k all. (each_back (λ n. overtakes k n ≡ false) earlier (m ∷ []) all).0) messages rest.before, rest.within);
     }
 
--- Those that stay.
+-- Messages that stay.
 
 module _ (P : Message → Type 0) where
   kept_each : (messages : List Message) → Each P messages → Each P (kept messages)
@@ -82,7 +82,7 @@ module _ (R : Message → Message → Type 0) where
       go true rest = rest
       go false rest = (kept_each (R m) messages all.0, rest)
 
--- behind a lost one that stays none of its lane is received
+-- after a lost message that stays, none of its lane is received
 none_later : (q p : ℕ) (later : List Message) → is_received_later later q p ≡ false → Each (λ n. is_received q p n ≡ false) later
 unfolding is_received_later
 none_later q p [] none = tt
@@ -138,7 +138,7 @@ load_whole earlier (m ∷ messages) p none few = go (is_full (m ∷ earlier) m) 
     go true e f next = absurd (cc f)
     go false e f next = omega (arith, next e f)
 
--- With names.
+-- Messages with names.
 
 module _ (P : Message → Type 0) (Q : Named → Type 0) (named : (m : Message) (name : List ℕ) → P m → Q (named_as m name)) where
   named_each : (labels : Labelling) (items : List ItemView) (messages : List Message) → Each P messages → Each Q (named_from labels items messages)
@@ -196,7 +196,7 @@ follows m n one other stay = record { order = stay.order; taken = λ from to min
     is_gone true e from to gone = refl
     is_gone false e from to gone = absurd (cc (rw (e, eq-eqb n.sender m.sender (sym from), eq-eqb n.receiver m.receiver (sym to)) at (stay.lost gone)))
 
--- The chart of messages that were collected.
+-- The chart of the collected messages.
 
 pub stay_built : (n row : ℕ) (labels : Labelling) (items : List ItemView) (messages : List Message) → AreCollected n row messages → fault_from None [] messages ≡ None → full_from [] (kept messages) ≡ None
     → AreBuildable n (named_from labels items (kept messages))

@@ -1,5 +1,5 @@
--- The messages of a diagram: its arrows, and its notes that say a send or a receive, item by item from the top. A
--- message that a note sends is received where a note says so: the first one of its lane and name that waits.
+-- The messages of a diagram, item by item from the top: those of its arrows, and of its notes that state a send or a
+-- receive. The receive of a note takes the first message of its lane and name that waits.
 use Rattle.std.specs.Prelude.{ℕ, suc, ◌+◌, Bool, true, false, ◌==◌, ◌&&◌, nat_lt, List, [], ◌∷◌, ◌++◌, length, Option, None, Some, position, slice_get, slice_set, remove, bytes_eq, if◌then◌else◌}
 use Rattle.diagrams.specs.Diagrams.{ArrowView, NoteView, ItemView, AnArrow, ANote}
 use Rattle.diagrams.specs.LeftOuts.{with_one}
@@ -11,14 +11,15 @@ use Rattle.diagrams.specs.declared.message.Message.{Message}
 use Rattle.diagrams.specs.declared.message.Waiting.{Waiting}
 use Rattle.diagrams.specs.declared.note_event.NoteEvent.{NoteEvent}
 
--- the messages so far, and those of notes that wait; what was left out; the first line with which no chart is possible
+-- the messages so far, and those of notes that wait; the skipped constructs; the first line with which no chart is
+-- possible
 pub record CollectedView : Type 0 where
   pub messages : List Message
   pub waiting : List Waiting
   pub left_out : List LeftOut
   pub fault : Option ℕ
 
--- the first of two lines, if there is one so far
+-- the upper one of two lines: the one so far, if there is one, and this one
 abbrev pub first_line : Option ℕ → ℕ → Option ℕ
 first_line None line = Some line
 first_line (Some k) line = if nat_lt line k then Some line else Some k
@@ -60,11 +61,11 @@ with_send item n e c = record c {
   waiting = c.waiting ++ record { sender = suc n.participant; receiver = e.partner; name = e.name; message = length c.messages } ∷ [];
 }
 
--- it waits for such a receive
+-- the message waits for this receive
 abbrev pub waits : ℕ → NoteEvent → Waiting → Bool
 waits receiver e w = w.sender == e.partner && (w.receiver == receiver && bytes_eq w.name e.name)
 
--- the message is received where the note stands
+-- the message is received at the note
 abbrev pub received_by : NoteView → Message → Message
 received_by n m = record m { ends = n.row; is_lost = false; whole = n.place.line }
 
@@ -79,7 +80,7 @@ with_received n at (Some w) c = record c {
   waiting = remove c.waiting at;
 }
 
--- the receive takes the message that waits at this place among those that wait; without one no chart is possible
+-- the receive takes the message at this place among those that wait; without one no chart is possible
 abbrev pub with_receive_at : NoteView → Option ℕ → CollectedView → CollectedView
 with_receive_at n None c = record c { fault = first_line c.fault n.place.line }
 with_receive_at n (Some at) c = with_received n at (slice_get c.waiting at) c
@@ -87,7 +88,7 @@ with_receive_at n (Some at) c = with_received n at (slice_get c.waiting at) c
 abbrev pub with_receive : NoteView → NoteEvent → CollectedView → CollectedView
 with_receive n e c = with_receive_at n (position (waits (suc n.participant) e) c.waiting) c
 
--- a note that says an event or none
+-- a note that states an event, or none
 abbrev pub with_event : ℕ → NoteView → Option NoteEvent → CollectedView → CollectedView
 with_event item n None c = record c { left_out = with_one c.left_out kinds.Note n.place }
 with_event item n (Some e) c = if e.sends then with_send item n e c else with_receive n e c
@@ -99,15 +100,15 @@ unfoldable pub with_item : List (List ℕ) → ℕ → ItemView → CollectedVie
 with_item names item (AnArrow a) c = with_arrow item a c
 with_item names item (ANote n) c = with_note names item n c
 
--- with all these, the first of which has this number
+-- with all these items, the first of which has this number
 unfoldable pub with_items : List (List ℕ) → ℕ → List ItemView → CollectedView → CollectedView
 with_items names item [] c = c
 with_items names item (i ∷ items) c = with_items names (item + 1) items (with_item names item i c)
 
--- nothing so far but what was left out before, and the line of the first item that may not stand where it does
+-- before the first item: the constructs skipped earlier, and the line of the first misplaced item
 abbrev pub nothing : Option ℕ → List LeftOut → CollectedView
 nothing misplaced left_out = record { messages = []; waiting = []; left_out = left_out; fault = misplaced }
 
--- what a diagram's items come to, where its participants have these names
+-- the messages of a diagram's items; these names are those of its participants
 unfoldable pub collected : List (List ℕ) → List ItemView → List LeftOut → CollectedView
 collected names items left_out = with_items names 0 items (nothing (first_misplaced (length names) 0 items) left_out)

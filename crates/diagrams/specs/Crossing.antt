@@ -1,5 +1,5 @@
--- Messages that cross: lanes are first in, first out (Alur, Holzmann and Peled 1996), so no message may be received above
--- one of its lane that was sent before it.
+-- Messages that cross. Lanes are first in, first out (Alur, Holzmann and Peled 1996). So no message may be received
+-- above one of its lane that was sent before it.
 use Rattle.std.specs.Prelude.{ℕ, Bool, false, not, ◌&&◌, max, List, [], ◌∷◌, ◌++◌, Option, None, Some, nat_lt, nat_le, if◌then◌else◌}
 use Rattle.std.specs.List.{list_any}
 use Rattle.diagrams.specs.Collecting.{first_line}
@@ -10,24 +10,24 @@ use Rattle.diagrams.specs.declared.message.Message.{Message}
 abbrev pub is_received : ℕ → ℕ → Message → Bool
 is_received q p m = is_on q p m && not m.is_lost
 
--- m is received above n of its lane
+-- m is received above n, on the same lane
 abbrev pub overtakes : Message → Message → Bool
 overtakes m n = not m.is_lost && (is_received m.sender m.receiver n && nat_lt m.ends n.ends)
 
--- it is received above one of the earlier ones of its lane
+-- m is received above one of the earlier messages of its lane
 unfoldable pub crosses : List Message → Message → Bool
 crosses earlier m = list_any (λ n. overtakes m n) earlier
 
--- a fault so far, and one more where m overtakes n: with the line with which both are there
+-- the first fault, with these two messages: if m overtakes n, no chart is possible with the later of their lines
 abbrev pub fault_beside : Option ℕ → Message → Message → Option ℕ
 fault_beside fault m n = if overtakes m n then first_line fault (max m.whole n.whole) else fault
 
--- the first line with which no chart is possible, where m comes after the earlier ones
+-- the first line with which no chart is possible, if m comes after the earlier messages
 unfoldable pub fault_with : Option ℕ → Message → List Message → Option ℕ
 fault_with fault m [] = fault
 fault_with fault m (n ∷ earlier) = fault_with (fault_beside fault m n) m earlier
 
--- the same where all these come after the earlier ones
+-- the same for several messages after the earlier ones
 unfoldable pub fault_from : Option ℕ → List Message → List Message → Option ℕ
 fault_from fault earlier [] = fault
 fault_from fault earlier (m ∷ messages) = fault_from (fault_with fault m earlier) (earlier ++ m ∷ []) messages

@@ -1,4 +1,4 @@
--- What a sequence diagram says, whatever tool it was drawn for (mscgen 0.20, PlantUML, Mermaid).
+-- A sequence diagram, independent of the tool that it was drawn for (mscgen 0.20, PlantUML, Mermaid).
 use Rattle.std.specs.Prelude.{ℕ, Bool, List, map}
 use Rattle.diagrams.specs.declared.diagram.Arrow.{Arrow}
 use Rattle.diagrams.specs.declared.diagram.Note.{Note}
@@ -9,7 +9,7 @@ use Rattle.diagrams.specs.declared.diagram.Diagram.{Diagram}
 use Rattle.diagrams.specs.declared.left_out.LeftOut.{LeftOut}
 use Rattle.diagrams.specs.declared.place.Place.{Place}
 
--- a participant: its label, and the line that names it first
+-- a participant: its label, and the line that first names it
 pub record ParticipantView : Type 0 where
   pub label : List ℕ
   pub line : ℕ
@@ -17,7 +17,7 @@ pub record ParticipantView : Type 0 where
 abbrev pub participant_view : Participant → ParticipantView
 participant_view p = record { label = p.label.items; line = p.line }
 
--- an arrow: where it stands, its rows, its participants by their places, its label, and whether nobody receives it
+-- an arrow: its place in the text, its rows, the places of its participants, its label, and whether nobody receives it
 pub record ArrowView : Type 0 where
   pub place : Place
   pub begins : ℕ
@@ -48,7 +48,7 @@ pub record NoteView : Type 0 where
 abbrev pub note_view : Note → NoteView
 note_view n = record { place = n.place; row = n.row; participant = n.participant; text = n.text.items }
 
--- what may be an event, or two
+-- an item of a diagram, which may be one event or two
 pub data ItemView : Type 0 where
   AnArrow : ArrowView → ItemView
   ANote : NoteView → ItemView
@@ -57,7 +57,7 @@ abbrev pub item_view : Item → ItemView
 item_view (items.Arrow a) = AnArrow (arrow_view a)
 item_view (items.Note n) = ANote (note_view n)
 
--- a diagram: its participants and its items in the order of the text, and what was left out of it
+-- a diagram: its participants and items in the order of the text, and its skipped constructs
 pub record DiagramView : Type 0 where
   pub participants : List ParticipantView
   pub items : List ItemView

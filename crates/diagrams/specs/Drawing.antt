@@ -1,4 +1,4 @@
--- The chart that a diagram comes to, and what is told of it.
+-- The chart of a diagram, and the names to report.
 use Rattle.std.specs.Prelude.{◌≡◌, ℕ, Bool, ◌||◌, nat_lt, List, [], length, map, Option, None, Some, Result, Ok, Err, if◌then◌else◌}
 use Rattle.chart.specs.Charts.{LineView}
 use Rattle.chart.specs.declared.instance.TheConstants.{MAX_INSTANCES}
@@ -19,7 +19,7 @@ use Rattle.diagrams.specs.declared.left_out.LeftOut.{LeftOut}
 use Rattle.diagrams.specs.declared.message.Message.{Message}
 
 infixl 10 ◌>>=◌
--- what comes next, unless the diagram was refused
+-- the next step, unless the diagram was refused
 abbrev pub ◌>>=◌ : {A B E : Type 0} → Result A E → (A → Result B E) → Result B E
 (Ok x) >>= f = f x
 (Err e) >>= f = Err e
@@ -31,33 +31,33 @@ Fails Instances read = read ≡ Err Instances
 Fails (LineFull line) read = read ≡ Err (LineFull line)
 Fails (NotPossible line) read = read ≡ Err (NotPossible line)
 
--- what was returned, seen by view, is what the diagram comes to, unless memory ran out
+-- the result, seen through view, is the defined one, unless memory ran out
 abbrev pub Gives : {X Y : Type 0} → (X → Y) → Result X DrawError → Result Y DrawError → Type 0
 Gives view (Ok x) read = read ≡ Ok (view x)
 Gives view (Err e) read = Fails e read
 
--- the participants' names are told first, and then the messages'
+-- the names to report: those of participants first, and then those of messages
 abbrev pub renamed : List ParticipantView → List (List ℕ) → Labelling → List (List ℕ × List ℕ)
 renamed participants names labels =
     renamed_from (renamed_from [] (map (λ p. p.label) participants) names) labels.labels labels.names
 
--- no message makes the chart impossible
+-- x, unless no chart is possible with some line
 abbrev pub possible : {A : Type 0} → Option ℕ → A → Result A DrawError
 possible None x = Ok x
 possible (Some line) x = Err (NotPossible line)
 
--- no line has too many events
+-- x, unless an instance has too many events
 abbrev pub within : {A : Type 0} → Option ℕ → A → Result A DrawError
 within None x = Ok x
 within (Some line) x = Err (LineFull line)
 
--- the messages that stay, of those that were collected, and what is left out
+-- the collected messages that stay, and the skipped constructs
 unfoldable pub staying : Option ℕ → List Message → List LeftOut → Result (List Message × List LeftOut) DrawError
 staying fault messages left_out = do
   all ← possible (fault_from fault [] messages) messages
   within (full_from [] (kept messages)) (kept messages, with_lost left_out messages)
 
--- names and lines of a chart, what is left out, and what is told of names
+-- names and lines of a chart, the skipped constructs, and the names to report
 pub record DiagramChartView : Type 0 where
   pub names : List (List ℕ)
   pub lines : List LineView
@@ -67,7 +67,7 @@ pub record DiagramChartView : Type 0 where
 abbrev pub diagram_chart_view : DiagramChart → DiagramChartView
 diagram_chart_view d = record { names = d.names; lines = d.chart; left_out = d.left_out.items; renamed = map renamed_view d.renamed.items }
 
--- of these messages
+-- the chart of the messages that stay
 unfoldable pub chart_built : List ParticipantView → List ItemView → List (List ℕ) → List Message × List LeftOut → DiagramChartView
 chart_built participants items names stay = record {
   names = names;
@@ -76,7 +76,7 @@ chart_built participants items names stay = record {
   renamed = renamed participants names (labels_from none items stay.0);
 }
 
--- where the participants have these names, and the items come to this
+-- the chart of a diagram, from the names of its participants and its collected messages
 unfoldable pub built_by : DiagramView → List (List ℕ) → CollectedView → Result DiagramChartView DrawError
 built_by d names c = do
   stay ← staying c.fault c.messages c.left_out
@@ -85,7 +85,7 @@ built_by d names c = do
 abbrev pub built_named : DiagramView → List (List ℕ) → Result DiagramChartView DrawError
 built_named d names = built_by d names (collected names d.items d.left_out)
 
--- no chart has so few participants, or so many
+-- too few participants for a chart, or too many
 abbrev pub has_no_chart : ℕ → Bool
 has_no_chart n = nat_lt n 2 || nat_lt MAX_INSTANCES n
 

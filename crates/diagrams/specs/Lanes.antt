@@ -1,4 +1,4 @@
--- Tables with a number for each lane, and what they stand for (this project's own).
+-- Tables with a number for each lane, and their meaning (this project's own).
 use Rattle.std.specs.Prelude.{◌≡◌, ℕ, ◌+◌, ◌-◌, ◌*◌, ◌≤◌, ◌==◌, ◌&&◌, Bool, List, slice_index, if◌then◌else◌}
 use Rattle.chart.specs.declared.instance.TheConstants.{MAX_INSTANCES}
 use Rattle.diagrams.specs.declared.message.Message.{Message}
@@ -7,11 +7,11 @@ use Rattle.diagrams.specs.declared.message.Message.{Message}
 abbrev pub is_on : ℕ → ℕ → Message → Bool
 is_on q p m = m.sender == q && m.receiver == p
 
--- where a table has the lane from q to p
+-- the place of the lane from q to p in a table
 abbrev pub slot_of : ℕ → ℕ → ℕ
 slot_of q p = (q - 1) * MAX_INSTANCES + (p - 1)
 
--- one of the instances that there may be
+-- the number of a possible instance
 abbrev pub IsInstance : ℕ → Type 0
 IsInstance p = (1 ≤ p) × (p ≤ MAX_INSTANCES)
 
@@ -23,6 +23,6 @@ Numbers = ℕ → ℕ → ℕ
 abbrev pub AreNumbers : List ℕ → Numbers → Type 0
 AreNumbers table numbers = (q p : ℕ) → IsInstance q → IsInstance p → slice_index table (slot_of q p) ≡ numbers q p
 
--- the numbers with another one for the lane from a to b
+-- the numbers, with n for the lane from a to b
 abbrev pub changed : Numbers → ℕ → ℕ → ℕ → Numbers
 changed numbers a b n q p = if a == q && b == p then n else numbers q p

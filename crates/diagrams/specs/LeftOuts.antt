@@ -1,4 +1,4 @@
--- What is left out of a diagram: of each kind how often, and the first place.
+-- The skipped constructs of a diagram: for each kind their count, and the first place.
 use Rattle.std.specs.Prelude.{ℕ, ◌+◌, Bool, ◌==◌, List, [], ◌∷◌, ◌++◌, Option, None, Some, position, slice_set, slice_index_or}
 use Rattle.diagrams.specs.declared.left_out.Kind.{Kind}
 use Rattle.diagrams.specs.declared.left_out.Kind.TheVariants as kinds
@@ -6,7 +6,7 @@ use Rattle.diagrams.specs.declared.left_out.LeftOut.{LeftOut}
 use Rattle.diagrams.specs.declared.place.Place.{Place}
 use Rattle.diagrams.specs.Places.{earlier}
 
--- the number of a kind, in the order of their words
+-- the number of a kind, in the order of the kinds' words
 abbrev pub number_of : Kind → ℕ
 number_of kinds.ArrowBothWays = 0
 number_of kinds.ArrowAtTheEdge = 1
@@ -30,19 +30,19 @@ number_of kinds.Return = 17
 abbrev pub is_kind : Kind → LeftOut → Bool
 is_kind kind l = number_of kind == number_of l.kind
 
--- the first thing of its kind
+-- the first construct of its kind
 abbrev pub one : Kind → Place → LeftOut
 one kind place = record { kind = kind; count = 1; first = place }
 
--- one more of its kind
+-- one more construct of its kind
 abbrev pub and_one : LeftOut → Place → LeftOut
 and_one l place = record { kind = l.kind; count = l.count + 1; first = earlier l.first place }
 
--- by the place of its kind among those that came, if it came
+-- one more construct, given the place of its kind in the list, if it has one
 abbrev pub with_one_at : List LeftOut → Kind → Place → Option ℕ → List LeftOut
 with_one_at ls kind place None = ls ++ one kind place ∷ []
 with_one_at ls kind place (Some i) = slice_set ls i (and_one (slice_index_or ls i (one kind place)) place)
 
--- one more thing is left out
+-- one more skipped construct
 unfoldable pub with_one : List LeftOut → Kind → Place → List LeftOut
 with_one ls kind place = with_one_at ls kind place (position (is_kind kind) ls)

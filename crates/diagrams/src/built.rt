@@ -32,10 +32,10 @@ pub enum DrawError {
     /// F8: there are fewer than two participants, or more than a chart has instances.
     #[error("there are too few instances, or too many")]
     Instances,
-    /// F7: with the message in this line an instance has more events than a line holds.
+    /// F7: the message in this line of the text gives an instance more events than a chart's line holds.
     #[error("line {0}: an instance has too many events")]
     LineFull(u64),
-    /// F37: with the arrow or note in this line no chart is possible.
+    /// F37: no chart is possible with the arrow or note in this line.
     #[error("line {0}: no chart is possible with this")]
     NotPossible(u64),
 }
@@ -56,18 +56,18 @@ impl<T: Drop> From<AllocFailed<T>> for DrawError {
     }
 }
 
-/// A chart that was drawn for another tool.
+/// The chart of a diagram, with what warnings report about it.
 #[derive(Debug, Drop)]
 pub struct DiagramChart {
     pub names: Names,
     pub chart: Chart,
-    /// What is left out: each kind once.
+    /// The skipped constructs: one entry for each kind.
     pub left_out: Vec<LeftOut>,
-    /// The labels whose names have to be told, participants' first.
+    /// The labels whose names have to be reported, those of participants first.
     pub renamed: Vec<Renamed>,
 }
 
-/// The messages that stay, of those that were collected; what doesn't stay is left out.
+/// The collected messages that stay. The lost ones that don't stay are added to the skipped constructs.
 #[tactic(auto, unfolding(crate::specs::Drawing::staying))]
 fn staying(
     alloc: Global,
@@ -87,7 +87,7 @@ fn staying(
     Ok(stay)
 }
 
-/// The chart of the messages that stay, and what is told of names.
+/// The chart of the messages that stay, with the names to report.
 #[tactic(auto, unfolding(crate::specs::Drawing::chart_built))]
 fn chart_built(
     alloc: Global,
@@ -115,21 +115,23 @@ fn chart_built(
     })
 }
 
-/// Whether no chart has so many instances.
+/// Whether no chart has this number of instances.
 pub fn has_no_chart(count: usize) -> bool
     ensures { result ≡ has_no_chart count }
 {
     count < 2 || MAX_INSTANCES < count
 }
 
-/// The chart of a diagram, or why it has none: the first of F8, F37 and F7 that applies. F6 may come at any point. It
-/// takes time in proportion to n log n for n items.
+/// The chart of a diagram, or the first of F8, F37 and F7 that applies. F6 may come at any point. The time is in
+/// proportion to n log n for n items.
 ///
-/// Each participant is an instance, in the order of the text. Each arrow that is neither left out nor lost is a send
-/// and a receive, and so is what two notes say in the words of our own exports; nothing else is an event. The rows
-/// decide the order along each line: in each its sends come first, in the order of the text, and then its receives,
-/// which are a coregion where they are several. A lost message is left out where a later one of its lane is received.
-/// Labels that differ have names that differ.
+/// Each participant is an instance, in the order of the text. An arrow that is neither skipped nor lost is a send and a
+/// receive. So are two notes that state them in the words of our own exports. A lost message is a send alone. Nothing
+/// else is an event.
+///
+/// The rows decide the order along each line. In each row the sends of an instance come first, in the order of the
+/// text, and then its receives. Several receives are a coregion. A lost message is skipped if a later message of its
+/// lane is received. Different labels have different names.
 #[tactic(auto, unfolding(crate::specs::Drawing::built, crate::specs::Drawing::built_by))]
 pub fn draw(alloc: Global, diagram: Diagram) -> Result<DiagramChart, DrawError>
     ensures built { Gives diagram_chart_view result (built (diagram_view diagram)) }

@@ -13,11 +13,11 @@ use chart::{InstanceNo, MAX_INSTANCES, Names};
 use std::alloc::{AllocError, Global};
 use std::marker::Model;
 
-/// What the items so far have come to. A contract sees a record of its fields.
+/// The messages of the items so far. A contract sees a record of its fields.
 #[derive(Drop)]
 pub struct Collected {
     messages: Vec<Message>,
-    /// Those of notes that wait.
+    /// The messages of notes that wait for their receives.
     waiting: Vec<Waiting>,
     left_out: Vec<LeftOut>,
     /// The first line with which no chart is possible.
@@ -37,7 +37,7 @@ impl Model for Collected {
     } };
 }
 
-/// The first of two lines, if there is one so far.
+/// The upper one of two lines: the one so far, if there is one, and this one.
 pub(crate) fn first_line(so_far: Option<u64>, line: u64) -> Option<u64>
     ensures { result ≡ first_line so_far line }
 {
@@ -53,7 +53,7 @@ pub(crate) fn first_line(so_far: Option<u64>, line: u64) -> Option<u64>
     }
 }
 
-/// The instance at a place of the participants. A diagram of more than [`MAX_INSTANCES`] is refused before.
+/// The instance of the participant at this place. A diagram of more than [`MAX_INSTANCES`] is refused earlier.
 fn instance_at(place: usize) -> Result<InstanceNo, AllocError>
     ensures { IfOk result (λ p. p ≡ suc place) }
 {
@@ -63,14 +63,14 @@ fn instance_at(place: usize) -> Result<InstanceNo, AllocError>
     Ok(InstanceNo::at_place(place))
 }
 
-/// Whether the message waits for such a receive.
+/// Whether the message waits for this receive.
 fn waits(waiting: &Waiting, receiver: InstanceNo, event: &NoteEvent) -> bool
     ensures { result ≡ waits receiver event.now waiting.now }
 {
     waiting.sender == event.partner && waiting.receiver == receiver && waiting.name == event.name
 }
 
-/// The place of the first message that waits for such a receive.
+/// The place of the first message that waits for this receive.
 fn first_waiting(waiting: &[Waiting], receiver: InstanceNo, event: &NoteEvent) -> Option<usize>
     ensures value { result ≡ position (waits receiver event.now) waiting.now }
     ensures within { IfSome result (λ place. place < length waiting.now) }
@@ -78,7 +78,7 @@ fn first_waiting(waiting: &[Waiting], receiver: InstanceNo, event: &NoteEvent) -
     waiting.iter().position(|w| waits(w, receiver, event))
 }
 
-/// The message at this place is received where the note stands.
+/// Marks the message at this place as received at the note.
 fn receive(messages: &mut Vec<Message>, place: usize, note: &Note)
     ensures { messages.new.items ≡ received_at (note_view note.now) messages.old.items place (slice_get messages.old.items place) }
 {
@@ -93,7 +93,7 @@ fn receive(messages: &mut Vec<Message>, place: usize, note: &Note)
 }
 
 impl Collected {
-    /// An arrow.
+    /// Adds the message of an arrow.
     fn add_arrow(&mut self, item: usize, arrow: &Arrow) -> Result<(), AllocError>
         ensures { OnOk result (self.new ≡ with_arrow item (arrow_view arrow.now) self.old) }
     {
@@ -112,7 +112,7 @@ impl Collected {
         Ok(())
     }
 
-    /// A note that says a send.
+    /// Adds the message of a note that states a send. It waits for its receive.
     fn add_send(
         &mut self,
         item: usize,
@@ -143,7 +143,7 @@ impl Collected {
         Ok(())
     }
 
-    /// The message that waits at this place is received where the note stands.
+    /// Marks the message that waits at this place as received at the note. It no longer waits.
     fn take(&mut self, at: usize, note: &Note)
         requires { at < length self.old.waiting }
         ensures { self.new ≡ with_received (note_view note.now) at (slice_get self.old.waiting at) self.old }
@@ -153,7 +153,7 @@ impl Collected {
         let _ = self.waiting.remove(at);
     }
 
-    /// A note that says a receive.
+    /// Adds a note that states a receive. If no message waits for it, no chart is possible with its line.
     fn add_receive(&mut self, own: InstanceNo, note: &Note, event: &NoteEvent)
         requires { own ≡ suc note.now.participant }
         ensures { self.new ≡ with_receive (note_view note.now) event.now self.old }
@@ -164,7 +164,7 @@ impl Collected {
         }
     }
 
-    /// A note.
+    /// Adds a note: its event, or one more skipped note.
     fn add_note(&mut self, names: &Names, item: usize, note: &Note) -> Result<(), AllocError>
         ensures { OnOk result (self.new ≡ with_note names.now item (note_view note.now) self.old) }
     {
@@ -182,7 +182,7 @@ impl Collected {
         }
     }
 
-    /// An item.
+    /// Adds an item.
     #[tactic(auto, unfolding(crate::specs::Collecting::with_item))]
     fn add(&mut self, names: &Names, item: usize, words: &Item) -> Result<(), AllocError>
         ensures { OnOk result (self.new ≡ with_item names.now item (item_view words.now) self.old) }
@@ -195,7 +195,7 @@ impl Collected {
 }
 
 impl Collected {
-    /// The messages, what was left out, and the first line with which no chart is possible.
+    /// The messages, the skipped constructs, and the first line with which no chart is possible.
     pub fn into_parts(self) -> (Vec<Message>, Vec<LeftOut>, Option<u64>)
         ensures messages { result.0.items ≡ self.messages }
         ensures left_out { result.1.items ≡ self.left_out }
@@ -211,7 +211,7 @@ impl Collected {
     }
 }
 
-/// What a diagram's items come to, where its participants have these names.
+/// The messages of a diagram's items. These names are those of its participants.
 pub fn collect(
     alloc: Global,
     names: &Names,

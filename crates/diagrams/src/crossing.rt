@@ -1,4 +1,4 @@
-//! Messages that cross: with them no chart is possible.
+//! Messages that cross: no chart is possible with them.
 ghost use Rattle.std.specs.Prelude.{◌≡◌, ◌∷◌, ◌++◌, [], List, IfOk};
 ghost use Rattle.diagrams.specs.Crossing.{overtakes, crosses, fault_beside, fault_with, fault_from, is_known};
 ghost use Rattle.diagrams.specs.Ends.{AreFurthest};
@@ -9,7 +9,7 @@ use crate::lanes::Lanes;
 use crate::message::Message;
 use std::alloc::{AllocError, Global};
 
-/// Whether the message is received above the other one of its lane.
+/// Whether the message is received above the other one, on the same lane.
 pub fn overtakes(message: &Message, other: &Message) -> bool
     ensures { result ≡ overtakes message.now other.now }
 {
@@ -19,7 +19,8 @@ pub fn overtakes(message: &Message, other: &Message) -> bool
             && message.ends < other.ends)
 }
 
-/// A fault so far, and one more where the message overtakes the other: with the line with which both are there.
+/// The first fault, with these two messages. If the message overtakes the other, no chart is possible with the later of
+/// their lines.
 fn fault_beside(fault: Option<u64>, message: &Message, other: &Message) -> Option<u64>
     ensures { result ≡ fault_beside fault message.now other.now }
 {
@@ -30,7 +31,7 @@ fn fault_beside(fault: Option<u64>, message: &Message, other: &Message) -> Optio
     }
 }
 
-/// The first line with which no chart is possible, where the message comes after the earlier ones.
+/// The first line with which no chart is possible, if the message comes after the earlier ones.
 fn fault_with(fault: Option<u64>, message: &Message, earlier: &[Message]) -> Option<u64>
     ensures { result ≡ fault_with fault message.now earlier.now }
 {
@@ -51,8 +52,8 @@ fn is_known(fault: Option<u64>, line: u64) -> bool
     }
 }
 
-/// Whether the message overtakes an earlier one. The table has for each lane the row furthest down in which an earlier
-/// one is received.
+/// Whether the message overtakes an earlier one. For each lane the table has the row furthest down in which an earlier
+/// message is received.
 pub fn crosses(furthest: &mut Lanes, message: &Message) -> bool
     ensures value { (earlier : List Message) → AreFurthest furthest.old earlier → result ≡ crosses earlier message.now }
     ensures furthest { (earlier : List Message) → AreFurthest furthest.old earlier
@@ -66,7 +67,8 @@ pub fn crosses(furthest: &mut Lanes, message: &Message) -> bool
     message.ends < row
 }
 
-/// One more message. Only where it overtakes one are the earlier ones looked at, and only for a line above the fault.
+/// The first fault, with one more message. The earlier messages are compared only if it overtakes one of them, and only
+/// for a line above the known fault.
 fn add(
     furthest: &mut Lanes,
     fault: Option<u64>,
@@ -85,8 +87,8 @@ fn add(
     fault_with(fault, message, earlier)
 }
 
-/// The first line with which no chart is possible, if there is one: this one, or the first with which two messages
-/// cross, the later of whose two lines decides.
+/// The first line with which no chart is possible, if there is one. It is this one, or the first line with which two
+/// messages cross. The later of their two lines counts.
 pub fn first_fault(
     alloc: Global,
     fault: Option<u64>,

@@ -1,13 +1,13 @@
-//! What a sequence diagram says, whatever tool it was drawn for.
+//! A sequence diagram, independent of the tool that it was drawn for.
 use crate::left_out::LeftOut;
 use crate::place::Place;
 
 /// A participant: one line of the diagram.
 #[derive(Debug, Drop)]
 pub struct Participant {
-    /// What is shown, with a line feed where it goes on in a new line.
+    /// The text that is shown. A line feed begins a new line in it.
     pub label: Vec<u8>,
-    /// The number of the line that names it first, from 1.
+    /// The number of the line that first names it, from 1.
     pub line: u64,
 }
 
@@ -15,32 +15,31 @@ pub struct Participant {
 #[derive(Debug, Drop)]
 pub struct Arrow {
     pub place: Place,
-    /// The row in which it begins. Rows are numbered from the top, and no arrow begins above one that stands before it
-    /// in the text.
+    /// The row in which it begins. Rows are numbered from the top. No arrow begins above an earlier one of the text.
     pub begins: u64,
-    /// The row in which it ends: the same, or one further down.
+    /// The row in which it ends: the same, or a row further down.
     pub ends: u64,
-    /// The participant from which it goes, by its place in the list of them, from 0.
+    /// The sender: its place in the list of participants, from 0.
     pub sender: usize,
-    /// The participant to which it goes, which isn't the same.
+    /// The receiver: its place in that list. It isn't the sender.
     pub receiver: usize,
-    /// What stands at it, with a line feed where it goes on in a new line.
+    /// The text at the arrow. A line feed begins a new line in it.
     pub label: Vec<u8>,
-    /// Whether it is drawn as one that nobody receives.
+    /// Whether it is drawn as a lost message, which nobody receives.
     pub is_lost: bool,
 }
 
-/// A note at one participant. In the words of our own exports it says a send or a receive.
+/// A note at one participant. In the words of our own exports it states a send or a receive.
 #[derive(Debug, Drop)]
 pub struct Note {
     pub place: Place,
     pub row: u64,
-    /// By its place in the list of participants, from 0.
+    /// The participant: its place in the list, from 0.
     pub participant: usize,
     pub text: Vec<u8>,
 }
 
-/// What may be an event, or two.
+/// An item of a diagram, which may be one event or two.
 #[derive(Debug, Drop)]
 pub enum Item {
     Arrow(Arrow),
@@ -54,6 +53,6 @@ pub struct Diagram {
     pub participants: Vec<Participant>,
     /// In the order of the text.
     pub items: Vec<Item>,
-    /// Each kind once, in the order in which they came.
+    /// One entry for each kind, in the order in which they came.
     pub left_out: Vec<LeftOut>,
 }

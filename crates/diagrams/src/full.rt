@@ -43,7 +43,7 @@ impl Loads {
         self.numbers[instance.place()]
     }
 
-    /// So many more. Where their number would not fit, the answer is F6.
+    /// Adds this number of events to an instance. F6 if the sum doesn't fit.
     fn raise(&mut self, instance: InstanceNo, by: u64) -> Result<(), AllocError>
         ensures { (counts : ℕ → ℕ) → AreCounts self.old counts → OnOk result (AreCounts self.new (raised counts instance by)) }
     {

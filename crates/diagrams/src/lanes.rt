@@ -7,7 +7,7 @@ use chart::{InstanceNo, MAX_INSTANCES};
 use std::alloc::{AllocError, Global};
 use std::marker::Model;
 
-/// How many lanes there may be, with those from an instance to itself, which nothing goes over.
+/// The number of possible lanes, including those from an instance to itself, which no message uses.
 const LANES: usize = MAX_INSTANCES * MAX_INSTANCES;
 
 /// A number for each lane, by sender and receiver. A contract sees the list.
@@ -27,7 +27,7 @@ impl Model for Lanes {
     ghost invariant = { λ c. length c.numbers.items ≡ MAX_INSTANCES * MAX_INSTANCES };
 }
 
-/// Where a lane's number stands.
+/// The place of a lane's number in the list.
 fn slot(from: InstanceNo, to: InstanceNo) -> usize
     ensures value { result ≡ slot_of from to }
     ensures lane { IsInstance from × IsInstance to }
@@ -37,7 +37,7 @@ fn slot(from: InstanceNo, to: InstanceNo) -> usize
 }
 
 impl Lanes {
-    /// 0 for each lane. It fails only where there is no memory.
+    /// 0 for each lane. It fails only if memory runs out.
     pub fn zeros(alloc: Global) -> Result<Lanes, AllocError>
         ensures { IfOk result (λ zeros. AreNumbers zeros (λ q p. 0)) }
     {

@@ -1,24 +1,24 @@
-//! What is left out of a diagram, since it has no meaning in a chart.
+//! The constructs of a diagram that are skipped, because a chart can't express them.
 ghost use Rattle.std.specs.Prelude.{◌≡◌, ◌<◌, length, position, IfOk, IfSome, OnErr};
 ghost use Rattle.diagrams.specs.LeftOuts.{number_of, is_kind, and_one, with_one};
 
 use crate::place::Place;
 use std::alloc::AllocError;
 
-/// What is left out. The kinds stand in the order of their words.
+/// A kind of skipped constructs. The kinds are in the alphabetical order of their words in warnings.
 #[derive(Clone, Copy, Debug, PartialEq, Eq)]
 pub enum Kind {
     /// An arrow with a head at both ends.
     ArrowBothWays,
-    /// An arrow that comes from outside or goes there.
+    /// An arrow from or to the edge of the diagram.
     ArrowAtTheEdge,
-    /// A box round arcs, participants or statements.
+    /// A box around arcs, participants or statements.
     Box,
     /// A branch of a group that isn't taken.
     Branch,
-    /// Time that passes.
+    /// A delay: time that passes.
     Delay,
-    /// A diagram behind the first one.
+    /// A diagram after the first one.
     Diagram,
     /// A line or a word across all participants.
     Divider,
@@ -28,25 +28,25 @@ pub enum Kind {
     HiddenArrow,
     /// A line that shows no direction.
     Line,
-    /// A message that isn't received, though a later one of its lane is.
+    /// A lost message, if a later message of its lane is received.
     LostMessage,
     /// A message between lines that are joined.
     MessageWithin,
     /// A message of a participant to itself.
     MessageToItself,
-    /// A note that says no event.
+    /// A note that states no event.
     Note,
     /// A participant that was named before.
     Participant,
-    /// A line for the pre-processor.
+    /// A line for the preprocessor.
     Preprocessor,
     /// A reference to another diagram.
     Reference,
-    /// A `return` that answers nothing.
+    /// A `return` that has no arrow to answer.
     Return,
 }
 
-/// How often a kind of things is left out, and where the first of them stands.
+/// How many constructs of a kind are skipped, and the place of the first of them.
 #[derive(Clone, Copy, Debug, PartialEq, Eq)]
 pub struct LeftOut {
     pub kind: Kind,
@@ -82,7 +82,7 @@ impl Kind {
     }
 }
 
-/// The place among these of the kind.
+/// The place of the kind in this list.
 fn place_of(left_out: &[LeftOut], kind: Kind) -> Option<usize>
     ensures value { result ≡ position (is_kind kind) left_out.now }
     ensures within { IfSome result (λ place. place < length left_out.now) }
@@ -92,7 +92,7 @@ fn place_of(left_out: &[LeftOut], kind: Kind) -> Option<usize>
         .position(|l| kind.number() == l.kind.number())
 }
 
-/// One more of its kind. Where the count would not fit, the answer is F6.
+/// Counts one more construct of this kind. F6 if the count doesn't fit.
 fn and_one(left_out: LeftOut, place: Place) -> Result<LeftOut, AllocError>
     ensures { IfOk result (λ more. more ≡ and_one left_out place) }
 {
@@ -111,7 +111,7 @@ fn and_one(left_out: LeftOut, place: Place) -> Result<LeftOut, AllocError>
     })
 }
 
-/// One more thing is left out. It fails only where there is no memory, and then nothing has changed.
+/// Adds one more skipped construct. F6 leaves the list unchanged.
 #[tactic(auto, unfolding(crate::specs::LeftOuts::with_one))]
 pub fn leave_out(left_out: &mut Vec<LeftOut>, kind: Kind, place: Place) -> Result<(), AllocError>
     ensures ok { IfOk result (λ _. left_out.new.items ≡ with_one left_out.old.items kind place) }

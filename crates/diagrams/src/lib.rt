@@ -1,4 +1,4 @@
-//! Sequence diagrams that were drawn for other tools, and the charts that they come to.
+//! Sequence diagrams of other tools, and their charts.
 //!
 //! [`messages`] has the chart of a list of messages.
 #![tactic(auto)]

@@ -9,7 +9,7 @@ use crate::left_out::{Kind, LeftOut, leave_out};
 use crate::message::Message;
 use std::alloc::{AllocError, Global};
 
-/// Whether a message is left out, before later ones. The table has 1 for each lane on which one of them is received.
+/// Whether a message is skipped. The table has 1 for each lane on which a later message is received.
 fn pass(marked: &mut Lanes, message: &Message) -> bool
     ensures value { (later : List Message) → AreMarked marked.old later → result ≡ is_left_out message.now later }
     ensures marked { (later : List Message) → AreMarked marked.old later
@@ -22,7 +22,8 @@ fn pass(marked: &mut Lanes, message: &Message) -> bool
     false
 }
 
-/// The messages without the lost ones behind which one of their lane is received. Those are left out.
+/// The messages without the skipped ones, which are added to the skipped constructs. A lost message is skipped if a
+/// later message of its lane is received.
 pub fn without_lost(
     alloc: Global,
     messages: &[Message],

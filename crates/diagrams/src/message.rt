@@ -2,12 +2,12 @@
 use crate::place::Place;
 use chart::{InstanceNo, Name};
 
-/// A message: an arrow, or what two notes say.
+/// A message: an arrow, or the events that notes state.
 #[derive(Clone, Copy, Debug)]
 pub struct Message {
     pub sender: InstanceNo,
     pub receiver: InstanceNo,
-    /// The line to which it is drawn: the receiver, as the diagram has it.
+    /// The line at which the diagram draws its receive. `receiver` is another one if lines are joined.
     pub line: InstanceNo,
     /// The row in which it is sent.
     pub begins: u64,
@@ -15,14 +15,14 @@ pub struct Message {
     pub ends: u64,
     /// Whether nobody receives it.
     pub is_lost: bool,
-    /// The item that says it, or its send, by its place among the diagram's.
+    /// The item that states the message, or its send: its place among the diagram's items, from 0.
     pub item: usize,
     pub place: Place,
-    /// The line with which it is whole: that of its arrow, or of the note that says that it is received.
+    /// The line that completes the message: that of its arrow, or of the note that states its receive.
     pub whole: u64,
 }
 
-/// A message that a note says is sent, while no note says that it is received.
+/// A message whose send a note states, while no note has stated its receive.
 #[derive(Clone, Copy, Debug)]
 pub(crate) struct Waiting {
     pub sender: InstanceNo,

@@ -1,8 +1,8 @@
-//! The chart of messages whose sends and receives stand in rows.
+//! The chart of messages whose sends and receives are in rows.
 //!
-//! What is promised ([`chart_of`]), unless an allocation is refused: each message is a send and a receive, each in
-//! its row, on the lines of its two instances (`specs/Messages/Turns`, `specs/Messages/Regions`), and where
-//! messages follow each other (`specs/Messages/Following`) the chart is possible.
+//! [`chart_of`] promises this, unless an allocation is refused: each message is a send and, unless it is lost, a
+//! receive. Each of them is in its row, on the line of its instance (`specs/Messages/Turns`, `specs/Messages/Regions`).
+//! If messages follow each other (`specs/Messages/Following`), the chart is possible.
 
 mod end;
 mod line;

@@ -13,7 +13,7 @@ use chart::{Name, Names, NamesError};
 use diagram_labels::{GivenNames, LabelNames, spelled};
 use std::alloc::{AllocError, Global};
 
-/// One name more, which no participant has.
+/// Adds a name that no participant has.
 fn add_name(names: &mut Names, name: Name) -> Result<(), AllocError>
     requires free { Contains names.old name → ⊥ }
     requires room { length names.old < MAX_INSTANCES }
@@ -26,8 +26,8 @@ fn add_name(names: &mut Names, name: Name) -> Result<(), AllocError>
     }
 }
 
-/// The names of the participants, of which there are no more than a chart has. F6: it fails only where there is no
-/// memory.
+/// The names of the participants, which are at most as many as a chart has instances. It fails only if memory runs out
+/// (F6).
 pub fn names_of(alloc: Global, participants: &[Participant]) -> Result<Names, AllocError>
     requires { length participants.now ≤ MAX_INSTANCES }
     ensures { IfOk result (λ names. names ≡ names_from [] (map participant_view participants.now)) }
@@ -42,7 +42,7 @@ pub fn names_of(alloc: Global, participants: &[Participant]) -> Result<Names, Al
     Ok(names)
 }
 
-/// The label of the message that an item says.
+/// The label of an item's message.
 #[tactic(auto, unfolding(crate::specs::Naming::label_of))]
 fn label_of(item: &Item) -> &[u8]
     ensures { result.now ≡ label_of (item_view item.now) }
@@ -53,7 +53,7 @@ fn label_of(item: &Item) -> &[u8]
     }
 }
 
-/// The label of the message that the item at this place says.
+/// The label of the message of the item at this place.
 fn label_at(items: &[Item], place: usize) -> &[u8]
     ensures { result.now ≡ label_at (map item_view items.now) place }
 {

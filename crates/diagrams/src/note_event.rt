@@ -1,11 +1,11 @@
-//! Events that notes say.
+//! Events that notes state.
 ghost use Rattle.std.specs.Prelude.{◌≡◌, ◌<◌, ◌==◌, length, position, IfSome};
 ghost use Rattle.diagrams.specs.NoteEvents.{Finds, EventWordsView, cut, direction, words_in, partner_in, note_event};
 ghost use Rattle.diagrams.specs.Naming.{message_word};
 
 use chart::{InstanceNo, Name, Names};
 
-/// A send or a receive of the participant at which a note stands.
+/// A send or a receive of a note's participant.
 #[derive(Clone, Copy, Debug)]
 pub(crate) struct NoteEvent {
     pub sends: bool,
@@ -31,7 +31,7 @@ fn blank_in(text: &[u8]) -> Option<usize>
     text.iter().position(|byte| *byte == b' ')
 }
 
-/// What stands before the first blank, and what behind it.
+/// The bytes before the first blank, and those after it.
 #[tactic(auto, unfolding(crate::specs::NoteEvents::cut))]
 fn cut(text: &[u8]) -> Option<(&[u8], &[u8])>
     ensures { Finds (λ parts. (parts.0.now, parts.1.now)) result (cut text.now) }
@@ -56,7 +56,7 @@ fn direction(word: &[u8], preposition: &[u8]) -> Option<bool>
     }
 }
 
-/// What the text says in the words of our own exports.
+/// The words of an event, if the text has the form of our own exports.
 #[tactic(auto, unfolding(crate::specs::NoteEvents::words_in))]
 fn words_in(text: &[u8]) -> Option<EventWords<'_>>
     ensures { Finds (λ words. record { sends = words.sends; message = words.message.now; partner = words.partner.now })
@@ -84,7 +84,7 @@ fn partner_in(names: &Names, word: &[u8]) -> Option<InstanceNo>
     }
 }
 
-/// The event that a note at an instance says, if it says one with another instance.
+/// The event that a note at an instance states, if it states one with another instance.
 #[tactic(auto, unfolding(crate::specs::NoteEvents::note_event))]
 pub(crate) fn note_event(names: &Names, own: InstanceNo, text: &[u8]) -> Option<NoteEvent>
     ensures { result ≡ note_event names.now own text.now }
@@ -104,7 +104,7 @@ pub(crate) fn note_event(names: &Names, own: InstanceNo, text: &[u8]) -> Option<
     })
 }
 
-/// The word for the message in a note, if it says an event's words.
+/// The word for the message in a note that states an event, or no bytes.
 pub(crate) fn message_word(text: &[u8]) -> &[u8]
     ensures { result.now ≡ message_word (words_in text.now) }
 {

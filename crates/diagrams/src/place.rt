@@ -1,8 +1,8 @@
-//! Where something stands in a text.
+//! Places in a text.
 ghost use Rattle.std.specs.Prelude.{◌≡◌};
 ghost use Rattle.diagrams.specs.Places.{is_before};
 
-/// Where something stands in a text.
+/// A place in a text.
 #[derive(Clone, Copy, Debug, PartialEq, Eq)]
 pub struct Place {
     /// From 1.
@@ -12,7 +12,7 @@ pub struct Place {
 }
 
 impl Place {
-    /// Whether it is further up than the other, or further to the left in one line.
+    /// Whether it is above the other place, or to the left of it in the same line.
     pub fn is_before(&self, other: &Place) -> bool
         ensures { result ≡ is_before self.now other.now }
     {

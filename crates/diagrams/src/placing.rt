@@ -1,4 +1,4 @@
-//! Items that may not stand where they do: with them no chart is possible.
+//! Misplaced items: no chart is possible with them.
 ghost use Rattle.std.specs.Prelude.{◌≡◌, map};
 ghost use Rattle.diagrams.specs.Diagrams.{arrow_view, item_view};
 ghost use Rattle.diagrams.specs.Placing.{row_of, place_of, is_arrow, is_placed, may_stand, first_misplaced};
@@ -16,7 +16,7 @@ fn row_of(item: &Item) -> u64
     }
 }
 
-/// The line in which it stands.
+/// The line of an item in the text.
 #[tactic(auto, unfolding(crate::specs::Placing::place_of))]
 fn line_of(item: &Item) -> u64
     ensures { result ≡ place_of (item_view item.now) }
@@ -27,7 +27,7 @@ fn line_of(item: &Item) -> u64
     }
 }
 
-/// Whether an arrow goes from one of so many participants to another one, and not upwards.
+/// Whether an arrow goes from one of `count` participants to another one, and not upwards.
 fn is_arrow(count: usize, arrow: &Arrow) -> bool
     ensures { result ≡ is_arrow count (arrow_view arrow.now) }
 {
@@ -36,7 +36,7 @@ fn is_arrow(count: usize, arrow: &Arrow) -> bool
             && (!(arrow.sender == arrow.receiver) && !(arrow.ends < arrow.begins)))
 }
 
-/// Whether it is an item of a diagram of so many participants.
+/// Whether an item may be in a diagram of `count` participants.
 #[tactic(auto, unfolding(crate::specs::Placing::is_placed))]
 fn is_placed(count: usize, item: &Item) -> bool
     ensures { result ≡ is_placed count (item_view item.now) }
@@ -47,7 +47,7 @@ fn is_placed(count: usize, item: &Item) -> bool
     }
 }
 
-/// Whether it may stand below this row.
+/// Whether an item may come after an item of this row.
 #[tactic(auto, unfolding(crate::specs::Placing::may_stand))]
 fn may_stand(count: usize, row: u64, item: &Item) -> bool
     ensures { result ≡ may_stand count row (item_view item.now) }
@@ -55,7 +55,7 @@ fn may_stand(count: usize, row: u64, item: &Item) -> bool
     !(row_of(item) < row) && is_placed(count, item)
 }
 
-/// The line of the first item that may not stand where it does, in a diagram of so many participants.
+/// The line of the first misplaced item, in a diagram of `count` participants.
 pub(crate) fn first_misplaced(count: usize, items: &[Item]) -> Option<u64>
     ensures { result ≡ first_misplaced count 0 (map item_view items.now) }
 {

@@ -1,4 +1,4 @@
-//! Names that aren't their labels' words.
+//! Names that differ from their labels.
 ghost use Rattle.std.specs.Prelude.{◌≡◌, [], map, slice_get, IfOk, OnOk};
 ghost use Rattle.diagram_labels.specs.Renaming.{renamed_view, renamed_from};
 
@@ -17,7 +17,7 @@ fn name_at(names: &Names, place: usize) -> Option<Name>
     names.name(InstanceNo::at_place(place))
 }
 
-/// Tells the participants' names.
+/// Adds the names of participants that have to be reported.
 fn add_renamed_participants(
     alloc: Global,
     renames: &mut Vec<Renamed>,
@@ -36,7 +36,7 @@ fn add_renamed_participants(
     Ok(())
 }
 
-/// The labels whose names have to be told, participants' first, each with its name.
+/// The labels whose names have to be reported, each with its name. Those of participants come first.
 pub fn renamed_labels(
     alloc: Global,
     participants: &[Participant],

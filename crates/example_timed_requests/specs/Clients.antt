@@ -1,4 +1,4 @@
--- What the client does.
+-- The acts of the client.
 use Rattle.std.specs.Prelude.{ℕ, List, drop}
 use Rattle.behaviour.specs.declared.act.Act.{Act}
 use Rattle.behaviour.specs.declared.act.Act.TheVariants as act
@@ -9,7 +9,7 @@ use Rattle.example_timed_requests.specs.declared.client.ClientStep.TheVariants.{
 use Rattle.example_timed_requests.specs.declared.letters.Letter.{Letter}
 use Rattle.example_timed_requests.specs.Letters.{act_of_first}
 
--- its step after this answer to the step before
+-- the next step, by the answer to the step before
 abbrev pub client_step : ClientStep → Answer → ClientStep
 client_step Tell Start = Tell
 client_step Tell (Sent event) = Ask

@@ -1,4 +1,4 @@
--- What the server does.
+-- The acts of the server.
 use Rattle.std.specs.Prelude.{ℕ, ◌-◌, ◌==◌, Bool, true, false, List, drop}
 use Rattle.behaviour.specs.declared.act.Act.{Act}
 use Rattle.behaviour.specs.declared.act.Act.TheVariants as act
@@ -9,12 +9,13 @@ use Rattle.example_timed_requests.specs.declared.server.ServerStep.{ServerStep}
 use Rattle.example_timed_requests.specs.declared.server.ServerStep.TheVariants.{Wait, Tell, Reply, LeaveClient, LeaveLogger, Stop}
 use Rattle.example_timed_requests.specs.Letters.{act_of_first}
 
--- how many turns it still waits after this answer: one less where nothing came, and else as long as its patience lasts
+-- the number of turns that it still waits after this answer: one less if nothing came, and otherwise all of its
+-- patience
 abbrev pub turns_left : ℕ → ℕ → Answer → ℕ
 turns_left patience left Nothing = left - 1
 turns_left patience left _ = patience
 
--- its step after this answer to the step before, and whether it is too late to wait
+-- the next step, by the answer to the step before and by whether it is too late to wait
 abbrev pub server_step : ServerStep → Answer → Bool → ServerStep
 server_step Wait Start late = Wait
 server_step Wait Nothing true = LeaveClient
@@ -29,7 +30,7 @@ server_step LeaveClient _ late = LeaveLogger
 server_step LeaveLogger _ late = Stop
 server_step Stop _ late = Stop
 
--- the same, by its patience and how many turns it still waited
+-- the same, by its patience and the number of turns that it still waited
 abbrev pub step_after : ServerStep → Answer → ℕ → ℕ → ServerStep
 step_after step last patience left = server_step step last (turns_left patience left last == 0)
 

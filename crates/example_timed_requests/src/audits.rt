@@ -1,4 +1,4 @@
-//! Audits of what the three came to.
+//! Audits the result of the three.
 ghost use Rattle.std.specs.Prelude.{IfOk};
 ghost use Rattle.instances.specs.Laws.{IsAccepted};
 
@@ -7,8 +7,8 @@ use board::Gathered;
 use closure::audit;
 use std::alloc::Global;
 
-/// What they came to, whose chart and reports an audit accepted: the offline checker, which reads no clock, finds the
-/// same races.
+/// The result of the three, if an audit accepts its chart and its reports. The audit is the offline checker, which
+/// reads no clock. It finds the same races.
 pub fn audited(alloc: Global, gathered: Gathered) -> anyhow::Result<Gathered>
     ensures { IfOk result IsAccepted }
 {

@@ -1,4 +1,4 @@
-//! The exchange by behaviours: `run` lets each of them act on a thread of its own.
+//! The exchange by behaviours. `run` lets each of them act on a thread of its own.
 ghost use Rattle.std.specs.Prelude.{IfOk};
 ghost use Rattle.instances.specs.Laws.{IsAccepted};
 
@@ -20,7 +20,7 @@ use std::sync::atomic::AtomicU64;
 use std::thread;
 use std::thread::Threads;
 
-/// Lets other threads go first before each act: so an instance that waits doesn't keep those from a processor that it
+/// Lets other threads run first before each act. So an instance that waits doesn't keep a processor from those that it
 /// waits for.
 struct OthersFirst;
 
@@ -30,7 +30,7 @@ impl Gate for OthersFirst {
     }
 }
 
-/// A letter more.
+/// Adds a letter.
 fn write(
     alloc: Global,
     queue: &mut VecDeque<Letter>,
@@ -43,7 +43,7 @@ fn write(
     Ok(())
 }
 
-/// For each request a letter of one name to the logger, and then one of another to a partner.
+/// Two letters for each request: one with the first name to the logger, and then one with the other name to a partner.
 fn letters(alloc: Global, note: &[u8], to: InstanceNo, name: &[u8]) -> anyhow::Result<Letters> {
     let mut queue = VecDeque::new(alloc);
     for request in 1..=REQUESTS {
@@ -53,7 +53,7 @@ fn letters(alloc: Global, note: &[u8], to: InstanceNo, name: &[u8]) -> anyhow::R
     Ok(Letters::new(queue))
 }
 
-/// The client with its letters.
+/// The client at the start, with its letters.
 fn client_at_first(alloc: Global) -> anyhow::Result<Client> {
     Ok(Client {
         server: server(),
@@ -63,7 +63,7 @@ fn client_at_first(alloc: Global) -> anyhow::Result<Client> {
     })
 }
 
-/// The server with its letters.
+/// The server at the start, with its letters.
 fn server_at_first(alloc: Global) -> anyhow::Result<Server> {
     Ok(Server {
         client: client(),
@@ -91,7 +91,7 @@ fn run_three<R: Threads + Sync>(
     }
 }
 
-/// What the three came to. Its reports were audited.
+/// The result of the three, whose reports were audited.
 pub fn exchange<R: Threads + AllocGlobal + Sync>(rt: &R) -> anyhow::Result<Gathered>
     ensures { IfOk result IsAccepted }
 {

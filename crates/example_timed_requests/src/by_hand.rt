@@ -1,4 +1,4 @@
-//! The same exchange without behaviours: each holds its post itself, in a job of its own.
+//! The same exchange without behaviours. Each instance has its post itself, in a job of its own.
 ghost use Rattle.std.specs.Prelude.{◌≡◌, IfOk};
 ghost use Rattle.board.specs.Meeting.{AreOfOneBoard};
 ghost use Rattle.instances.specs.Laws.{IsAccepted};
@@ -13,7 +13,7 @@ use std::alloc::Global;
 use std::thread;
 use std::thread::Threads;
 
-/// Sends a message of this name to an instance.
+/// Sends a message with this name to an instance.
 fn send(
     alloc: Global,
     post: &mut Post,
@@ -29,7 +29,7 @@ fn send(
     }
 }
 
-/// The next message of an instance: none where its lane ends, or where none has come after so many looks.
+/// The next message from an instance, or none if its lane ends or if none has come after `PATIENCE` looks.
 fn wait_for(post: &mut Post, from: InstanceNo) -> anyhow::Result<Option<Arrival>>
     ensures { post.new.board ≡ post.old.board }
 {
@@ -43,7 +43,7 @@ fn wait_for(post: &mut Post, from: InstanceNo) -> anyhow::Result<Option<Arrival>
     Ok(None)
 }
 
-/// The client: it tells the logger of each request, asks the server and waits for the answer.
+/// The client tells the logger of each request, asks the server and waits for the answer.
 fn ask(alloc: Global, post: &mut Post) -> anyhow::Result<()>
     ensures { post.new.board ≡ post.old.board }
 {
@@ -59,7 +59,7 @@ fn ask(alloc: Global, post: &mut Post) -> anyhow::Result<()>
     Ok(())
 }
 
-/// The server: it waits for a request, tells the logger of it and answers; and gives up where none comes for long.
+/// The server waits for a request, tells the logger of it and answers. It gives up if none comes for long.
 fn serve(alloc: Global, post: &mut Post) -> anyhow::Result<()>
     ensures { post.new.board ≡ post.old.board }
 {
@@ -75,7 +75,7 @@ fn serve(alloc: Global, post: &mut Post) -> anyhow::Result<()>
     Ok(())
 }
 
-/// The logger: it gets whatever message comes, until nobody sends to it any more.
+/// The logger receives any message that comes, until all others have closed their lanes to it.
 fn log<'a>(post: Post<'a>) -> Post<'a>
     ensures { result.board ≡ post.entry.board }
 {
@@ -90,7 +90,7 @@ fn log<'a>(post: Post<'a>) -> Post<'a>
     mailbox.into_post()
 }
 
-/// What an instance does by itself. A refusal ends it.
+/// The acts of an instance. A refusal ends them.
 fn act<'a>(alloc: Global, mut post: Post<'a>) -> Post<'a>
     ensures { result.board ≡ post.entry.board }
 {
@@ -106,7 +106,7 @@ fn act<'a>(alloc: Global, mut post: Post<'a>) -> Post<'a>
     }
 }
 
-/// What their posts came to, which an audit accepted.
+/// The result of the posts, if an audit accepts it.
 fn gathered(alloc: Global, posts: Vec<Post>) -> anyhow::Result<Gathered>
     requires { AreOfOneBoard posts.items }
     ensures { IfOk result IsAccepted }
@@ -117,7 +117,7 @@ fn gathered(alloc: Global, posts: Vec<Post>) -> anyhow::Result<Gathered>
     }
 }
 
-/// What the three came to. Its reports were audited.
+/// The result of the three, whose reports were audited.
 pub fn exchange<R: Threads + AllocGlobal + Sync>(rt: &R) -> anyhow::Result<Gathered>
     ensures { IfOk result IsAccepted }
 {

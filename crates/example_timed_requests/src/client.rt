@@ -1,4 +1,4 @@
-//! The client: it tells the logger of each request, asks the server and waits for the answer.
+//! The client tells the logger of each request, asks the server and waits for the answer.
 ghost use Rattle.std.specs.Prelude.{◌≡◌};
 ghost use Rattle.example_timed_requests.specs.Clients.{client_step};
 
@@ -6,10 +6,10 @@ use crate::letters::Letters;
 use behaviour::{Act, Answer, Behaviour};
 use chart::InstanceNo;
 
-/// What the client does.
+/// The steps of the client.
 #[derive(Clone, Copy, Debug, PartialEq, Eq)]
 pub enum ClientStep {
-    /// Tell the logger of the next request. Where there is none, close the lane to the server.
+    /// Tell the logger of the next request. If there is none, close the lane to the server.
     Tell,
     /// Ask the server.
     Ask,
@@ -21,7 +21,7 @@ pub enum ClientStep {
 }
 
 impl ClientStep {
-    /// What it does after this answer. What is refused, or ends, makes it leave.
+    /// The step after this answer. A refusal or an end makes the client leave.
     fn after(self, last: &Answer) -> ClientStep
         ensures { result ≡ client_step self last.now }
     {
@@ -45,7 +45,7 @@ impl ClientStep {
     }
 }
 
-/// It has two letters for each request: one for the logger and one for the server.
+/// The client. It has two letters for each request: one for the logger and one for the server.
 #[derive(Drop)]
 pub struct Client {
     pub server: InstanceNo,

@@ -1,4 +1,4 @@
-//! Messages that a behaviour is going to send.
+//! The messages that a behaviour is going to send.
 ghost use Rattle.std.specs.Prelude.{◌≡◌, drop};
 ghost use Rattle.example_timed_requests.specs.Letters.{act_of_first};
 
@@ -7,15 +7,15 @@ use chart::{InstanceNo, Message};
 use std::collections::VecDeque;
 use std::marker::Model;
 
-/// A message, and whom it is for.
+/// A message, and the instance that it is for.
 #[derive(Debug, Drop)]
 pub struct Letter {
     pub to: InstanceNo,
     pub message: Message,
 }
 
-/// Letters in the order in which they are sent. They are written before the run: what a behaviour does follows from its
-/// state and from the answers alone, and a message that it wrote in between could be refused for want of memory.
+/// Letters, in the order in which they are sent. They are written before the run, since the acts of a behaviour depend
+/// only on its state and on the answers. A message that it wrote during the run could be refused for lack of memory.
 #[derive(Drop)]
 pub struct Letters {
     queue: VecDeque<Letter>,
@@ -37,7 +37,8 @@ impl Letters {
         Letters { queue }
     }
 
-    /// Sends the first letter, which leaves. Where there is none, it closes the lane to this instance.
+    /// The act that sends the first letter, which leaves the queue. If there is none, the act closes the lane to this
+    /// instance.
     pub fn send_first(&mut self, else_close: InstanceNo) -> Act
         ensures act { result ≡ act_of_first self.old else_close }
         ensures left { self.new ≡ drop 1 self.old }

@@ -1,10 +1,10 @@
-//! The logger: it gets whatever message comes, until nobody sends to it any more.
+//! The logger receives any message that comes, until all others have closed their lanes to it.
 use behaviour::{Act, Answer, Behaviour};
 use std::sync::Arc;
 use std::sync::atomic::{AtomicU64, Ordering};
 
-/// It counts the bytes of the bodies, for whoever else has its counter: a behaviour itself doesn't come back from a
-/// run.
+/// The logger. It counts the bytes of the bodies, for others that share its counter, since a behaviour itself doesn't
+/// come back from a run.
 #[derive(Drop)]
 pub struct Logger {
     pub bytes: Arc<AtomicU64>,

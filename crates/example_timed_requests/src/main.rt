@@ -1,8 +1,9 @@
-//! A client asks a server, a logger hears of it from both, and the server gives up where no request comes for long.
-//! Each is on a thread of its own, and the chart of what they did is printed with its races.
+//! A client asks a server, a logger hears of it from both, and the server gives up if no request comes for long. Each
+//! of them is on a thread of its own. The program prints the chart of what they did, with its races.
 //!
-//! With no word each of them is a behaviour, and `run` lets them act. With the word `by-hand` each holds its post
-//! itself. With the word `check` both are done, and the program tells only what no schedule changes.
+//! Without a word each of them is a behaviour, and `run` lets them act. With the word `by-hand` each has its post
+//! itself. With the word `check` the program does both, and prints only what doesn't depend on the scheduling of
+//! threads.
 #![tactic(auto)]
 
 mod audits;

@@ -1,17 +1,17 @@
-//! Who takes part, and what they write.
+//! The three parties, and the messages that they write.
 ghost use Rattle.std.specs.Prelude.{◌≡◌};
 
 use anyhow::bail;
 use chart::{InstanceNo, Message, Name};
 use std::alloc::Global;
 
-/// How many requests the client makes.
+/// The number of requests of the client.
 pub const REQUESTS: u32 = 3;
 
-/// How often the server looks for a request at most, and how often anyone looks for a message.
+/// The most times that the server looks for a request, and that any of them looks for a message.
 pub const PATIENCE: u32 = 100_000;
 
-/// How many slots a lane has: more than messages are ever on their way, so no lane is full.
+/// The number of slots of a lane. There are never as many messages on their way, so no lane is full.
 pub const SLOTS: usize = 8;
 
 pub fn client() -> InstanceNo
@@ -32,7 +32,7 @@ pub fn logger() -> InstanceNo
     InstanceNo::at_place(2)
 }
 
-/// A message of this name, whose body tells of which request it is.
+/// A message with this name, whose body has the number of its request.
 pub fn message(alloc: Global, name: &[u8], request: u32) -> anyhow::Result<Message> {
     let body = format!(in alloc; "request {request}")?.into_bytes();
     match Message::new(Name::new(name)?, body) {

@@ -1,4 +1,4 @@
-//! The server: it waits for a request, tells the logger of it and answers; and gives up where none comes for long.
+//! The server waits for a request, tells the logger of it and answers. It gives up if none comes for long.
 ghost use Rattle.std.specs.Prelude.{◌≡◌};
 ghost use Rattle.example_timed_requests.specs.Servers.{server_step, turns_left};
 
@@ -6,12 +6,12 @@ use crate::letters::Letters;
 use behaviour::{Act, Answer, Behaviour};
 use chart::InstanceNo;
 
-/// What the server does.
+/// The steps of the server.
 #[derive(Clone, Copy, Debug, PartialEq, Eq)]
 pub enum ServerStep {
     /// Wait for a request.
     Wait,
-    /// Tell the logger of it.
+    /// Tell the logger of the request.
     Tell,
     /// Answer the client.
     Reply,
@@ -23,7 +23,8 @@ pub enum ServerStep {
 }
 
 impl ServerStep {
-    /// What it does after this answer. What is refused, or ends, makes it leave, and so does nothing if it is too late.
+    /// The step after this answer. A refusal or an end makes the server leave. If nothing came, it leaves if it is too
+    /// late to wait.
     fn after(self, last: &Answer, is_late: bool) -> ServerStep
         ensures { result ≡ server_step self last.now is_late }
     {
@@ -52,21 +53,21 @@ impl ServerStep {
     }
 }
 
-/// It has two letters for each request: one for the logger and one for the client. Where nothing comes for as many
-/// turns as its patience lasts, it gives up.
+/// The server. It has two letters for each request: one for the logger and one for the client. It gives up if nothing
+/// comes for as many turns as its patience lasts.
 #[derive(Drop)]
 pub struct Server {
     pub client: InstanceNo,
     pub logger: InstanceNo,
     pub letters: Letters,
     pub patience: u32,
-    /// How many turns it still waits.
+    /// The number of turns that it still waits.
     pub left: u32,
     pub step: ServerStep,
 }
 
 impl Server {
-    /// How many turns it still waits after this answer.
+    /// The number of turns that it still waits after this answer.
     fn left_after(&self, last: &Answer) -> u32
         ensures { result ≡ turns_left self.now.patience self.now.left last.now }
     {

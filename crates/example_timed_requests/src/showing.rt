@@ -1,4 +1,4 @@
-//! What the program tells.
+//! The output of the program.
 ghost use Rattle.instances.specs.Laws.{IsAccepted};
 
 use crate::parties::{client, logger, server};
@@ -35,7 +35,7 @@ pub fn show<R: Print + AllocGlobal>(rt: &R, gathered: &Gathered) -> anyhow::Resu
     Ok(())
 }
 
-/// How many messages of an instance the logger got.
+/// The number of messages from an instance that the logger received.
 fn got_from(chart: &Chart, sender: InstanceNo) -> usize {
     let mut many = 0usize;
     for line in chart.lines() {
@@ -50,8 +50,8 @@ fn got_from(chart: &Chart, sender: InstanceNo) -> usize {
     many
 }
 
-/// Tells what no schedule changes: the logger tells nobody what it got, so each message of the client may as well have
-/// come after each of the server's that came before it, and the other way round.
+/// Checks and prints what doesn't depend on the scheduling of threads. The logger sends nothing. So for each message of
+/// the client and each message of the server, the logger could have received the two in the other order.
 pub fn check<R: Print>(rt: &R, gathered: &Gathered) -> anyhow::Result<()> {
     let mut races = 0usize;
     for report in gathered.reports.iter() {

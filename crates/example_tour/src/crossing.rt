@@ -19,7 +19,7 @@ fn send(alloc: Global, posts: &mut [Post], by: usize, to: usize, name: &[u8]) ->
     send_by(alloc, &mut posts[by - 1], to, name)
 }
 
-/// One of the posts receives from another.
+/// One of the posts receives a message from another.
 fn receive<R: Print>(rt: &R, posts: &mut [Post], by: usize, from: usize) -> anyhow::Result<()>
     requires { AreOfOneBoard posts.old }
     ensures { AreOfOneBoard posts.new }
@@ -41,7 +41,7 @@ fn pass<R: Print>(rt: &R, alloc: Global, posts: &mut [Post]) -> anyhow::Result<(
     receive(rt, posts, 2, 1)
 }
 
-/// Two messages cross on a board of two.
+/// Two messages cross on a board of two instances.
 pub fn cross<R: Print>(rt: &R, alloc: Global) -> anyhow::Result<()> {
     let mut board = Board::new(alloc, 2, 1)?;
     let mut posts = board.posts()?;

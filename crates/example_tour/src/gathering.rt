@@ -1,4 +1,4 @@
-//! What a board came to.
+//! The result of a board.
 ghost use Rattle.board.specs.Meeting.{AreOfOneBoard};
 
 use anyhow::bail;

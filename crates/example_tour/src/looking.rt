@@ -5,7 +5,7 @@ use board::{Board, Post, Taken};
 use mailbox::Mailbox;
 use std::alloc::Global;
 
-/// From which instance a message came, 0 where none waits yet.
+/// The instance that a message came from, or 0 if none waits yet.
 fn look(mailbox: &mut Mailbox) -> anyhow::Result<usize> {
     match mailbox.any()? {
         Taken::Got(arrival) => Ok(arrival.from.number()),
@@ -14,7 +14,7 @@ fn look(mailbox: &mut Mailbox) -> anyhow::Result<usize> {
     }
 }
 
-/// Looks before a message is sent, and after it.
+/// Looks for a message before one is sent, and after that.
 fn look_around<R: Print>(
     rt: &R,
     alloc: Global,
@@ -27,7 +27,7 @@ fn look_around<R: Print>(
     Ok(())
 }
 
-/// The second of two posts is a mailbox.
+/// The second of two posts becomes a mailbox.
 pub fn look_twice<R: Print>(rt: &R, alloc: Global) -> anyhow::Result<()> {
     let mut board = Board::new(alloc, 2, 1)?;
     let mut posts = board.posts()?;

@@ -1,7 +1,7 @@
-//! The code of `docs/guide/library.md`, which goes over it piece by piece.
+//! The code of `docs/guide/library.md`, which explains it piece by piece.
 //!
-//! With no word two messages cross, and a mailbox looks for one. With the word `threads` posts are held on threads,
-//! and with the word `schedule` a schedule is run on threads.
+//! Without a word two messages cross, and a mailbox looks for a message. With the word `threads` posts are on threads,
+//! and with the word `schedule` a schedule runs on threads.
 #![tactic(auto)]
 
 mod crossing;

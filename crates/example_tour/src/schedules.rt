@@ -7,7 +7,7 @@ use schedule::Schedule;
 use schedule_threads::scripts::scripts;
 use std::thread::Threads;
 
-/// Tells of each instance that spent its turns, and of each receive.
+/// Prints a line for each instance that spent its turns, and for each receive.
 fn print_run<R: Print>(rt: &R, ran: &Run) -> anyhow::Result<()> {
     for end in ran.ends.iter() {
         if *end == End::TurnsSpent {

@@ -57,7 +57,7 @@ fn act_all<R: Threads + Print + Sync>(rt: &R, alloc: Global, posts: Vec<Post>) -
     gather_board(rt, alloc, posts)
 }
 
-/// Two instances on threads.
+/// Runs two instances on threads.
 pub fn act_on_threads<R: Threads + Print + Sync>(rt: &R, alloc: Global) -> anyhow::Result<()> {
     let mut board = Board::new(alloc, 2, 1)?;
     let posts = board.posts()?;

@@ -1,4 +1,4 @@
--- The caret of a line whose form is faulty, and what may stand there.
+-- The caret of a line that is refused for its form, and what may be there.
 use Rattle.std.proofs.Common.{◌≡◌, ℕ, ◌≤◌, Bool, true, false, cond, eqb, List, [], ◌∷◌, ◌++◌, length, Ok, refl, sym, ap, ◌∙◌, arith, append-nil}
 use Rattle.std.specs.Prelude.{Option, Some, codes, decimal}
 use Rattle.std.specs.List.{join_with_byte}
@@ -43,7 +43,7 @@ slots_number slots first last =
     one_number (decimal slots) (words_of (decimal slots)) slots refl
     (ap capacity_by (sym (words_split (codes "capacity") (decimal slots) (lacks_if 32 (codes "capacity") refl))) ∙ capacity_again slots first last)
 
--- ---- what may stand
+-- ---- what may be there
 
 named_form : (name : List ℕ) → IsName name → (has_form wants.FirstName (name ∷ []) ≡ true) × (has_form wants.OtherName (name ∷ []) ≡ true) × (has_form wants.Partner (name ∷ []) ≡ true) × (has_form wants.Message (name ∷ []) ≡ true)
     × (has_form wants.Actor (name ∷ codes "any" ∷ []) ≡ true) × (has_form wants.SendTo (name ∷ codes "a" ∷ []) ≡ true)

@@ -1,7 +1,7 @@
--- The tests of a command's words, in the order of the reader's checks and in that of the words: all cases.
+-- The checks of a command's words in the order of the reader are the same as in the order of the words: all cases.
 use Rattle.std.proofs.Common.{◌≡◌, Bool, true, false, ◌&&◌, refl}
 
--- of a send: each name first, and then the instances
+-- of a send: the reader checks each name, and then the instances
 pub send_order : (na ka nb kb s nm : Bool) → (na && (nb && (nm && (ka && (kb && s))))) ≡ ((na && ka) && ((nb && (kb && s)) && (nm && true)))
 send_order true true true true true true = refl
 send_order true true true true true false = refl

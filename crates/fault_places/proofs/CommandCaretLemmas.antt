@@ -1,4 +1,4 @@
--- A command that is refused otherwise than for its form: its caret, and what may stand there.
+-- A command that is refused for another cause than its form: its caret, and what may be there.
 use Rattle.std.proofs.Common.{◌≡◌, ◌≢◌, ℕ, zero, suc, ◌+◌, ◌<◌, ◌≤◌, Bool, true, false, cond, ◌||◌, ◌&&◌, eqb, List, [], ◌∷◌, ◌++◌, length, Ok, All, Contains, refl, sym, ap, ◌∙◌, subst, arith}
 use Rattle.std.specs.Prelude.{Option, None, Some, codes, bytes_eq, min, unwrap_or}
 use Rattle.std.specs.Cmp.Lexicographic.{bytes_decides}
@@ -62,7 +62,7 @@ a_named : IsName (codes "a")
 unfolding name_of is_reserved is_keyword spelled
 a_named = refl
 
--- ---- lines that go on with them
+-- ---- lines that begin with them and pass
 
 actor_line : (n : ℕ) (names before : List (List ℕ)) (name : List ℕ) → eqb (length name) 0 ≡ false → is_past n (name_fault name) ≡ true → is_past n (known_fault names name) ≡ true → passes n names before wants.Actor (name ∷ codes "any" ∷ []) ≡ true
 unfolding next begins_command
@@ -97,7 +97,7 @@ may_stand read n names before wants.Action word are l k bad = absurd (false≢tr
 may_stand read n names before wants.LineEnd word are l k bad = absurd (false≢true (sym bad))
 may_stand read n names before _ word are l k bad = absurd (false≢true k)
 
--- ---- some instance is another one
+-- ---- there is another instance
 
 first_name : (names : List (List ℕ)) → 2 ≤ length names → All IsName names → (name : List ℕ) × IsName name × Contains names name
 first_name [] some named = absurd (omega arith)

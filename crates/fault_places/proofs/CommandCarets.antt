@@ -1,4 +1,4 @@
--- The caret of a command that is refused for a name, an instance or a partner, and what may stand there.
+-- The caret of a command that is refused for a name, an instance or a partner, and what may be there.
 use Rattle.std.proofs.Common.{◌≡◌, ℕ, ◌+◌, Bool, true, false, cond, not, ◌||◌, ◌&&◌, eqb, List, [], ◌∷◌, ◌++◌, length, Result, Ok, Err, refl, sym, ap, ◌∙◌, subst, arith, append-nil, append_assoc}
 use Rattle.std.specs.Prelude.{Option, None, Some, codes, bytes_eq, is_err, min}
 use Rattle.std.proofs.lemmas.Bool.{false≢true, not-false, and_parts, and_from}
@@ -19,7 +19,7 @@ use Rattle.texts.specs.Lines.{named, name_or_cause}
 use Rattle.texts.specs.declared.fault.Cause.{Cause}
 use Rattle.texts.specs.declared.fault.Cause.TheVariants as causes
 
--- ---- what may stand in a command
+-- ---- what may be in a command
 
 abbrev pub is_in_command : Want → Bool
 is_in_command wants.Actor = true
@@ -56,12 +56,12 @@ stays _ word h = absurd (false≢true h)
 
 -- ---- the first word that doesn't pass
 
--- the words behind others don't pass at their first one
+-- the first of the words after others doesn't pass
 abbrev pub IsBad : ℕ → List (List ℕ) → List (List ℕ) → Want → List (List ℕ) → Type 0
 IsBad n names front want [] = ⊥
 IsBad n names front want (word ∷ words) = is_good n names front want word ≡ false
 
--- the walk comes to the spot, at such a word
+-- the walk ends at the spot, at such a word
 pub record IsStop (n : ℕ) (names front : List (List ℕ)) (want : Want) (start : ℕ) (words : List (List ℕ)) (cause : Cause) (spot : Spot) : Type 0 where
   pub before : List (List ℕ)
   pub from : List (List ℕ)
@@ -73,13 +73,13 @@ pub record IsStop (n : ℕ) (names front : List (List ℕ)) (want : Want) (start
   pub leads : (more : List (List ℕ)) → passes n names front want (before ++ more) ≡ passes n names (front ++ before) spot.want more
   pub bad : IsBad n names (front ++ before) spot.want from
 
--- a search for a fault of this cause finds the word that doesn't pass, where each passes an earlier turn
+-- a search for a fault of this cause finds the word that doesn't pass, if each word passes the turn before
 pub record Finds (n low : ℕ) (names known_words line : List (List ℕ)) (cause : Cause) : Type 0 where
   pub right : (front : List (List ℕ)) (want : Want) (index : ℕ) (word : List ℕ) → is_in_command want ≡ true → is_good low names front want word ≡ true → is_wrong cause known_words line want index word ≡ false → is_good n names front want word ≡ true
   pub wrong : (front : List (List ℕ)) (want : Want) (index : ℕ) (word : List ℕ) (words : List (List ℕ)) → is_in_command want ≡ true → is_wrong cause known_words line want index word ≡ true → is_good n names front want word ≡ true
       → passes low names front want (word ∷ words) ≡ true → passes n names front want (word ∷ words) ≡ true
 
--- behind the first word
+-- after the first word
 behind_of : (n : ℕ) (names front : List (List ℕ)) (want after : Want) (word : List ℕ) (words : List (List ℕ)) → next want word ≡ Some after
     → passes n names front want (word ∷ words) ≡ (is_good n names front want word && passes n names (front ++ word ∷ []) after words)
 behind_of n names front want after word words e = ap (λ o. is_good n names front want word && behind_word o (λ behind. passes n names (front ++ word ∷ []) behind words)) e
@@ -241,7 +241,7 @@ finds_name names known_words line fault = record { right = right; wrong = wrong 
 
 -- ---- instances
 
--- the words behind the first one are those of the instances
+-- the words after the first one are those of the instances
 pub record AreKnown (names known_words : List (List ℕ)) : Type 0 where
   pub there : (word : List ℕ) → is_among word MAX_INSTANCES (behind_first known_words) ≡ true → is_past 2 (known_fault names word) ≡ true
   pub missing : (word : List ℕ) → is_among word MAX_INSTANCES (behind_first known_words) ≡ false → is_past 2 (known_fault names word) ≡ false

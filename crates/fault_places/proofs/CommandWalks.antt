@@ -1,4 +1,4 @@
--- A command's line by the turns of its checks: what passes those of one turn, word by word.
+-- A command's line by the turns of its checks: which words pass the checks of one turn.
 use Rattle.std.proofs.Common.{◌≡◌, ℕ, Bool, true, false, cond, not, ◌||◌, ◌&&◌, eqb, List, [], ◌∷◌, ◌++◌, length, Result, Ok, Err, refl, sym, ap, ◌∙◌}
 use Rattle.std.specs.Prelude.{Option, None, Some, codes, bytes_eq}
 use Rattle.std.specs.Cmp.Lexicographic.{bytes_decides}
@@ -26,7 +26,7 @@ use Rattle.texts.specs.Lines.{named, name_or_cause}
 use Rattle.texts.specs.declared.fault.Cause.{Cause}
 use Rattle.texts.specs.declared.fault.Cause.TheVariants as causes
 
--- ---- what passes
+-- ---- words that pass
 
 abbrev pub name_fault : List ℕ → Option Cause
 name_fault word = fault_of (name_or_cause word)
@@ -37,7 +37,7 @@ known_fault names word = fault_of (known_of names word)
 abbrev pub same_fault : List ℕ → List ℕ → Option Cause
 same_fault actor word = cond (bytes_eq word actor) (Some causes.ToItself) None
 
--- a word behind others passes the checks up to this turn
+-- a word after others passes the checks up to this turn
 abbrev pub is_good : ℕ → List (List ℕ) → List (List ℕ) → Want → List ℕ → Bool
 is_good n names front wants.Actor word = is_past n (name_fault word) && is_past n (known_fault names word)
 is_good n names front wants.SendTo word = is_past n (name_fault word) && (is_past n (known_fault names word) && is_past n (same_fault (first_of front) word))
@@ -45,7 +45,7 @@ is_good n names front wants.Partner word = is_past n (name_fault word) && (is_pa
 is_good n names front wants.Message word = is_past n (name_fault word)
 is_good n names front _ word = true
 
--- words behind others do, and their form is right
+-- words after others pass them, and have the right form
 abbrev pub passes : ℕ → List (List ℕ) → List (List ℕ) → Want → List (List ℕ) → Bool
 passes n names front want [] = is_end want
 passes n names front want (word ∷ words) = is_good n names front want word && behind_word (next want word) (λ behind. passes n names (front ++ word ∷ []) behind words)
@@ -56,7 +56,7 @@ pub data IsTurn : ℕ → Type 0 where
   second : IsTurn 2
   third : IsTurn 3
 
--- ---- one check after the other
+-- ---- one check after another
 
 past_then : {A B : Type 0} (n : ℕ) (r : Result A Cause) (f : A → Result B Cause) (p : Bool) → ((x : A) → r ≡ Ok x → is_past n (fault_of (f x)) ≡ p) → ((cause : Cause) → r ≡ Err cause → is_past n (Some cause) ≡ true → p ≡ true)
     → is_past n (fault_of (r >>= f)) ≡ (is_past n (fault_of r) && p)

@@ -1,4 +1,4 @@
--- The line that is found for an event is the one that writes it: a law about lists alone.
+-- The line that is found for an event is the line that has it: a law about lists alone.
 use Rattle.std.proofs.Common.{◌≡◌, ℕ, zero, suc, ◌+◌, ◌<◌, ◌≤◌, List, [], ◌∷◌, ◌++◌, length, get_or, take, drop, Some, refl, sym, ap, ◌∙◌, subst, inl, inr, arith, append_assoc, append-nil, take-append-drop, drop-cons, add-one}
 use Rattle.std.specs.Prelude.{slice_get}
 use Rattle.std.specs.List.{flat_map, AllByRecursion}
@@ -22,7 +22,7 @@ use Rattle.texts.proofs.Parts.{lines_again, end_again, lines_append, end_ended}
 use Rattle.texts.specs.Instances.{name_at}
 use Rattle.texts.specs.Lines.{Lacks, lines_of, ended}
 
--- ---- what is spelled
+-- ---- lines and events that have a text
 
 spelled_lines : (names : List (List ℕ)) (lines : List LineView) → HasText names lines → AllByRecursion (SpelledLine names) lines
 spelled_lines names lines h = recursion_from_All (SpelledLine names) lines (λ i d below. spelled_line i d below)

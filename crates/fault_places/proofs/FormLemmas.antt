@@ -22,7 +22,7 @@ use Rattle.texts.specs.Lines.{named, name_or_cause, is_word}
 use Rattle.texts.specs.declared.fault.Cause.{Cause}
 use Rattle.texts.specs.declared.fault.Cause.TheVariants as causes
 
--- ---- what isn't refused for its form
+-- ---- lines that aren't refused for their form
 
 past_bind : {A B : Type 0} (r : Result A Cause) (f : A → Result B Cause) → is_past 0 (fault_of r) ≡ true → ((x : A) → is_past 0 (fault_of (f x)) ≡ true) → is_past 0 (fault_of (r >>= f)) ≡ true
 past_bind (Ok x) f h g = g x
@@ -166,7 +166,7 @@ capacity_form (keyword ∷ digits ∷ word ∷ words) = by (bytes_eq keyword (co
 
 -- ---- commands
 
--- what an instance does, by its word
+-- the action of an instance, by its word
 pub data IsVerb : List ℕ → Type 0 where
   sends : IsVerb (codes "send")
   receives : IsVerb (codes "receive")
@@ -201,7 +201,7 @@ two_words names a opens = past_alone names a Open
 two_words names a shuts = past_alone names a Shut
 two_words names a (other p q r s t u) = rw (p, q, r, s, t, u) refl
 
--- behind the verb, three words
+-- the form of three words, after the first one
 abbrev form_three : List ℕ → List ℕ → Bool
 form_three k b = behind_word (begins_command k) (λ w. behind_word (next w b) (λ last. is_end last))
 

@@ -1,4 +1,4 @@
--- Blocks of a chart's text: their lines, and how far the search for an event's line comes along them.
+-- Blocks of a chart's text: their lines, and how far the search for an event's line gets in them.
 use Rattle.std.proofs.Common.{◌≡◌, ℕ, ◌+◌, ◌<◌, Bool, true, false, cond, ◌&&◌, ◌||◌, eqb, List, [], ◌∷◌, ◌++◌, length, refl, sym, ap, ◌∙◌, subst, arith, append_assoc, append-nil, length-append, add-zero}
 use Rattle.std.specs.Prelude.{codes, bytes_eq}
 use Rattle.std.specs.List.{flat_map, join_with_byte, AllByRecursion}
@@ -23,8 +23,8 @@ use Rattle.texts.proofs.Spacing.{IsPlain, plain_name, plain_keyword, spaced_lack
 use Rattle.texts.specs.Instances.{name_at}
 use Rattle.texts.specs.Lines.{Lacks, ended, words_of}
 
--- a text of whole lines, along which the search for the event x of the instance i comes from so many heads and events to
--- others
+-- a text of whole lines: the search for the event x of the instance i enters it with h first lines of instances and e
+-- events, and leaves it with h1 and e1
 pub record Block (i x h e : ℕ) (text : List ℕ) (h1 e1 : ℕ) : Type 0 where
   pub lines : List (List ℕ)
   pub is : text ≡ flat_map ended lines
@@ -64,7 +64,7 @@ event_skip : (i x h e number : ℕ) (line : List ℕ) (rest : List (List ℕ)) �
     → event_from i x h e number (line ∷ rest) ≡ event_from i x h (e + 1) (number + 1) rest
 event_skip i x h e number line rest p q r = rw (p, q, r) refl
 
--- the line that is looked for
+-- the line that is searched for
 pub event_found : (i x e number : ℕ) (line : List ℕ) (rest : List (List ℕ)) → is_head line ≡ false → is_event line ≡ true → e + 1 ≡ x → event_from i x i e number (line ∷ rest) ≡ number
 event_found i x e number line rest p q r = rw (p, q, eq-eqb i i refl, eq-eqb (e + 1) x r) refl
 
@@ -148,7 +148,7 @@ event_lines_block : (names : List (List ℕ)) (m : Event) (i x h e r : ℕ) → 
 unfolding event_lines_text
 event_lines_block names m i x h e r s other = block_then (ending_block i x h e r (region_of m)) (block_then (beginning_block i x h e r (region_of m)) (event_block names m i x h e s other))
 
--- events of the instance before the one that is looked for
+-- the events of the instance before the one that is searched for
 pub before_block : (names : List (List ℕ)) (i x e n r : ℕ) (events : List Event) (m : Event) → AllByRecursion (Spelled names) events → n ≡ e + length events → n < x → Block i x i e (events_before names r events m) i n
 before_block names i x e n r [] m s many short =
     let same : e ≡ n = omega arith in
@@ -199,7 +199,7 @@ line_block names i x h e line s other =
     let events = events_block names i x (h + 1) 0 0 line.events s.events other in
     (events.0, block_then (head_block names i x h e line.instance s.own) (block_then events.1 (foot_block i x (h + 1) events.0)))
 
--- other instances before the one that is looked for
+-- the instances before the one that is searched for
 pub lines_block : (names : List (List ℕ)) (i x h e n : ℕ) (lines : List LineView) → AllByRecursion (SpelledLine names) lines → n ≡ h + length lines → n < i → (k : ℕ) × Block i x h e (flat_map (line_text names) lines) n k
 lines_block names i x h e n [] s many short =
     let same : h ≡ n = omega arith in

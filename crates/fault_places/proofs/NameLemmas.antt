@@ -1,4 +1,4 @@
--- The instances of a chain's events are the chart's.
+-- The instances of a chain's events are instances of the chart.
 use Rattle.std.proofs.Common.{◌≡◌, ℕ, zero, suc, ◌≤◌, List, [], ◌∷◌, length, subst, arith}
 use Rattle.std.proofs.lemmas.Option.{none-some, same_Some}
 use Rattle.closure.specs.Chain.Chains.{IsStepBy, Lead}
@@ -13,11 +13,11 @@ use Rattle.closure.specs.Faults.{place_of}
 use Rattle.closure.proofs.ReadLemmas.{instance_within}
 use Rattle.fault_places.specs.NamedCycles.{HasNames, HaveNames}
 
--- an event's instance is one of them
+-- an event's instance is one of the chart's
 event_within : (lines : List LineView) (e : Place) → IsEvent (chart_lines lines) e → e.instance ≤ length lines
 event_within lines e event = let w = instance_within lines e event in omega (arith, w.1, w.2)
 
--- those of a step
+-- the instances of a step's events are
 step_within : (lines : List LineView) (rule : Rule) (e f : Place) → IsStepBy (chart_lines lines) rule e f → (e.instance ≤ length lines) × (f.instance ≤ length lines)
 step_within lines Message e f belongs = (
   event_within lines e (IsEvent-from_passes (chart_lines lines) (is_send_to f.instance) e belongs.sent),
@@ -30,7 +30,7 @@ step_within lines SameSender e f (above, (q, from, to)) =
     let low = event_within lines f (IsEvent-from_passes (chart_lines lines) (is_receive_from q) f to) in
     (omega (arith, above.line, low), low)
 
--- those of all links
+-- the instances of all links are
 pub links_have_names : (lines : List LineView) (names : List (List ℕ)) (e f : Place) (links : List Link) → length lines ≡ length names → Lead (chart_lines lines) e f links → HaveNames names links
 links_have_names lines names e f [] whole lead i link there = absurd (none-some link there)
 links_have_names lines names e f (first ∷ links) whole (is, step, rest) zero link there =

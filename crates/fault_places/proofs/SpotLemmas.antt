@@ -1,4 +1,4 @@
--- One word of a line more: among which words it is, and where the spot is from there on.
+-- One more word of a line: whether it is among words, and where the spot is from there on.
 use Rattle.std.proofs.Common.{◌≡◌, ◌<◌, ◌+◌, ◌-◌, ℕ, zero, suc, true, false, List, [], ◌∷◌, length, refl, arith}
 use Rattle.std.specs.Prelude.{Option, None, Some, MatchOption, bytes_eq, min}
 use Rattle.fault_places.specs.Spots.{is_among, is_wrong, inner, spot_from}

@@ -1,4 +1,4 @@
--- One line of a text more: where the next one stands.
+-- One more line of a text: what may begin the next one.
 use Rattle.std.proofs.Common.{◌≡◌, ◌<◌, ◌≤◌, ◌-◌, ℕ, zero, suc, List, ◌∷◌, take, drop, refl, arith}
 use Rattle.fault_places.specs.Standings.{want_behind, line_at}
 use Rattle.fault_places.specs.declared.want.Want.{Want}

@@ -1,4 +1,4 @@
--- Along the words of a line: where its form is faulty, and what goes on from there.
+-- Along the words of a line: where its form has a fault, and how a line may go on there.
 use Rattle.std.proofs.Common.{◌≡◌, ℕ, ◌+◌, ◌≤◌, Bool, true, false, cond, ◌||◌, List, [], ◌∷◌, ◌++◌, length, refl, sym, ap, ◌∙◌, subst, arith}
 use Rattle.std.specs.Prelude.{Option, None, Some, codes, bytes_eq}
 use Rattle.std.specs.List.{AllByRecursion}
@@ -14,9 +14,9 @@ use Rattle.texts.proofs.Parts.{lacks_if}
 use Rattle.texts.specs.Lines.{Lacks}
 use Rattle.texts.specs.declared.fault.Cause.TheVariants as causes
 
--- ---- what may stand in a schedule
+-- ---- what may be in a schedule
 
--- it may stand in a schedule's line
+-- it may be in a schedule's line
 abbrev pub is_of_schedule : Want → Bool
 is_of_schedule wants.Instances = true
 is_of_schedule wants.FirstName = true
@@ -31,7 +31,7 @@ is_of_schedule wants.Message = true
 is_of_schedule wants.LineEnd = true
 is_of_schedule _ = false
 
--- so may what comes next
+-- what may be next may be in one too
 abbrev Stays : Option Want → Type 0
 Stays None = Unit {0}
 Stays (Some want) = is_of_schedule want ≡ true
@@ -79,9 +79,9 @@ stays wants.ChartEnd word h = absurd cc
 pub next_stays : (want : Want) (word : List ℕ) (after : Want) → is_of_schedule want ≡ true → next want word ≡ Some after → is_of_schedule after ≡ true
 next_stays want word after h e = subst Stays e (stays want word h)
 
--- ---- where the form is faulty
+-- ---- where the form has a fault
 
--- a place behind words, counted from a place of the line
+-- a place after words, counted from a place of the line
 abbrev pub IsPlaceFrom : ℕ → ℕ → List (List ℕ) → List (List ℕ) → Type 0
 IsPlaceFrom start place before [] = place + 1 ≡ start + width before
 IsPlaceFrom start place before (word ∷ words) = place ≡ start + width before
@@ -90,12 +90,12 @@ pub place_before : (start place : ℕ) (word : List ℕ) (before from : List (Li
 place_before start place word before [] h = omega arith
 place_before start place word before (next ∷ from) h = omega arith
 
--- nothing may end the line here; or the first of these words can't stand here
+-- the line may not end here, or the first of these words can't be here
 abbrev pub IsFaulty : Want → List (List ℕ) → Type 0
 IsFaulty want [] = is_end want ≡ false
 IsFaulty want (word ∷ words) = next want word ≡ None
 
--- the walk comes to the spot, at which the form is faulty
+-- the walk ends at the spot, where the form has a fault
 pub record IsFound (want : Want) (start : ℕ) (words : List (List ℕ)) (spot : Spot) : Type 0 where
   pub before : List (List ℕ)
   pub from : List (List ℕ)
@@ -148,7 +148,7 @@ found_form known line want index start [] kind form some = absurd (omega arith)
 found_form known line want index start (word ∷ others) kind form some =
     found_at known line want index start word others (next want word) kind refl form (λ after k g s. found_form known line after (index + 1) (start + (length word + 1)) others k g s)
 
--- ---- what goes on
+-- ---- how a line may go on
 
 -- words with which a line may go on
 abbrev pub filler : Want → List (List ℕ)
@@ -163,7 +163,7 @@ filler wants.Partner = codes "a" ∷ []
 filler wants.Message = codes "a" ∷ []
 filler _ = []
 
--- they are words, and do
+-- they are words, and the line may go on with them
 pub fills : (want : Want) → is_of_schedule want ≡ true → (has_form want (filler want) ≡ true) × AllByRecursion (Lacks 32) (filler want)
 unfolding next begins_command is_number
 fills wants.Instances h = (refl, (lacks_if 32 (codes "instances") refl, (lacks_if 32 (codes "a") refl, tt)))

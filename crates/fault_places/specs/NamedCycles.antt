@@ -1,4 +1,4 @@
--- What is told of a cycle: its steps, by the names of the instances and the lines of the chart's text.
+-- The steps of a cycle, by the names of the instances and the lines of the chart's text.
 use Rattle.std.specs.Prelude.{◌≡◌, ℕ, ◌≤◌, List, ◌++◌, length, map, codes, decimal, Some, slice_get}
 use Rattle.closure.specs.declared.chain.link.Link.{Link}
 use Rattle.closure.specs.Chain.Rules.{rule_text}
@@ -11,11 +11,11 @@ use Rattle.texts.specs.Lines.{lines_of}
 use Rattle.fault_places.specs.declared.step.Step.{Step}
 use Rattle.fault_places.specs.declared.step.NamedEvent.{NamedEvent}
 
--- an event by the name of its instance
+-- an event, by the name of its instance
 abbrev pub named_event : List (List ℕ) → EventNo → NamedEvent
 named_event names event = record { name = name_at names event.instance; index = event.index }
 
--- a link, with the number of the line at which its earlier event stands
+-- a link, with the number of the line that has its earlier event
 abbrev pub step_of : List ℕ → List (List ℕ) → Link → Step
 step_of text names link = record {
   line = event_from link.earlier.instance link.earlier.index 0 0 1 (lines_of text);
@@ -31,7 +31,7 @@ HasNames names link = (link.earlier.instance ≤ length names) × (link.later.in
 abbrev pub HaveNames : List (List ℕ) → List Link → Type 0
 HaveNames names links = (i : ℕ) (link : Link) → slice_get links i ≡ Some link → HasNames names link
 
--- the steps are those of a shortest cycle of the chart of this text, from its least event on
+-- the steps are those of a shortest cycle of the chart with this text, from its least event on
 abbrev pub AreStepsOf : List ℕ → List (List ℕ) → List LineView → List Step → Type 0
 AreStepsOf text names lines steps = (links : List Link) × IsShortestCycle (chart_lines lines) links
     × (steps ≡ map (step_of text names) links)

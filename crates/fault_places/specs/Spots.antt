@@ -1,4 +1,4 @@
--- Where in a line its fault is, by the fault's cause, and what may stand there.
+-- Where in a line its fault is, by the cause of the fault, and what may be there.
 use Rattle.std.specs.Prelude.{ℕ, zero, suc, ◌+◌, ◌-◌, ◌==◌, Bool, true, false, not, ◌||◌, ◌&&◌, List, [], ◌∷◌, length, min, codes, bytes_eq, is_err, unwrap_or, Option, None, Some, if◌then◌else◌}
 use Rattle.chart.specs.declared.instance.TheConstants.{MAX_INSTANCES}
 use Rattle.chart.specs.declared.name.NameError.TheVariants.{BadByte}
@@ -19,17 +19,17 @@ abbrev pub behind_first : List (List ℕ) → List (List ℕ)
 behind_first [] = []
 behind_first (word ∷ words) = words
 
--- the word is among the first so many
+-- the word is among the first n
 abbrev pub is_among : List ℕ → ℕ → List (List ℕ) → Bool
 is_among word zero words = false
 is_among word (suc n) [] = false
 is_among word (suc n) (other ∷ words) = bytes_eq word other || is_among word n words
 
--- what stands before the semicolon of NAME;, or all of another word
+-- the part before the semicolon of NAME;, or the whole of another word
 unfoldable pub name_in : List ℕ → List ℕ
 name_in word = unwrap_or (name_part word) word
 
--- what of a word is the name that is wanted: the last word of a chart's line has a semicolon behind it
+-- the part of a word that has to be a name: the last word of a chart's line has a semicolon after it
 abbrev pub named_by : Want → List ℕ → List ℕ
 named_by wants.InstanceName word = name_in word
 named_by wants.Receiver word = name_in word
@@ -51,7 +51,7 @@ is_name wants.Received = true
 is_name wants.Sender = true
 is_name _ = false
 
--- the instance of this name isn't among those of a schedule's first line; in a chart it's the partner
+-- no instance of a schedule's first line has this name; in a chart's line the partner is the unknown instance
 unfoldable pub is_unknown : List (List ℕ) → Want → List ℕ → Bool
 is_unknown known wants.Actor word = not (is_among word MAX_INSTANCES (behind_first known))
 is_unknown known wants.SendTo word = not (is_among word MAX_INSTANCES (behind_first known))
@@ -60,7 +60,7 @@ is_unknown known wants.Receiver word = true
 is_unknown known wants.Sender word = true
 is_unknown known _ word = false
 
--- the partner of the instance that acts is wanted
+-- the partner of the acting instance is wanted
 abbrev pub is_partner : Want → Bool
 is_partner wants.SendTo = true
 is_partner wants.Partner = true
@@ -68,25 +68,25 @@ is_partner wants.Receiver = true
 is_partner wants.Sender = true
 is_partner _ = false
 
--- the instance has the name of an earlier one of its line; in a chart it's the one that begins
+-- an earlier instance of the line has this name; in a chart's line the instance that begins has it again
 unfoldable pub is_again : List (List ℕ) → Want → ℕ → List ℕ → Bool
 is_again line wants.OtherName index word = is_among word (index - 1) (behind_first line)
 is_again line wants.InstanceName index word = true
 is_again line _ index word = false
 
--- it is the instance that is one too many, or the end of a chart that has too few
+-- it is the instance that is one too many, or the end of a chart with too few
 unfoldable pub is_too_many : Want → ℕ → List ℕ → Bool
 is_too_many wants.OtherName index word = index == MAX_INSTANCES + 1
 is_too_many wants.InstanceName index word = true
 is_too_many wants.InstanceOrEnd index word = bytes_eq word (codes "endmsc;")
 is_too_many _ index word = false
 
--- how many slots a lane has is wanted
+-- the number of slots of a lane is wanted
 abbrev pub is_slots : Want → Bool
 is_slots wants.Slots = true
 is_slots _ = false
 
--- the word of this number in a line, from 0, has a fault of this cause
+-- the word with this number in a line, from 0, has a fault of this cause
 unfoldable pub is_wrong : Cause → List (List ℕ) → List (List ℕ) → Want → ℕ → List ℕ → Bool
 is_wrong (causes.Name fault) known line want index word = is_name want && is_err (name_or_cause (named_by want word))
 is_wrong causes.UnknownInstance known line want index word = is_unknown known want word
@@ -97,19 +97,19 @@ is_wrong causes.Capacity known line want index word = is_slots want
 is_wrong causes.LineFull known line want index word = true
 is_wrong causes.Syntax known line want index word = false
 
--- how many bytes of a word stand before its fault
+-- the number of bytes of a word before its fault
 abbrev pub inner : Cause → ℕ
 inner (causes.Name (BadByte place)) = place - 1
 inner _ = 0
 
--- where a word stands that may stand there: what comes behind it, at its end where the line ends
+-- the spot at a word that can't be where it is, or at the line's end, or that of the next words
 abbrev pub passed : ℕ → ℕ → Want → Option Want → List (List ℕ) → (Want → Spot) → Spot
 passed place width want None words go_on = record { place = place; want = want }
 passed place width want (Some behind) [] go_on = record { place = place + width; want = behind }
 passed place width want (Some behind) (word ∷ words) go_on = go_on behind
 
--- The spot among the words from the one of this number on, which stands at this place. It is the first word that has the
--- fault, or that can't stand where it does; or the line's end.
+-- The spot among these words. The first of them has this number and this place. The spot is the first word that has the
+-- fault, or that can't be where it is, or the line's end.
 abbrev pub spot_from : Cause → List (List ℕ) → List (List ℕ) → Want → ℕ → ℕ → List (List ℕ) → Spot
 spot_from cause known line want index place [] = record { place = place; want = want }
 spot_from cause known line want index place (word ∷ words) =
@@ -118,6 +118,6 @@ spot_from cause known line want index place (word ∷ words) =
     else passed place (length word) want (next want word) words
     (λ behind. spot_from cause known line behind (index + 1) (place + (length word + 1)) words)
 
--- the spot of a fault in a line at whose begin this may stand
+-- the spot of a fault in a line that may begin with this
 unfoldable pub spot_of : Cause → List ℕ → List ℕ → Want → Spot
 spot_of cause known line begin = spot_from cause (words_of known) (words_of line) begin 0 0 (words_of line)

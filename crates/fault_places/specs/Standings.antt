@@ -1,4 +1,4 @@
--- Where each line of a text stands.
+-- What may begin each line of a chart's text, and which line has an event.
 use Rattle.std.specs.Prelude.{ℕ, ◌+◌, ◌==◌, ◌||◌, ◌&&◌, Bool, true, false, List, [], ◌∷◌, codes, bytes_eq, if◌then◌else◌}
 use Rattle.fault_places.specs.Spots.{first_of}
 use Rattle.fault_places.specs.declared.want.Want.{Want}
@@ -10,7 +10,7 @@ abbrev pub is_opened : Want → Bool
 is_opened wants.OpenedEvent = true
 is_opened _ = false
 
--- what may stand behind a line that begins with this word
+-- what may begin the line after one that begins with this word
 unfoldable pub behind : Want → List ℕ → Want
 behind want word =
     if bytes_eq word (codes "msc") || bytes_eq word (codes "endinstance;") then wants.InstanceOrEnd else (
@@ -19,16 +19,16 @@ behind want word =
     if bytes_eq word (codes "endmsc;") then wants.ChartEnd else (
     if bytes_eq word (codes "in") && is_opened want then wants.HeldEvent else want))))
 
--- what may stand behind a line of a chart
+-- what may begin the line after a line of a chart
 abbrev pub want_behind : Want → List ℕ → Want
 want_behind want line = behind want (first_of (words_of line))
 
--- what may stand behind some lines of a chart
+-- what may begin the line after some lines of a chart
 abbrev pub line_at : Want → List (List ℕ) → Want
 line_at want [] = want
 line_at want (line ∷ lines) = line_at (want_behind want line) lines
 
--- the first line, or what follows the last line feed
+-- the first line, or the text after the last line feed
 abbrev pub first_or : List ℕ → List (List ℕ) → List ℕ
 first_or end [] = end
 first_or end (line ∷ lines) = line
@@ -39,8 +39,9 @@ is_head line = bytes_eq (first_of (words_of line)) (codes "instance")
 abbrev pub is_event : List ℕ → Bool
 is_event line = bytes_eq (first_of (words_of line)) (codes "in") || bytes_eq (first_of (words_of line)) (codes "out")
 
--- The number of the line of an event, the index-th of the instance-th line: so many heads of instances, and so many
--- events behind the last of them, stand above these lines, the first of which has this number.
+-- The number of the line that has an event, the index-th on the line of the instance-th instance. The first of these
+-- lines has this number. Above it are this number of first lines of instances, and after the last of these this number
+-- of events.
 abbrev pub event_from : ℕ → ℕ → ℕ → ℕ → ℕ → List (List ℕ) → ℕ
 event_from instance index heads events number [] = number
 event_from instance index heads events number (line ∷ lines) =

@@ -1,4 +1,4 @@
--- What may stand at each place of a line, word by word: of a schedule's text, and of a chart's (this project's profile of
+-- What may be at each place of a line of a schedule's text and of a chart's, word by word (this project's profile of
 -- the instance-oriented text of ITU-T Z.120).
 use Rattle.std.specs.Prelude.{ℕ, Bool, true, false, ◌||◌, List, codes, bytes_eq, Option, None, Some, is_some, if◌then◌else◌}
 use Rattle.fault_places.specs.declared.want.Want.{Want}
@@ -7,36 +7,36 @@ use Rattle.msc_text.specs.Reader.Steps.{name_part, is_plain}
 use Rattle.texts.specs.Lines.{is_word}
 use Rattle.schedule.specs.FirstLines.{is_number}
 
--- what comes next, if the word may stand where it does
+-- what may be next, if the word may be where it is
 abbrev pub on : Bool → Want → Option Want
 on true next = Some next
 on false next = None
 
--- behind the name of the instance that acts
+-- after the word for an action
 unfoldable pub begins_command : List ℕ → Option Want
 begins_command word =
     if bytes_eq word (codes "send") then Some wants.SendTo else (
     if bytes_eq word (codes "receive") || bytes_eq word (codes "close") then Some wants.Partner else (
     on (bytes_eq word (codes "any") || (bytes_eq word (codes "concurrent") || bytes_eq word (codes "endconcurrent"))) wants.LineEnd))
 
--- behind the first word of a line inside an instance, in no coregion
+-- after the first word of a line inside an instance, if no coregion is open
 unfoldable pub begins_out : List ℕ → Option Want
 begins_out word =
     if bytes_eq word (codes "out") then Some wants.Sent else (
     if bytes_eq word (codes "in") then Some wants.Received else (
     on (bytes_eq word (codes "concurrent;") || bytes_eq word (codes "endinstance;")) wants.LineEnd))
 
--- in a coregion that has a receive
+-- the same in a coregion that has a receive
 unfoldable pub begins_in : List ℕ → Option Want
 begins_in word =
     if bytes_eq word (codes "in") then Some wants.Received else on (bytes_eq word (codes "endconcurrent;")) wants.LineEnd
 
--- behind the first word of a line outside of an instance
+-- after the first word of a line outside of an instance
 unfoldable pub named_on : List ℕ → Option Want
 named_on word =
     if bytes_eq word (codes "instance") then Some wants.InstanceName else on (bytes_eq word (codes "endmsc;")) wants.LineEnd
 
--- behind a word of a chart's line
+-- after a word of a chart's line
 unfoldable pub chart_next : Want → List ℕ → Option Want
 chart_next wants.Msc word = on (bytes_eq word (codes "msc")) wants.ChartName
 chart_next wants.ChartName word = on (bytes_eq word (codes "run;")) wants.LineEnd
@@ -53,7 +53,7 @@ chart_next wants.Receiver word = on (is_some (name_part word)) wants.LineEnd
 chart_next wants.Sender word = on (is_some (name_part word)) wants.LineEnd
 chart_next _ word = None
 
--- what may stand behind a word; none, where the word itself can't stand there
+-- what may be after a word, or none if the word itself can't be there
 unfoldable pub next : Want → List ℕ → Option Want
 next wants.Instances word = on (bytes_eq word (codes "instances")) wants.FirstName
 next wants.FirstName word = on (is_word word) wants.OtherName

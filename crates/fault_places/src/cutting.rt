@@ -5,7 +5,7 @@ ghost use Rattle.texts.specs.Lines.{words_of};
 
 use crate::want::is;
 
-/// The place of the first space.
+/// The index of the first space, from 0.
 fn place_of_space(line: &[u8]) -> Option<usize>
     ensures value { result ≡ position (λ b. b == 32) line.now }
     ensures within { IfSome result (λ place. place < length line.now) }
@@ -13,7 +13,7 @@ fn place_of_space(line: &[u8]) -> Option<usize>
     line.iter().position(|byte| *byte == b' ')
 }
 
-/// The first word of a line, and what stands behind the space that ends it, if one does.
+/// The first word of a line, and the bytes after the space that ends it, if there is one.
 pub(crate) fn cut_word(line: &[u8]) -> (&[u8], Option<&[u8]>)
     ensures words { MatchOption result.1
         (words_of line.now ≡ result.0.now ∷ [])
@@ -38,7 +38,7 @@ pub(crate) fn first_word(line: &[u8]) -> &[u8]
     }
 }
 
-/// Whether the word is among the first so many of these.
+/// Whether the word is among the first `count` of these words.
 fn is_among(word: &[u8], words: &[u8], count: usize) -> bool
     ensures { result ≡ is_among word.now count (words_of words.now) }
 {
@@ -58,7 +58,7 @@ fn is_among(word: &[u8], words: &[u8], count: usize) -> bool
     false
 }
 
-/// Whether the word is among the first so many behind the first word of a line.
+/// Whether the word is among the first `count` words after the first word of a line.
 pub(crate) fn is_named(word: &[u8], line: &[u8], count: usize) -> bool
     ensures { result ≡ is_among word.now count (behind_first (words_of line.now)) }
 {

@@ -1,11 +1,13 @@
-//! Where the fault of a text is: in which line and where in it, and what may stand there; or step by step, where a
-//! chart's events come before each other in a cycle.
+//! Places in texts: where a line has its fault and what may be there, which line has an event, and the steps of a cycle
+//! of events.
 //!
-//! What is promised: what may stand at each place of a line is a definition (`specs/Wants`), and so is the place of
-//! a fault by its cause (`specs/Spots`): the first word that can't stand where it does, or that has the fault.
-//! Nothing of this takes memory. The steps of a cycle are those of a shortest one of the chart, from its least
-//! event on ([`steps_of`]), and a step's text is a function of it ([`add_step`]). Memory is the only refusal of the
-//! first, and F24 of the second.
+//! Promises:
+//!
+//! - What may be at each place of a line is a definition (`specs/Wants`), and so is the place of a fault by its cause
+//!   (`specs/Spots`): the first word that can't be where it is, or that has the fault. None of this takes memory.
+//! - The steps of a cycle are those of a shortest cycle of the chart, from its least event on ([`steps_of`]). F6 is the
+//!   only refusal.
+//! - The text of a step is a function of the step ([`add_step`]). F24 is the only refusal.
 #![tactic(auto)]
 
 mod cutting;

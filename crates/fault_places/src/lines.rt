@@ -1,4 +1,4 @@
-//! The lines of a text, and where each stands.
+//! The lines of a text, by their numbers.
 ghost use Rattle.std.specs.Prelude.{◌≡◌, ◌-◌, ◌≤◌, length, take, drop};
 ghost use Rattle.fault_places.specs.Standings.{behind, want_behind, line_at, first_or, event_from};
 ghost use Rattle.fault_places.specs.declared.want.Want.TheVariants.{Msc};
@@ -8,14 +8,14 @@ use crate::cutting::first_word;
 use crate::want::{Want, is};
 use texts::next_line;
 
-/// What may stand at the begin of a chart's line, and the text from this line on.
+/// What may be at the beginning of a chart's line, and the text from this line on.
 #[derive(Clone, Copy, Debug)]
 pub struct Standing<'a> {
     pub want: Want,
     pub text: &'a [u8],
 }
 
-/// What may stand behind a line that begins with this word.
+/// What may begin the line after one that begins with this word.
 #[tactic(auto, unfolding(crate::specs::Standings::behind))]
 fn behind(want: Want, word: &[u8]) -> Want
     ensures { result ≡ behind want word.now }
@@ -38,15 +38,15 @@ fn behind(want: Want, word: &[u8]) -> Want
     want
 }
 
-/// What may stand behind a line of a chart.
+/// What may begin the line after this line of a chart.
 fn want_behind(want: Want, line: &[u8]) -> Want
     ensures { result ≡ want_behind want line.now }
 {
     behind(want, first_word(line))
 }
 
-/// Where the line of this number stands, from 1, in a chart's text. Of any text it gives the text from this line on, or
-/// what follows the last line feed where there are fewer lines.
+/// The text from the line with this number on, from 1, and what may begin this line of a chart. If the text has fewer
+/// lines, it is the text after the last line feed.
 pub fn standing_at(text: &[u8], number: u64) -> Standing<'_>
     ensures want { result.want ≡ line_at Msc (take (number - 1) (lines_of text.now)) }
     ensures lines { lines_of result.text.now ≡ drop (number - 1) (lines_of text.now) }
@@ -66,7 +66,7 @@ pub fn standing_at(text: &[u8], number: u64) -> Standing<'_>
     Standing { want, text: rest }
 }
 
-/// The first line of a text, without its line feed; all of it where there is none.
+/// The first line of a text, without its line feed, or the whole text if it has no line feed.
 pub fn line_from(text: &[u8]) -> &[u8]
     ensures { result.now ≡ first_or (end_of text.now) (lines_of text.now) }
 {
@@ -76,7 +76,7 @@ pub fn line_from(text: &[u8]) -> &[u8]
     }
 }
 
-/// How many lines of a text a line feed ends.
+/// The number of line feeds in a text.
 pub fn count_of_lines(text: &[u8]) -> u64
     ensures lines { result ≡ length (lines_of text.now) }
     ensures within { result ≤ length text.now }
@@ -90,8 +90,8 @@ pub fn count_of_lines(text: &[u8]) -> u64
     count
 }
 
-/// The number of the line of an event in a chart's text, from 1: of the event with this number on the line of the
-/// instance with this number. It is that of the line behind the last one where there is no such event.
+/// The number of the line that has an event in a chart's text, from 1. The event has the number `index` on the line of
+/// the instance with the number `instance`. If there is no such event, it is one more than the number of lines.
 pub fn line_of_event(text: &[u8], instance: usize, index: u32) -> u64
     ensures { result ≡ event_from instance index 0 0 1 (lines_of text.now) }
 {

@@ -1,4 +1,4 @@
-//! Words that have a form: names with a semicolon, and numbers.
+//! Words of a form: names with a semicolon, and numbers.
 ghost use Rattle.std.specs.Prelude.{◌≡◌, ◌<◌, length, position, is_some, IfSome};
 ghost use Rattle.std.specs.Char.{is_ascii_digit};
 ghost use Rattle.std.specs.List.{list_all};
@@ -12,7 +12,7 @@ fn is_semicolon(byte: u8) -> bool
     byte == b';'
 }
 
-/// The first semicolon's index, from 0.
+/// The index of the first semicolon, from 0.
 fn index_of_semicolon(word: &[u8]) -> Option<usize>
     ensures value { result ≡ position is_semicolon word.now }
     ensures within { IfSome result (λ index. index < length word.now) }
@@ -20,7 +20,7 @@ fn index_of_semicolon(word: &[u8]) -> Option<usize>
     word.iter().position(|byte| is_semicolon(*byte))
 }
 
-/// Whether the word is `NAME;`: the semicolon is its last byte and its only one, and not the first.
+/// Whether the word is `NAME;`: the semicolon is its last byte and its only semicolon, and not its first byte.
 #[tactic(auto, unfolding(msc_text::specs::Reader::Steps::name_part))]
 pub(crate) fn has_name_part(word: &[u8]) -> bool
     ensures { result ≡ is_some (name_part word.now) }
@@ -31,7 +31,7 @@ pub(crate) fn has_name_part(word: &[u8]) -> bool
     }
 }
 
-/// What stands before the semicolon of `NAME;`, or all of another word.
+/// The part before the semicolon of `NAME;`, or the whole of another word.
 #[tactic(auto, unfolding(msc_text::specs::Reader::Steps::name_part, crate::specs::Spots::name_in))]
 pub(crate) fn name_in(word: &[u8]) -> &[u8]
     ensures { result.now ≡ name_in word.now }
@@ -59,7 +59,7 @@ fn has_others_alone(word: &[u8]) -> bool
     word.iter().all(|byte| is_other(*byte))
 }
 
-/// Whether the word has a byte at least, and no semicolon.
+/// Whether the word has one byte or more, and no semicolon.
 #[tactic(auto, unfolding(msc_text::specs::Reader::Steps::is_plain))]
 pub(crate) fn is_plain(word: &[u8]) -> bool
     ensures { result ≡ is_plain word.now }
@@ -73,7 +73,7 @@ fn are_digits(bytes: &[u8]) -> bool
     bytes.iter().all(|byte| byte.is_ascii_digit())
 }
 
-/// Whether the word is a number in decimal, with no zero before it.
+/// Whether the word is a decimal number without leading zeros.
 #[tactic(auto, unfolding(schedule::specs::FirstLines::is_number))]
 pub(crate) fn is_number(word: &[u8]) -> bool
     ensures { result ≡ is_number word.now }

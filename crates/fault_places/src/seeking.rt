@@ -1,4 +1,4 @@
-//! Whether a word has a fault that is looked for.
+//! Whether a word has a fault of a given cause.
 ghost use Rattle.std.specs.Prelude.{◌≡◌, is_err};
 ghost use Rattle.fault_places.specs.Spots.{is_name, is_unknown, is_partner, is_again, is_too_many, is_wrong, named_by, inner};
 ghost use Rattle.texts.specs.Lines.{words_of, name_or_cause};
@@ -9,7 +9,7 @@ use crate::want::{Want, is};
 use chart::{MAX_INSTANCES, NameError};
 use texts::Cause;
 
-/// Whether a name is wanted.
+/// Whether a name is wanted there.
 fn is_name(want: Want) -> bool
     ensures { result ≡ is_name want }
 {
@@ -29,7 +29,7 @@ fn is_name(want: Want) -> bool
     }
 }
 
-/// What of a word is the name that is wanted: the last word of a chart's line has a semicolon behind it.
+/// The part of a word that has to be a name. The last word of a chart's line has a semicolon after it.
 fn named_by(want: Want, word: &[u8]) -> &[u8]
     ensures { result.now ≡ named_by want word.now }
 {
@@ -46,7 +46,8 @@ fn is_no_name(word: &[u8]) -> bool
     texts::name_in(word).is_err()
 }
 
-/// Whether the instance of this name isn't among those of a schedule's first line. In a chart it's the partner.
+/// Whether a name is that of no instance. A schedule's first line has the names of its instances. In a chart's line the
+/// partner is the unknown one.
 #[tactic(auto, unfolding(crate::specs::Spots::is_unknown))]
 fn is_unknown(known: &[u8], want: Want, word: &[u8]) -> bool
     ensures { result ≡ is_unknown (words_of known.now) want word.now }
@@ -58,7 +59,7 @@ fn is_unknown(known: &[u8], want: Want, word: &[u8]) -> bool
     }
 }
 
-/// Whether the partner of the instance that acts is wanted.
+/// Whether the partner of the acting instance is wanted there.
 fn is_partner(want: Want) -> bool
     ensures { result ≡ is_partner want }
 {
@@ -68,8 +69,8 @@ fn is_partner(want: Want) -> bool
     }
 }
 
-/// Whether the instance has the name of an earlier one: in a schedule's first line, of one before it. In a chart it's
-/// the one that begins.
+/// Whether an earlier instance has this name: in a schedule's first line, a word before this one. In a chart's line the
+/// instance that begins has the name again.
 #[tactic(auto, unfolding(crate::specs::Spots::is_again))]
 fn is_again(line: &[u8], want: Want, index: usize, word: &[u8]) -> bool
     ensures { result ≡ is_again (words_of line.now) want index word.now }
@@ -81,7 +82,7 @@ fn is_again(line: &[u8], want: Want, index: usize, word: &[u8]) -> bool
     }
 }
 
-/// Whether it is the instance that is one too many, or the end of a chart that has too few.
+/// Whether this is the instance that is one too many, or the end of a chart with too few.
 #[tactic(auto, unfolding(crate::specs::Spots::is_too_many))]
 fn is_too_many(want: Want, index: usize, word: &[u8]) -> bool
     ensures { result ≡ is_too_many want index word.now }
@@ -94,7 +95,7 @@ fn is_too_many(want: Want, index: usize, word: &[u8]) -> bool
     }
 }
 
-/// Whether the word of this number in a line, from 0, has a fault of this cause.
+/// Whether the word with this number in a line, from 0, has a fault of this cause.
 #[tactic(auto, unfolding(crate::specs::Spots::is_wrong))]
 pub(crate) fn is_wrong(
     cause: Cause,
@@ -118,7 +119,7 @@ pub(crate) fn is_wrong(
     }
 }
 
-/// How many bytes of a word stand before its fault.
+/// The number of bytes of a word before its fault.
 pub(crate) fn inner(cause: Cause) -> usize
     ensures { result ≡ inner cause }
 {

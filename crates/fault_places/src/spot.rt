@@ -7,17 +7,17 @@ use crate::seeking::{inner, is_wrong};
 use crate::want::{Want, next};
 use texts::Cause;
 
-/// A place in a line, and what may stand there.
+/// A place in a line, and what may be there.
 #[derive(Clone, Copy, Debug, PartialEq, Eq)]
 pub struct Spot {
-    /// How many bytes of the line stand before it.
+    /// The number of bytes of the line before the place.
     pub place: usize,
     pub want: Want,
 }
 
-/// Where in a line the fault of this cause is, where this may stand at the line's begin: at the first word that has the
-/// fault, or that can't stand where it does; at the line's end where there is no such word. The instances of a schedule
-/// are those that its first line names, `known`; of a chart it isn't read.
+/// The place of the fault of this cause in a line. `begin` is what may be at the beginning of the line. The place is
+/// the first word that has the fault, or that can't be where it is. If there is no such word, it is the line's end.
+/// `known` is the first line of a schedule, which names its instances. For a chart it isn't read.
 #[tactic(auto, unfolding(crate::specs::Spots::spot_of))]
 pub fn spot_in(cause: Cause, known: &[u8], line: &[u8], begin: Want) -> Spot
     ensures spot { result ≡ spot_of cause known.now line.now begin }

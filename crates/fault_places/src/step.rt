@@ -11,7 +11,7 @@ use closure::chain::{Link, Rule};
 use closure::cycle::shortest_cycle;
 use std::alloc::{AllocError, Global};
 
-/// An event: the name of its instance, and its number there.
+/// An event: the name of its instance, and its number on that line.
 #[derive(Clone, Copy, Debug)]
 pub struct NamedEvent {
     pub name: Name,
@@ -21,7 +21,7 @@ pub struct NamedEvent {
 /// A direct step of the enforced order.
 #[derive(Clone, Copy, Debug)]
 pub struct Step {
-    /// The number of the line at which the earlier event stands.
+    /// The number of the line with the earlier event.
     pub line: u64,
     pub earlier: NamedEvent,
     pub later: NamedEvent,
@@ -78,8 +78,8 @@ fn all_of(
     Ok(steps)
 }
 
-/// The steps of a shortest cycle of a chart whose receives all have their sends, whose instances have these names, and
-/// in which an event comes before itself. F6: it fails only where there is no memory.
+/// The steps of a shortest cycle of a chart. All receives of the chart have their sends, its instances have these
+/// names, and some event is before itself. F6 is the only refusal.
 pub fn steps_of(
     alloc: Global,
     text: &[u8],

@@ -1,10 +1,10 @@
-//! What may stand at a place of a line.
+//! What may be at a place of a line.
 ghost use Rattle.std.specs.Prelude.{◌≡◌, bytes_eq};
 ghost use Rattle.fault_places.specs.Wants.{on, begins_command, begins_in, begins_out, named_on, chart_next, next};
 
 use crate::parts::{has_name_part, is_number, is_plain};
 
-/// What may stand at a place of a line: of a schedule, of a chart, or of either.
+/// What may be at a place of a line: of a schedule, of a chart, or of either.
 #[derive(Clone, Copy, Debug, PartialEq, Eq)]
 pub enum Want {
     /// The first word of a file: `instances`, or `msc`.
@@ -13,19 +13,19 @@ pub enum Want {
     Instances,
     /// The name of the first instance.
     FirstName,
-    /// The name of one more instance.
+    /// The name of another instance.
     OtherName,
     /// `capacity`.
     Capacity,
-    /// How many slots a lane has.
+    /// The number of slots of a lane.
     Slots,
     /// The name of the instance that acts.
     Actor,
-    /// What it does.
+    /// The word for its action.
     Action,
-    /// The name of the instance that it sends to, with the message's name behind it.
+    /// The name of the instance to which it sends. The name of the message follows.
     SendTo,
-    /// The name of the instance that it receives from, or whose lane it closes.
+    /// The name of the instance from which it receives, or whose lane it closes.
     Partner,
     /// The name of the message that it sends.
     Message,
@@ -39,11 +39,11 @@ pub enum Want {
     ChartName,
     /// `instance`, or `endmsc;`.
     InstanceOrEnd,
-    /// The name of an instance that begins, with a semicolon.
+    /// The name of an instance that begins, and a semicolon.
     InstanceName,
     /// The first word of an event, `concurrent;` or `endinstance;`.
     Event,
-    /// `in`: a coregion was opened.
+    /// `in`, after `concurrent;`.
     OpenedEvent,
     /// `in`, or `endconcurrent;`.
     HeldEvent,
@@ -51,33 +51,33 @@ pub enum Want {
     Sent,
     /// `to`.
     To,
-    /// The name of the message's receiver, with a semicolon.
+    /// The name of the message's receiver, and a semicolon.
     Receiver,
     /// The name of a message that comes in.
     Received,
     /// `from`.
     From,
-    /// The name of the message's sender, with a semicolon.
+    /// The name of the message's sender, and a semicolon.
     Sender,
     /// Nothing: the chart has ended.
     ChartEnd,
 }
 
-/// Whether these are the bytes.
+/// Whether the word has these bytes.
 pub(crate) fn is(word: &[u8], known: &[u8]) -> bool
     ensures { result ≡ bytes_eq word.now known.now }
 {
     word == known
 }
 
-/// What comes next, if the word may stand where it does.
+/// What may be next, if the word may be where it is.
 fn on(may: bool, next: Want) -> Option<Want>
     ensures { result ≡ on may next }
 {
     if may { Some(next) } else { None }
 }
 
-/// What comes behind the name of the instance that acts.
+/// What may be after the word for an action.
 #[tactic(auto, unfolding(crate::specs::Wants::begins_command))]
 fn behind_action(word: &[u8]) -> Option<Want>
     ensures { result ≡ begins_command word.now }
@@ -94,7 +94,7 @@ fn behind_action(word: &[u8]) -> Option<Want>
     )
 }
 
-/// What comes behind the first word of a line inside an instance, in no coregion.
+/// What may be after the first word of a line inside an instance, if no coregion is open.
 #[tactic(auto, unfolding(crate::specs::Wants::begins_out))]
 fn behind_out(word: &[u8]) -> Option<Want>
     ensures { result ≡ begins_out word.now }
@@ -111,7 +111,7 @@ fn behind_out(word: &[u8]) -> Option<Want>
     )
 }
 
-/// What comes behind the first word of a line in a coregion that has a receive.
+/// What may be after the first word of a line in a coregion that has a receive.
 #[tactic(auto, unfolding(crate::specs::Wants::begins_in))]
 fn behind_in(word: &[u8]) -> Option<Want>
     ensures { result ≡ begins_in word.now }
@@ -122,7 +122,7 @@ fn behind_in(word: &[u8]) -> Option<Want>
     on(is(word, b"endconcurrent;"), Want::LineEnd)
 }
 
-/// What comes behind the first word of a line outside of an instance.
+/// What may be after the first word of a line outside of an instance.
 #[tactic(auto, unfolding(crate::specs::Wants::named_on))]
 fn behind_head(word: &[u8]) -> Option<Want>
     ensures { result ≡ named_on word.now }
@@ -133,7 +133,7 @@ fn behind_head(word: &[u8]) -> Option<Want>
     on(is(word, b"endmsc;"), Want::LineEnd)
 }
 
-/// What comes behind a word of a chart's line.
+/// What may be after a word of a chart's line.
 #[tactic(auto, unfolding(crate::specs::Wants::chart_next))]
 fn chart_next(want: Want, word: &[u8]) -> Option<Want>
     ensures { result ≡ chart_next want word.now }
@@ -156,7 +156,7 @@ fn chart_next(want: Want, word: &[u8]) -> Option<Want>
     }
 }
 
-/// What may stand behind a word; `None` where the word itself can't stand there.
+/// What may be after a word, or `None` if the word itself can't be there.
 #[tactic(auto, unfolding(crate::specs::Wants::next))]
 pub(crate) fn next(want: Want, word: &[u8]) -> Option<Want>
     ensures { result ≡ next want word.now }

@@ -8,8 +8,7 @@ use closure::chain::rule_of;
 use texts::pieces::{Piece, add_pieces};
 use texts::{Out, TextBuffer, WriteError};
 
-/// Adds a step: the line of its earlier event, the two events, and why the one comes before the other. F24: a put
-/// failed.
+/// Adds a step: the line of its earlier event, the two events, and why the one is before the other. F24: a put failed.
 #[tactic(auto, unfolding(crate::specs::NamedCycles::step_text))]
 pub fn add_step<W: Out>(text: &mut TextBuffer<'_, W>, step: &Step) -> Result<(), WriteError>
     ensures { Adds W.sink text.old text.new result (step_text step.now) }

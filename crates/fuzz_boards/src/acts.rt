@@ -1,4 +1,4 @@
-//! Acts that are done one after the other.
+//! A queue of acts.
 ghost use Rattle.std.specs.Prelude.{◌≡◌, drop};
 ghost use Rattle.fuzz_boards.specs.Drawn.{first_act};
 
@@ -6,7 +6,7 @@ use behaviour::Act;
 use std::collections::VecDeque;
 use std::marker::Model;
 
-/// Acts in the order in which they are done.
+/// Acts, in the order in which they are done.
 #[derive(Drop)]
 pub struct Acts {
     queue: VecDeque<Act>,
@@ -28,7 +28,7 @@ impl Acts {
         Acts { queue }
     }
 
-    /// The first act, which leaves; where there is none, that of stopping.
+    /// Takes the first act out of the queue. If there is none, the act is to stop.
     pub fn take_first(&mut self) -> Act
         ensures act { result ≡ first_act self.old }
         ensures left { self.new ≡ drop 1 self.old }

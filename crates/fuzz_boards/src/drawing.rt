@@ -1,4 +1,4 @@
-//! Draws what an instance does.
+//! Draws the random acts of an instance.
 use crate::acts::Acts;
 use anyhow::bail;
 use behaviour::Act;
@@ -9,10 +9,10 @@ use rand_pcg::Lcg64Xsh32;
 use std::alloc::{AllocError, Global};
 use std::collections::VecDeque;
 
-/// How many turns an instance has: it stops in the last one.
+/// The number of turns of an instance. It stops in the last one.
 pub const TURNS: u32 = 500;
 
-/// What messages are called.
+/// The names of messages.
 static NAMES: [&[u8]; 6] = [
     b"x",
     b"y",
@@ -22,12 +22,13 @@ static NAMES: [&[u8]; 6] = [
     b"a_name_that_has_thirty_two_bytes",
 ];
 
-/// A number below this one.
+/// A random number below `many`.
 fn below(generator: &mut Lcg64Xsh32, many: usize) -> usize {
     generator.next_word() as usize % many.max(1)
 }
 
-/// An instance: mostly one of the board, itself too, and else whichever has a number.
+/// A random partner: mostly an instance of the board, which may be the sender itself, and otherwise any instance that
+/// has a number.
 fn drawn_partner(generator: &mut Lcg64Xsh32, instances: usize) -> InstanceNo {
     let many = if below(generator, 4) == 0 {
         MAX_INSTANCES
@@ -37,7 +38,7 @@ fn drawn_partner(generator: &mut Lcg64Xsh32, instances: usize) -> InstanceNo {
     InstanceNo::at_place(below(generator, many) % MAX_INSTANCES)
 }
 
-/// A name.
+/// A random name.
 fn drawn_name(generator: &mut Lcg64Xsh32) -> anyhow::Result<Name> {
     match NAMES.get(below(generator, NAMES.len())) {
         Some(bytes) => Ok(Name::new(bytes)?),
@@ -45,13 +46,13 @@ fn drawn_name(generator: &mut Lcg64Xsh32) -> anyhow::Result<Name> {
     }
 }
 
-/// A body: no bytes, a few, some more, or up to as many as a body may have.
+/// A random body: no bytes, a few, some more, or up to the most that a body may have.
 fn drawn_body(alloc: Global, generator: &mut Lcg64Xsh32) -> Result<Vec<u8>, AllocError> {
     let bytes = match below(generator, 8) {
         0 | 1 => 0,
         2..=5 => below(generator, 64),
         6 => below(generator, 1024),
-        // (half of these are as long as may be)
+        // (half of these are as long as possible)
         _ => below(generator, 8192).min(MAX_BODY),
     };
     let mut body = Vec::with_capacity(alloc, bytes)?;
@@ -61,7 +62,7 @@ fn drawn_body(alloc: Global, generator: &mut Lcg64Xsh32) -> Result<Vec<u8>, Allo
     Ok(body)
 }
 
-/// A message.
+/// A random message.
 fn drawn_message(alloc: Global, generator: &mut Lcg64Xsh32) -> anyhow::Result<Message> {
     let name = drawn_name(generator)?;
     match Message::new(name, drawn_body(alloc, generator)?) {
@@ -70,13 +71,13 @@ fn drawn_message(alloc: Global, generator: &mut Lcg64Xsh32) -> anyhow::Result<Me
     }
 }
 
-/// A send to a partner.
+/// A send to a random partner.
 fn drawn_send(alloc: Global, generator: &mut Lcg64Xsh32, instances: usize) -> anyhow::Result<Act> {
     let to = drawn_partner(generator, instances);
     Ok(Act::Send(to, drawn_message(alloc, generator)?))
 }
 
-/// An act of an instance: lanes are seldom closed, and coregions are sooner shut than opened.
+/// A random act of an instance. Lanes are rarely closed, and coregions are more often closed than opened.
 fn drawn_act(alloc: Global, generator: &mut Lcg64Xsh32, instances: usize) -> anyhow::Result<Act> {
     match below(generator, 1000) {
         0..=399 => drawn_send(alloc, generator, instances),
@@ -88,7 +89,7 @@ fn drawn_act(alloc: Global, generator: &mut Lcg64Xsh32, instances: usize) -> any
     }
 }
 
-/// What the instance at a place does among so many in the run of this seed.
+/// The acts of the instance at a place, among this number of instances, in the run with this seed.
 pub fn drawn_acts(
     alloc: Global,
     seed: u64,

@@ -6,17 +6,17 @@ use behaviour::{Act, Answer, BareAct, Behaviour};
 use chart::{InstanceNo, Name};
 use std::alloc::Global;
 
-/// What a filler does next.
+/// The next deed of a filler.
 #[derive(Clone, Copy, Debug, PartialEq, Eq)]
 pub enum Deed {
-    /// Send to one of its two partners.
+    /// To send to one of its two partners.
     Send,
-    /// Receive from whomever a message comes.
+    /// To receive from any instance that has a message.
     Take,
     Stop,
 }
 
-/// How many sends are left after this answer.
+/// The number of sends that are left after this answer.
 fn sends_left(sends: u32, last: &Answer) -> u32
     ensures { result ≡ sends_left sends last.now }
 {
@@ -26,7 +26,7 @@ fn sends_left(sends: u32, last: &Answer) -> u32
     }
 }
 
-/// How many receives are left after this answer.
+/// The number of receives that are left after this answer.
 fn receives_left(receives: u32, last: &Answer) -> u32
     ensures { result ≡ receives_left receives last.now }
 {
@@ -36,7 +36,7 @@ fn receives_left(receives: u32, last: &Answer) -> u32
     }
 }
 
-/// What is done after this answer. Where a lane is full, or nothing waits, it is the other's turn.
+/// The next deed after this answer. If a lane is full or no message waits, the other kind of deed is next.
 fn next_deed(last: &Answer, all_sent: bool, all_got: bool) -> Deed
     ensures { result ≡ next_deed last.now all_sent all_got }
 {
@@ -56,8 +56,8 @@ fn next_deed(last: &Answer, all_sent: bool, all_got: bool) -> Deed
     }
 }
 
-/// An instance that sends so many messages, in turn to two others, and receives so many. Then it tries a send, and
-/// receives until a receive is refused.
+/// An instance that sends a number of messages, alternately to two others, and receives a number of messages. Then it
+/// tries a send, and receives until a receive is refused.
 #[derive(Drop)]
 pub struct Filler {
     pub alloc: Global,
@@ -69,7 +69,7 @@ pub struct Filler {
 }
 
 impl Filler {
-    /// Whom it sends to next.
+    /// The instance to which it sends next.
     fn partner(&self) -> InstanceNo
         ensures { result ≡ either_of (self.now.sends % 2 == 0) self.now.near self.now.far }
     {

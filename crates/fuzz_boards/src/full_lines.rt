@@ -13,16 +13,18 @@ use std::time::Clock;
 
 const INSTANCES: usize = 8;
 
-/// How many slots a lane has: the most.
+/// The number of slots of a lane: the most.
 const SLOTS: usize = 64;
 
-/// How many messages each instance sends, and how many it receives: a line's events together. As many more are sent
-/// to it as a lane has slots, so no lane to it is full for good, and a message waits when its line is full.
+/// The numbers of messages that each instance sends and receives: together they fill a line. As many more messages are
+/// sent to an instance as a lane has slots. So no lane to it stays full for ever, and a message waits when its line is
+/// full.
 const SENDS: u32 = 2080;
 
 const RECEIVES: u32 = 2016;
 
-/// How many turns an instance has, to look again where a lane is full or nothing waits: the most that a run takes.
+/// The most turns that an instance has, so that it can look again if a lane is full or no message waits. It is the most
+/// that a run allows.
 const TURNS: u32 = 1_000_000;
 
 /// The instance at this place.
@@ -37,7 +39,7 @@ fn filler(alloc: Global, place: usize) -> anyhow::Result<Filler> {
     })
 }
 
-/// Whether some send and then a receive were refused since the line is full (F7), and it stopped.
+/// Whether a send, and later a receive, were refused because the line is full (F7).
 fn ended_with_its_line(trace: &Trace) -> bool {
     let mut unsent = false;
     let mut unreceived = false;
@@ -61,7 +63,7 @@ fn are_full(gathered: &Gathered) -> bool {
     Passed::of(gathered).left == INSTANCES * SLOTS
 }
 
-/// Eight instances fill their lines, and each tries a send and a receive more. How many lines there are is answered.
+/// Eight instances fill their lines, and each tries one more send and one more receive. It returns the number of lines.
 pub fn fill_lines<R: Threads + Clock + Sync>(rt: &R, alloc: Global) -> anyhow::Result<usize> {
     let mut behaviours: Vec<Box<dyn Behaviour + Send>> = Vec::new(alloc);
     for place in 0..INSTANCES {

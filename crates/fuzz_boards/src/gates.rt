@@ -1,4 +1,4 @@
-//! Gates that let instances act at once.
+//! Gates that let instances act at the same time.
 use chart::InstanceNo;
 use instances::Gate;
 use std::sync::atomic::{AtomicU64, Ordering};
@@ -8,8 +8,8 @@ use std::time::{Clock, Duration};
 /// How often an instance looks for the others before it begins without them.
 const PATIENCE: u32 = 10_000;
 
-/// Holds back each instance's first act until all have come to it, if that isn't too long, and now and then lets other
-/// threads go first.
+/// Holds back the first act of each instance until all instances have come to theirs, unless this takes too long. Now
+/// and then it lets other threads run first.
 #[derive(Drop)]
 pub struct Together {
     instances: u64,
@@ -17,7 +17,7 @@ pub struct Together {
 }
 
 impl Together {
-    /// For so many instances.
+    /// A gate for this number of instances.
     pub fn new(instances: usize) -> Together {
         Together {
             instances: instances as u64,
@@ -25,7 +25,7 @@ impl Together {
         }
     }
 
-    /// Waits until all are here. (Where no thread can be made, one acts after the other.)
+    /// Waits until all instances are here. (If no thread can be made, the instances act one after the other.)
     fn wait_for_all(&self) {
         for _ in 0..PATIENCE {
             if self.instances <= self.here.load(Ordering::SeqCst) {
@@ -47,14 +47,14 @@ impl Gate for Together {
     }
 }
 
-/// How many turns an instance has between two rests.
+/// The number of turns between two rests of an instance.
 const TURNS_TO_REST: u32 = 64;
 
-/// How long a rest is, in milliseconds.
+/// The length of a rest, in milliseconds.
 const REST: u64 = 4;
 
-/// Lets other threads go first before each act, and rests now and then. A machine whose processors are busy may run the
-/// others much later: an instance that only yields has spent its turns by then.
+/// Lets other threads run first before each act, and rests now and then. A machine whose processors are busy may run
+/// the others much later. An instance that only yields has spent its turns by then.
 #[derive(Clone, Copy)]
 pub struct OthersFirst<'a, R> {
     pub clock: &'a R,

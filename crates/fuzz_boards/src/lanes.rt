@@ -1,9 +1,9 @@
-//! What was passed on each lane of a run.
+//! The messages that passed on each lane of a run.
 use crate::ledger::{Ledger, with_message};
 use board::Left;
 use std::sync::Arc;
 
-/// The digest of messages with those more that are left on the lane from one place to another.
+/// The digest of messages, continued by those that are left on the lane from one place to another.
 fn with_left(digest: u64, left: &[Left], sender: usize, receiver: usize) -> u64 {
     let mut digest = digest;
     for lane in left {
@@ -16,8 +16,8 @@ fn with_left(digest: u64, left: &[Left], sender: usize, receiver: usize) -> u64 
     digest
 }
 
-/// Whether on each lane what was sent is what was received and then left, message by message, and all that wasn't
-/// sent came back.
+/// Whether on each lane the sent messages are the received ones followed by those that are left, and all messages that
+/// weren't sent came back.
 pub fn are_whole(ledgers: &[Arc<Ledger>], left: &[Left]) -> bool {
     for (sender, from) in ledgers.iter().enumerate() {
         if !from.all_came_back() {

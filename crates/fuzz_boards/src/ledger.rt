@@ -1,4 +1,4 @@
-//! What an instance sent and got, lane by lane.
+//! The messages that an instance sent and received, lane by lane.
 use behaviour::{Act, Answer};
 use chart::{MAX_INSTANCES, Message};
 use std::alloc::{AllocError, Global};
@@ -7,7 +7,7 @@ use std::sync::atomic::{AtomicU64, Ordering};
 /// The digest of no messages.
 pub const NO_MESSAGES: u64 = 0xcbf2_9ce4_8422_2325;
 
-/// The digest with these bytes more: that of Fowler, Noll and Vo, of 64 bits.
+/// The digest, continued by these bytes: the 64-bit one of Fowler, Noll and Vo.
 fn with_bytes(digest: u64, bytes: &[u8]) -> u64 {
     let mut digest = digest;
     for byte in bytes {
@@ -16,7 +16,7 @@ fn with_bytes(digest: u64, bytes: &[u8]) -> u64 {
     digest
 }
 
-/// The digest of messages with one more, by its name and its body and how long they are.
+/// The digest of messages, continued by one more: by its name and its body, and the lengths of both.
 pub fn with_message(digest: u64, message: &Message) -> u64 {
     let name = message.name();
     let body = message.body();
@@ -28,14 +28,14 @@ pub fn with_message(digest: u64, message: &Message) -> u64 {
     with_bytes(with_bytes(digest, name.as_bytes()), body)
 }
 
-/// A digest for each other instance, by its place.
+/// A digest for each other instance, at its place.
 #[derive(Drop)]
 struct Digests {
     words: Vec<AtomicU64>,
 }
 
 impl Digests {
-    /// Those of no messages.
+    /// The digests of no messages.
     fn new(alloc: Global) -> Result<Digests, AllocError> {
         let mut words = Vec::new(alloc);
         for _ in 0..MAX_INSTANCES {
@@ -58,20 +58,21 @@ impl Digests {
     }
 }
 
-/// What an instance sent and got, told by digests. Only the instance itself writes it; others read it after the run.
+/// The messages that an instance sent and received, as digests. Only the instance itself writes them, and others read
+/// them after the run.
 #[derive(Drop)]
 pub struct Ledger {
     sent: Digests,
     got: Digests,
-    /// The receiver's place of the last act of sending, and the digest of its lane with that message.
+    /// The place of the receiver in the last act of sending, and the digest of its lane with that message.
     receiver: AtomicU64,
     with_last: AtomicU64,
-    /// How many messages came back, and weren't those that were to be sent.
+    /// The number of messages that came back, but weren't those that were to be sent.
     changed: AtomicU64,
 }
 
 impl Ledger {
-    /// That of an instance which did nothing.
+    /// The ledger of an instance that hasn't done anything.
     pub fn new(alloc: Global) -> Result<Ledger, AllocError> {
         Ok(Ledger {
             sent: Digests::new(alloc)?,
@@ -82,7 +83,7 @@ impl Ledger {
         })
     }
 
-    /// The instance is going to do this act.
+    /// Notes the act that the instance is going to do.
     pub fn note_act(&self, act: &Act) {
         if let Act::Send(to, message) = act {
             let place = to.place();
@@ -92,12 +93,12 @@ impl Ledger {
         }
     }
 
-    /// The place of the instance that the last act of sending was to send to.
+    /// The place of the receiver in the last act of sending.
     fn last_receiver(&self) -> usize {
         self.receiver.load(Ordering::SeqCst) as usize
     }
 
-    /// This came of its last act.
+    /// Notes the answer to the last act.
     pub fn note_answer(&self, answer: &Answer) {
         match answer {
             Answer::Sent(_) => {
@@ -119,17 +120,17 @@ impl Ledger {
         }
     }
 
-    /// The digest of what it sent to the instance at this place.
+    /// The digest of the messages that were sent to the instance at this place.
     pub fn sent_to(&self, receiver: usize) -> u64 {
         self.sent.at(receiver)
     }
 
-    /// The digest of what it got from the instance at this place.
+    /// The digest of the messages that were received from the instance at this place.
     pub fn got_from(&self, sender: usize) -> u64 {
         self.got.at(sender)
     }
 
-    /// Whether each message that came back was the one that it was going to send.
+    /// Whether each message that came back was the one that was to be sent.
     pub fn all_came_back(&self) -> bool {
         self.changed.load(Ordering::SeqCst) == 0
     }

@@ -1,11 +1,11 @@
-//! Wild runs: behaviours whose acts are drawn, with partners that may be themselves or no instances of the board, act
-//! each on a thread of its own. Each run is audited, and on each lane what was sent is what was received and then
-//! left.
+//! Wild runs: behaviours do random acts, each behaviour on a thread of its own. A partner may be the instance itself,
+//! or an instance that the board doesn't have. Each run is audited. On each lane the sent messages are the received
+//! ones, followed by those that are left.
 //!
-//! With no word there are runs among 3, 8 and 32 instances, and one that fills the lines of 8; the program tells only
-//! what no schedule changes. With the words INSTANCES SLOTS SEED RUNS there are so many runs over lanes of so many
-//! slots, from this seed on, and the program tells how many messages were passed. It stops at the first run that went
-//! wrong.
+//! Without words it makes runs among 3, 8 and 32 instances, and one that fills the lines of 8. It then prints only what
+//! doesn't depend on the scheduling of threads. With the words `INSTANCES SLOTS SEED RUNS` it makes `RUNS` runs over
+//! lanes with `SLOTS` slots, from this seed on. It then prints how many messages were passed. It stops at the first run
+//! that fails.
 #![tactic(auto)]
 
 mod acts;
@@ -27,7 +27,7 @@ use std::env;
 use std::thread::Threads;
 use std::time::Clock;
 
-/// Makes these runs, and tells how many were accepted.
+/// Makes these runs, and prints how many were accepted.
 fn print_runs<R: Threads + Print + AllocGlobal + Sync>(rt: &R, runs: Runs) -> anyhow::Result<()> {
     run_all(rt, rt.alloc(), runs)?;
     let Runs {
@@ -41,7 +41,7 @@ fn print_runs<R: Threads + Print + AllocGlobal + Sync>(rt: &R, runs: Runs) -> an
     Ok(())
 }
 
-/// Makes all runs that have a name, and tells of each kind.
+/// Makes all runs that need no words, and prints a line for each kind.
 fn print_all<R: Threads + Clock + Print + AllocGlobal + Sync>(rt: &R) -> anyhow::Result<()> {
     for (instances, many) in [(3, 200), (8, 20), (32, 20)] {
         print_runs(
@@ -59,7 +59,7 @@ fn print_all<R: Threads + Clock + Print + AllocGlobal + Sync>(rt: &R) -> anyhow:
     Ok(())
 }
 
-/// Makes these runs, and tells how many messages were passed.
+/// Makes these runs, and prints how many messages were passed.
 fn count<R: Threads + Print + AllocGlobal + Sync>(rt: &R, runs: Runs) -> anyhow::Result<()> {
     let passed = run_all(rt, rt.alloc(), runs)?;
     let Runs { many, .. } = runs;

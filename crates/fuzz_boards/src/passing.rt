@@ -10,7 +10,7 @@ use instances::{End, Gate, Run, run};
 use std::alloc::Global;
 use std::thread::Threads;
 
-/// How many messages were passed.
+/// The numbers of messages that were passed.
 #[derive(Clone, Copy, Debug)]
 pub struct Passed {
     pub sent: usize,
@@ -19,7 +19,7 @@ pub struct Passed {
 }
 
 impl Passed {
-    /// In the run that came to this, by its lines, its reports and what is left on its lanes.
+    /// The numbers for a run, from its lines, its reports and the messages that are left on its lanes.
     pub fn of(gathered: &Gathered) -> Passed {
         let mut events = 0usize;
         for line in gathered.chart.lines() {
@@ -38,7 +38,7 @@ impl Passed {
         }
     }
 
-    /// These and those.
+    /// The sums of both.
     pub fn joined(self, other: Passed) -> Passed {
         Passed {
             sent: self.sent.saturating_add(other.sent),
@@ -48,7 +48,7 @@ impl Passed {
     }
 }
 
-/// The run, whose chart and reports an audit accepted. Each instance has stopped in it.
+/// The run, if an audit accepts its chart and its reports, and each of its instances has stopped.
 fn audited(alloc: Global, ran: Run) -> anyhow::Result<Run>
     ensures { IfOk result (λ ran. IsAccepted ran.gathered) }
 {
@@ -63,7 +63,7 @@ fn audited(alloc: Global, ran: Run) -> anyhow::Result<Run>
     }
 }
 
-/// Lets these act on a board with lanes of so many slots, in so many turns at most.
+/// Runs these behaviours on a board with this number of slots on each lane, for at most this number of turns.
 pub fn run_board<R: Threads + Sync, G: Gate + Sync>(
     rt: &R,
     alloc: Global,

@@ -1,4 +1,4 @@
-//! Runs of boards whose instances do what was drawn.
+//! Runs of boards whose instances do random acts.
 use crate::drawing::{TURNS, drawn_acts};
 use crate::gates::Together;
 use crate::lanes::are_whole;
@@ -12,7 +12,7 @@ use std::alloc::Global;
 use std::sync::Arc;
 use std::thread::Threads;
 
-/// So many runs among so many instances, over lanes of so many slots, the first of them of this seed.
+/// A number of runs, among this number of instances, over lanes with this number of slots. The first run has this seed.
 #[derive(Clone, Copy, Debug)]
 pub struct Runs {
     pub instances: usize,
@@ -21,7 +21,7 @@ pub struct Runs {
     pub many: u64,
 }
 
-/// The instance at a place in the run of a seed. Its ledger is kept.
+/// The instance at the next place in the run with this seed. Its ledger is kept.
 fn drawn_instance(
     alloc: Global,
     ledgers: &mut Vec<Arc<Ledger>>,
@@ -34,7 +34,7 @@ fn drawn_instance(
     Ok(Wild { acts, ledger })
 }
 
-/// What was passed in the run of a seed, which is accepted.
+/// The numbers of messages that were passed in the run with this seed, which is accepted.
 fn wild_run<R: Threads + Sync>(
     rt: &R,
     alloc: Global,
@@ -55,7 +55,8 @@ fn wild_run<R: Threads + Sync>(
     Ok(Passed::of(&ran.gathered))
 }
 
-/// What was passed in these runs. The first one that isn't accepted stops them, and its seed is told.
+/// The numbers of messages that were passed in these runs. They stop at the first run that isn't accepted, and the
+/// error names its seed.
 pub fn run_all<R: Threads + Sync>(rt: &R, alloc: Global, runs: Runs) -> anyhow::Result<Passed> {
     let mut passed = Passed {
         sent: 0,

@@ -1,11 +1,11 @@
-//! A behaviour whose acts were drawn before.
+//! A behaviour with random acts.
 use crate::acts::Acts;
 use crate::ledger::Ledger;
 use behaviour::{Act, Answer, Behaviour};
 use std::sync::Arc;
 
-/// It does its acts whatever it is told, and keeps a ledger of its messages for whoever else has it: a behaviour itself
-/// doesn't come back from a run.
+/// It does its acts after any answers. It keeps a ledger of its messages for others that share it, since a behaviour
+/// itself doesn't come back from a run.
 #[derive(Drop)]
 pub struct Wild {
     pub acts: Acts,

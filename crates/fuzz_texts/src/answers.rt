@@ -1,4 +1,4 @@
-//! Worked texts, and what the program answers when they are broken.
+//! Worked texts, and the program's answers to them after they are broken.
 
 use crate::breaking::broken;
 use cmd_run::{Task, perform};
@@ -9,12 +9,12 @@ use texts::MemoryOut;
 /// A chart or a schedule.
 #[derive(Drop)]
 pub struct Worked {
-    /// What the program does with it.
+    /// The program's task for this text.
     task: Task,
     text: Vec<u8>,
 }
 
-/// A broken text, and what the program answers to it.
+/// A broken text, and the program's answer to it.
 #[derive(Drop)]
 pub struct Answered {
     task: Task,
@@ -25,7 +25,7 @@ pub struct Answered {
 }
 
 impl Worked {
-    /// A chart is checked, and a schedule replayed.
+    /// A chart is to be checked, and a schedule to be replayed.
     pub fn of(text: Vec<u8>) -> Worked {
         let task = if text.starts_with(b"msc") {
             Task::Check
@@ -35,7 +35,7 @@ impl Worked {
         Worked { task, text }
     }
 
-    /// Breaks the text, and has it answered.
+    /// Breaks the text, and gets its answer.
     pub fn answered(
         &self,
         alloc: Global,
@@ -57,13 +57,13 @@ impl Worked {
 }
 
 impl Answered {
-    /// What was said of the text: the line of a refusal, or nothing.
+    /// The text on standard error: the line of a refusal, or nothing.
     pub fn diagnostics(&self) -> &[u8] {
         self.err.as_bytes()
     }
 
-    /// A line `WORD STATUS LENGTH LENGTH LENGTH`, and then the text, what was written and what was said, of these
-    /// lengths. The word is `check` or `replay`.
+    /// A line `WORD STATUS LENGTH LENGTH LENGTH`, followed by the text, the standard output and the standard error,
+    /// with these lengths. The word is `check` or `replay`.
     pub fn record(&self, alloc: Global) -> Result<Vec<u8>, AllocError> {
         let word = match self.task {
             Task::Check => "check",

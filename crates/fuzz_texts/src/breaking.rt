@@ -1,11 +1,11 @@
-//! How texts are broken: of their bytes, words or lines some are changed, cut, left out, doubled or swapped.
+//! Breaks texts: some of their bytes, words or lines are changed, cut off, removed, doubled or swapped.
 ghost use Rattle.std.specs.Prelude.{◌<◌};
 
 use rand_core::utils::NextWord;
 use rand_pcg::Lcg64Xsh32;
 use std::alloc::{AllocError, Global};
 
-/// What a text is broken into.
+/// The pieces of a text.
 #[derive(Clone, Copy)]
 enum Unit {
     Bytes,
@@ -15,7 +15,7 @@ enum Unit {
     Lines,
 }
 
-/// Draws a number less than the bound.
+/// Draws a random number below the bound.
 pub fn below(generator: &mut Lcg64Xsh32, bound: usize) -> usize
     requires { 0 < bound }
     ensures { result < bound }
@@ -31,7 +31,7 @@ fn drawn_unit(generator: &mut Lcg64Xsh32) -> Unit {
     }
 }
 
-/// Whether a byte and the next one are of one piece.
+/// Whether a byte and the next one belong to one piece.
 fn are_together(unit: Unit, first: u8, second: u8) -> bool {
     match unit {
         Unit::Bytes => false,
@@ -40,7 +40,7 @@ fn are_together(unit: Unit, first: u8, second: u8) -> bool {
     }
 }
 
-/// The text in its pieces.
+/// The pieces of the text.
 fn pieces_of<'a>(alloc: Global, text: &'a [u8], unit: Unit) -> Result<Vec<&'a [u8]>, AllocError> {
     text.chunk_by(|first, second| are_together(unit, *first, *second))
         .collect(alloc)
@@ -54,7 +54,7 @@ fn joined(alloc: Global, pieces: &[&[u8]]) -> Result<Vec<u8>, AllocError> {
     Ok(text)
 }
 
-/// Does one thing to the pieces, where there are some.
+/// Makes one change to the pieces, if there are any.
 fn break_pieces<'a>(
     generator: &mut Lcg64Xsh32,
     pieces: &mut Vec<&'a [u8]>,

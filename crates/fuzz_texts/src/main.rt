@@ -1,8 +1,8 @@
-//! Breaks worked texts and tells what the program answers to each, to be compared with a plain model's answers.
+//! Breaks worked texts and prints the program's answer to each, to be compared with the answers of a plain model.
 //!
-//! The words are MODE COUNT SEED FILE..: so many texts are made out of the files, which are charts or schedules, by a
-//! generator that begins with the seed. In the mode `tell` it prints each text with its answer, and in both modes
-//! then how many were read, how many were refused by which refusal, and a digest of all texts and answers (`tally`).
+//! The words are `MODE COUNT SEED FILE..`. The files are charts or schedules. `COUNT` texts are made from them, by a
+//! generator that begins with the seed. In the mode `tell` it prints each text with its answer. In both modes it then
+//! prints how many texts were read, how many each refusal refused, and a digest of all texts and answers (`tally`).
 #![tactic(auto)]
 
 mod answers;
@@ -20,10 +20,10 @@ use std::rt::{Env, Files};
 use std::{env, fs, io};
 use tally::Tally;
 
-/// What is asked for.
+/// The request in the words after the program's name.
 #[derive(Drop)]
 struct Asked {
-    /// Whether each text and its answer are told.
+    /// Whether each text and its answer are printed.
     prints: bool,
     count: u64,
     seed: u64,
@@ -37,7 +37,7 @@ fn prints(mode: &str) -> anyhow::Result<bool> {
     }
 }
 
-/// What the words ask for, and the names of the files.
+/// The request in these words, and the names of the files.
 fn asked_by<'a>(words: &'a [String]) -> anyhow::Result<(Asked, &'a [String])> {
     let [_, mode, count, seed, files @ ..] = words else {
         bail!("the words are MODE COUNT SEED FILE..");
@@ -59,7 +59,7 @@ fn worked_in<R: Files + AllocGlobal>(rt: &R, files: &[String]) -> anyhow::Result
     Ok(texts)
 }
 
-/// Breaks one of the texts, has it answered, and adds it to the tally.
+/// Breaks one of the texts, gets its answer, and adds it to the tally.
 fn answer_one<R: Print + AllocGlobal>(
     rt: &R,
     asked: &Asked,
@@ -76,7 +76,7 @@ fn answer_one<R: Print + AllocGlobal>(
     Ok(())
 }
 
-/// Breaks so many texts.
+/// Breaks as many texts as requested.
 fn answer_all<R: Print + AllocGlobal>(
     rt: &R,
     asked: &Asked,

@@ -1,23 +1,23 @@
-//! What many texts were answered, in a few lines.
+//! The answers to many texts, in a few lines.
 
 use sha2::{Digest, Sha256};
 use std::io;
 
-/// A number greater than that of each refusal of a text.
+/// A number above that of each refusal of a text.
 const REFUSALS: usize = 32;
 
 const REFUSED: &[u8] = b"refused: F";
 
-/// How many texts were read and how many refused, and a digest of all texts with their answers.
+/// How many texts were read and how many were refused, and a digest of all texts with their answers.
 #[derive(Drop)]
 pub struct Tally {
     read: u64,
-    /// By the refusal's number.
+    /// The counts, by the number of the refusal.
     refused: [u64; REFUSALS],
     digest: Sha256,
 }
 
-/// The number that these digits begin with, as 20 of `20 Syntax 3`.
+/// The number at the beginning of these bytes, such as 20 for `20 Syntax 3`.
 fn number_in(digits: &[u8]) -> usize {
     let mut number = 0usize;
     for digit in digits {
@@ -40,7 +40,7 @@ impl Tally {
         }
     }
 
-    /// Counts a text by what was said of it, and adds the record of it to the digest.
+    /// Counts a text by its text on standard error, and adds its record to the digest.
     pub fn add(&mut self, diagnostics: &[u8], record: &[u8]) {
         self.digest.update(record);
         match diagnostics.strip_prefix(REFUSED) {
@@ -53,7 +53,7 @@ impl Tally {
         }
     }
 
-    /// Prints how many texts were read, how many were refused by each refusal that came, and the digest.
+    /// Prints how many texts were read, how many each refusal refused, if any, and the digest.
     pub fn print<R: Print>(self, rt: &R) -> io::Result<()> {
         let Tally {
             read,

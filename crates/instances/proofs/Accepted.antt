@@ -1,4 +1,4 @@
--- What a whole board came to is a possible chart with its reports.
+-- The result of a whole board is a possible chart with its reports.
 use Rattle.std.proofs.Common.{◌≡◌, List, [], ◌∷◌, length, refl, sym, ap, ◌∙◌, subst}
 use Rattle.chart.specs.Charts.{Chart, IsPossible, chart_lines}
 use Rattle.chart.specs.Histories.{chart_of}

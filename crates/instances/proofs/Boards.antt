@@ -13,7 +13,7 @@ use Rattle.board.specs.declared.gathering.Gathered.{Gathered}
 use Rattle.instances.specs.declared.end.End.{End}
 use Rattle.instances.specs.declared.turn.Turn.{Turn}
 
--- a post that is left, its trace and its end
+-- a post at the end, its trace and its end
 abbrev pub Done : Type 0
 Done = PostView × List Turn × End
 
@@ -44,7 +44,7 @@ one-board-each old new alike same = one-board-kept old new (λ k x is.
     let within : k < length old = omega (arith, slice_get_within new k x is, alike) in
     (within, subst (λ (y : PostView). y.board ≡ (slice_index_or old k x).board) (get_or_from_slice_get new k x x is) (same k x within)))
 
--- posts that are the same as all of a board are all of it
+-- posts that are the same as all of a board are all of this board
 all-stay : (old new : List PostView) → length new ≡ length old
     → ((k : ℕ) (x : PostView) → slice_get new k ≡ Some x → (k < length old) × IsSamePost (slice_index_or old k x) x)
     → AreAll old → AreNotAll new → ⊥
@@ -60,7 +60,7 @@ all-stay (p ∷ old) (x ∷ new) alike same all (n, low, high, none) =
     let read = get_or_from_slice_get (p ∷ old) i has.1 y has.2 in
     none i y is ((same i y is).1.number ∙ ap (λ (post : PostView). post.number) read ∙ has.3)
 
--- their board has as many instances
+-- their board has the same number of instances
 same-size : (old new : List PostView) → length new ≡ length old
     → ((k : ℕ) (x : PostView) → slice_get new k ≡ Some x → (k < length old) × IsSamePost (slice_index_or old k x) x)
     → size_of new ≡ size_of old
@@ -69,7 +69,7 @@ same-size [] (x ∷ new) alike same = absurd (omega (arith, alike))
 same-size (p ∷ old) [] alike same = absurd (omega (arith, alike))
 same-size (p ∷ old) (x ∷ new) alike same = ap (λ (board : BoardView). board.size) (same 0 x refl).1.board
 
--- each pair of a post and a behaviour was driven so
+-- each pair of a post and a behaviour was driven in this way
 pub record AreDone {B : Type 0} (D : B → PostView → List Turn → End → PostView → Type 0) (posts : List PostView)
     (behaviours : List B) (done : List Done) : Type 0 where
   pub alike : length behaviours ≡ length posts
@@ -110,7 +110,7 @@ module _ {B : Type 0} (D : B → PostView → List Turn → End → PostView →
   done-parts traces ends are_traces are_ends k p t e q within b =
       rw (← are_traces, ← are_ends) at done-each k p t e q within b
 
-  -- the posts that are left are still of one board
+  -- the posts at the end are still of one board
   module _ (same : (b : B) (old : PostView) (t : List Turn) (e : End) (new : PostView) → D b old t e new → IsSamePost old new) where
     same-left : (k : ℕ) (x : PostView) → slice_get (map (λ (it : Done). it.0) done) k ≡ Some x
         → (k < length posts) × IsSamePost (slice_index_or posts k x) x
@@ -130,7 +130,7 @@ module _ {B : Type 0} (D : B → PostView → List Turn → End → PostView →
     all-left all not =
         all-stay posts (map (λ (it : Done). it.0) done) (length-map done (λ (it : Done). it.0) ∙ length-done) same-left all not
 
-    -- what they came to has a line for each instance
+    -- the result of gathering them has a line for each instance
     pub lines-left : (it : Gathered) → IsWhole (map (λ (it : Done). it.0) done) it → length it.chart ≡ size_of posts
     lines-left it whole =
         let left = map (λ (it : Done). it.0) done in

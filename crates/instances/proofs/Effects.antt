@@ -1,4 +1,5 @@
--- What acts that were answered leave: the same post, which has seen more, and of its own just what was accepted.
+-- The mailbox after acts with their answers: the same post, which has seen more, and whose own new events are just the
+-- accepted ones.
 use mathlib.Core.List.{map-append}
 use Rattle.std.proofs.Common.{◌≡◌, ℕ, List, [], ◌∷◌, ◌++◌, map, reverse, Some, Ok, Err, refl, sym, ap, ap₂, ◌∙◌, subst, append_assoc}
 use Rattle.std.proofs.lemmas.List.{reverse-append}
@@ -59,7 +60,7 @@ made-one old new before e makes = (e ∷ [], makes.made, refl)
 made-none : (old new : MailboxView) → Stays old.post new.post → Made old [] new
 made-none old new stays = ([], stays.made, refl)
 
--- a result that changes the open coregion at most
+-- a result that changes nothing but the open coregion
 leaves-region : (old new : MailboxView) (region : ℕ) → new ≡ in_region old region → Leaves old [] new
 leaves-region old new region is = subst (λ view. Leaves old [] view) (sym is) (record {
   same = record { board = refl; number = refl };
@@ -67,7 +68,7 @@ leaves-region old new region is = subst (λ view. Leaves old [] view) (sym is) (
   made = ([], refl, refl);
 })
 
--- what an answer says that was made
+-- the acts that were made, according to an answer
 abbrev made_of : BareAct → Answer → List BareAct
 made_of a answer = accepted a (Some (bare_answer answer))
 
@@ -119,7 +120,7 @@ by_answer : (old new : MailboxView) (a : BareAct) (answer of : Answer) → answe
     → Leaves old (made_of a answer) new
 by_answer old new a answer of is leaves = subst (λ x. Leaves old (made_of a x) new) (sym is) leaves
 
--- what an answer that is allowed leaves
+-- the mailbox after an allowed answer
 pub leaves-act : (old : MailboxView) (a : Act) (answer : Answer) (new : MailboxView) → Allows old a answer new
     → Leaves old (made_of (bare_act a) answer) new
 leaves-act old (act.Send to message) answer new (result, of, is) =

@@ -1,4 +1,4 @@
--- A run so far, one turn more, and its ends.
+-- A run so far, one more turn, and the ends of a run.
 use Rattle.std.proofs.Common.{◌≡◌, ℕ, ◌+◌, ◌<◌, List, [], ◌∷◌, ◌++◌, length, refl, sym, ap, ◌∙◌, subst, arith, append-nil, append_assoc, length-append}
 use Rattle.board.specs.Views.{PostView}
 use Rattle.mailbox.specs.Mailboxes.{MailboxView}
@@ -40,8 +40,8 @@ leads-next m first [] now answer view leads allows =
 leads-next m first (turn ∷ turns) now answer view (a, v, is, may, leads) allows =
     (a, v, is, may, leads-next m (next_moment m first a v) turns now answer view leads allows)
 
--- What a behaviour does whose type isn't known: the act and the state that it leaves are those of its meaning, wherever
--- it stands.
+-- What a behaviour of an unknown type does: the act and the new state are those of its meaning, wherever the behaviour
+-- is.
 pub at-state {ℓ} : {I : Type ℓ} {D : I → Type 0} (at to : (y : I) × D y) → at ≡ to → (meaning : (p : (y : I) × D y)
     → Meaning (D p.0))
     → (a : Act) (last : Answer) (left : D at.0) → a ≡ (meaning at).act at.1 last → left ≡ (meaning at).after at.1 last
@@ -51,7 +51,7 @@ at-state {I = I} {D = D} at to is meaning a last =
     → (a ≡ (meaning to).act to.1 last) × ◌≡◌ {A = (y : I) × D y} (p.0, left) (to.0, (meaning to).after to.1 last))
     (sym is) (λ left acts leaves. (acts, ap (λ y. (to.0, y)) leaves))
 
--- a run of it, in the same way, by a new mailbox
+-- a run of such a behaviour, in the same way, with a new mailbox
 pub run-at {ℓ} : {I : Type ℓ} {D : I → Type 0} (at to : (y : I) × D y) → at ≡ to
     → (meaning : (p : (y : I) × D y) → Meaning (D p.0)) (most : ℕ) (old : PostView) (trace : List Turn) (end : End)
     (new : MailboxView) (left : D at.0)
@@ -61,7 +61,7 @@ run-at {I = I} {D = D} at to is meaning most old trace end new left run =
     subst (λ (p : (y : I) × D y). IsRunOfPost (meaning p) most p.1 old trace end new.post) is
     (record { left = left; last = new.last; run = run })
 
--- so many turns were made and led here
+-- `many` turns were made and led here
 pub record HasRun {S : Type 0} (m : Meaning S) (state : S) (old : MailboxView) (done : List Turn) (many : ℕ)
     (now : Moment S) : Type 0 where
   pub leads : Leads m (first_moment state old) done now

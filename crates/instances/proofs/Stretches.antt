@@ -1,4 +1,4 @@
--- Turns as stretches of equal neighbours, and one turn more.
+-- Turns as stretches of equal neighbours, and one more turn.
 use Rattle.std.proofs.Common.{◌≡◌, ℕ, zero, suc, ◌+◌, List, [], ◌∷◌, ◌++◌, length, replicate, refl, sym, ap, ◌∙◌, arith, append-nil, append_assoc}
 use Rattle.std.specs.Prelude.{slice_set, slice_index_or}
 use Rattle.instances.specs.declared.trace.Stretch.{Stretch}
@@ -17,7 +17,7 @@ turns_of-push (s ∷ stretches) new =
     ap (λ turns. first ++ turns) (turns_of-push stretches new)
     ∙ sym (append_assoc first (turns_of stretches) (replicate new.count new.turn))
 
--- the stretch with one turn more
+-- the stretch with one more turn
 abbrev pub longer : Stretch → Stretch
 longer stretch = record { turn = stretch.turn; count = stretch.count + 1 }
 

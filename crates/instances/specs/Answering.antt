@@ -1,4 +1,4 @@
--- What a mailbox may answer to an act, and what it leaves (this project's profile, after ITU-T Z.120).
+-- What a mailbox may answer to an act, and the mailbox afterwards (this project's profile, after ITU-T Z.120).
 use Rattle.std.specs.Prelude.{◌≡◌, ◌≢◌, ℕ, ◌+◌, ◌<◌, ◌≤◌, Option, Some, None, Result, Ok, Err, IfErr}
 use Rattle.clock.specs.declared.clock.TheConstants.{INLINE_ENTRIES}
 use Rattle.chart.specs.Events.{greatest_region}
@@ -23,7 +23,7 @@ use Rattle.behaviour.specs.declared.act.Act.TheVariants as act
 use Rattle.behaviour.specs.declared.answer.Answer.{Answer}
 use Rattle.behaviour.specs.declared.answer.Answer.TheVariants as answer
 
--- what the calls of a mailbox answer
+-- the results of a mailbox's calls
 abbrev pub SendResult : Type 0
 SendResult = Result Sent (Content × SendError)
 
@@ -36,7 +36,7 @@ CloseResult = Result (Unit {0}) CloseError
 abbrev pub RegionResult : Type 0
 RegionResult = Result (Unit {0}) RegionError
 
--- What a behaviour is told of each result of its mailbox.
+-- The behaviour's answer for each result of its mailbox.
 
 abbrev pub send_answer : SendResult → Answer
 send_answer (Ok sent) = answer.Sent sent.event
@@ -58,7 +58,7 @@ region_answer (Err error) = answer.Unmarked error
 
 -- What each call of a mailbox answers, as the mailbox promises it.
 
--- with room, among up to eight instances, memory is no cause
+-- with room, a send among up to eight instances isn't refused for lack of memory
 abbrev pub HasMemory : PostView → SendResult → Type 0
 HasMemory old result = 0 < old.room → old.board.size ≤ INLINE_ENTRIES
     → IfErr result (λ refused. refused.1 ≢ sending.Memory)
@@ -85,11 +85,11 @@ pub record IsCloseResult (old : MailboxView) (to : ℕ) (result : CloseResult) (
   pub closes : Closes old.post to result new.post
   pub last : new.last ≡ old.last
 
--- only the open coregion becomes another
+-- only the open coregion has changed
 abbrev pub in_region : MailboxView → ℕ → MailboxView
 in_region mailbox region = record mailbox { post = record mailbox.post { region = region } }
 
--- a coregion of a new number begins, unless one is open
+-- a coregion with a new number begins, unless one is open
 abbrev pub IsOpenResult : MailboxView → RegionResult → MailboxView → Type 0
 IsOpenResult old (Ok done) new = (old.post.region ≡ 0) × (new ≡ in_region old (greatest_region (line_of old.post) + 1))
 IsOpenResult old (Err CoregionOpen) new = (0 < old.post.region) × (new ≡ old)
@@ -101,7 +101,7 @@ IsShutResult old (Ok done) new = (0 < old.post.region) × (new ≡ in_region old
 IsShutResult old (Err CoregionNotOpen) new = (old.post.region ≡ 0) × (new ≡ old)
 IsShutResult old (Err CoregionOpen) new = ⊥
 
--- From the first view the act may be answered so, which leaves the second. Stopping has no answer.
+-- Starting from the first view, the act may get this answer, which leads to the second view. Stopping has no answer.
 abbrev pub Allows : MailboxView → Act → Answer → MailboxView → Type 0
 Allows old (act.Send to message) a new = (result : _) × (a ≡ send_answer result)
     × IsSendResult old to message result new
@@ -112,7 +112,7 @@ Allows old act.Open a new = (result : _) × (a ≡ region_answer result) × IsOp
 Allows old act.Shut a new = (result : _) × (a ≡ region_answer result) × IsShutResult old result new
 Allows old act.Stop a new = ⊥
 
--- an act that is made, with its answer; stopping changes nothing
+-- an act that was made, with its answer; stopping changes nothing
 abbrev pub Performs : MailboxView → Act → Option Answer → MailboxView → Type 0
 Performs old a (Some answer) new = Allows old a answer new
 Performs old a None new = (a ≡ act.Stop) × (new ≡ old)

@@ -1,4 +1,4 @@
--- That a board's running reports are those which a search finds that reads no clock (this project's profile).
+-- The law that a board's running reports are those that a search finds without reading clocks (this project's profile).
 use Rattle.std.specs.Prelude.{ℕ, List, length}
 use Rattle.chart.specs.Charts.{IsPossible, chart_lines}
 use Rattle.chart.specs.Reports.{AreReports}
@@ -8,15 +8,15 @@ use Rattle.board.specs.Views.{PostView}
 use Rattle.instances.specs.declared.outcome.Run.{Run}
 use Rattle.instances.specs.Whole.{IsGathered}
 
--- some run has the chart, and the reports are those of its receives: what an audit accepts
+-- some run has the chart, and the reports are those of its receives: this is what an audit accepts
 pub record IsAccepted (it : Gathered) : Type 0 where
   pub possible : IsPossible (length it.chart) (chart_lines it.chart)
   pub reports : AreReports it.chart it.reports.items
 
--- what all posts of a board were gathered to is so
+-- the result of gathering all posts of a board is accepted
 abbrev pub GatheredLaw : Type 0
 GatheredLaw = (posts : List PostView) (it : Gathered) → IsWhole posts it → IsAccepted it
 
--- and so is what a run of a board came to
+-- the result of a board's run is accepted
 abbrev pub RunLaw : Type 0
 RunLaw = (run : Run) → IsGathered run → IsAccepted run.gathered

@@ -12,7 +12,7 @@ use Rattle.behaviour.specs.Bare.{bare_act, bare_answer}
 use Rattle.instances.specs.declared.trace.Stretch.{Stretch}
 use Rattle.instances.specs.declared.turn.Turn.{Turn}
 
--- the turns that are kept as stretches of equal neighbours
+-- the turns of stretches of equal neighbours
 abbrev pub turns_of : List Stretch → List Turn
 turns_of [] = []
 turns_of (stretch ∷ stretches) = replicate stretch.count stretch.turn ++ turns_of stretches
@@ -21,18 +21,18 @@ turns_of (stretch ∷ stretches) = replicate stretch.count stretch.turn ++ turns
 abbrev pub turn_of : Act → Answer → Turn
 turn_of act answer = record { act = bare_act act; answer = Some (bare_answer answer) }
 
--- the turn of an act of stopping, which has no answer
+-- the turn of a stop, which has no answer
 abbrev pub last_turn : Turn
 last_turn = record { act = Stop; answer = None }
 
--- The act that made an occurrence, as a trace keeps it: a send by its receiver and its message's name, a receive by its
--- sender, whichever act got it, a close by its receiver.
+-- The act that made an occurrence, as a trace keeps it. A send has its receiver and its message's name. A receive has
+-- its sender, whichever act received it. A close has its receiver.
 abbrev pub made_by : Occurrence → BareAct
 made_by (occurrence.Send from to message) = Send to message.name
 made_by (occurrence.Receive at from region) = Receive from
 made_by (occurrence.Close from to) = Close to
 
--- what this answer to an act says that was made
+-- the act that was made, according to this answer
 abbrev pub accepted : BareAct → Option BareAnswer → List BareAct
 accepted act (Some (Sent event)) = act ∷ []
 accepted act (Some (Got from event)) = Receive from ∷ []

@@ -7,7 +7,7 @@ use board::{CloseError, RegionError, SendError, Sent, TakeError, Taken};
 use chart::Message;
 use mailbox::Mailbox;
 
-/// Does an act, and tells what came of it. Stopping does nothing and has no answer.
+/// Does an act, and returns the answer to it. Stopping does nothing and has no answer.
 pub(crate) fn perform(mailbox: &mut Mailbox, act: Act) -> Option<Answer>
     ensures { Performs mailbox.old act result mailbox.new }
 {

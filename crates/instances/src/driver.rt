@@ -10,11 +10,11 @@ use behaviour::{Answer, Behaviour};
 use mailbox::Mailbox;
 use std::alloc::Global;
 
-/// Lets a behaviour drive the instance of a mailbox for so many turns at most, each of which is one call of
-/// [`Behaviour::next`]. It answers the mailbox, the trace of all turns and why they ended.
+/// Lets a behaviour drive the instance of a mailbox for at most `turns` turns, each of which is one call of
+/// [`Behaviour::next`]. It returns the mailbox, the trace of all turns, and why they ended.
 ///
-/// The behaviour is told the answer to each act at its next turn. Before it is asked, room is made for the turn: where
-/// this growth is refused (F6) it isn't asked.
+/// The behaviour gets the answer to each act at its next turn. Room for a turn is made before the behaviour is asked.
+/// If this growth is refused (F6), it isn't asked.
 pub fn drive<'a, G: Gate>(
     alloc: Global,
     mut mailbox: Mailbox<'a>,

@@ -5,7 +5,7 @@
 pub enum End {
     /// The behaviour stopped.
     Stopped,
-    /// It had all its turns, and didn't stop.
+    /// The behaviour had all its turns, and didn't stop.
     TurnsSpent,
     /// F6: a growth of the trace was refused, and the behaviour wasn't asked again.
     Memory,

@@ -1,13 +1,13 @@
-//! What is called before each act.
+//! Gates, which are called before each act.
 use chart::InstanceNo;
 
-/// Lets instances go on, and may hold them back until then.
+/// Lets instances go on, and may hold them back before.
 pub trait Gate {
-    /// It is called before each act of an instance, also before the one that it stops, with the turn's number, from 1.
+    /// Called before each act of an instance, also before its stop, with the turn's number, from 1.
     fn before(&self, p: InstanceNo, turn: u32);
 }
 
-/// A gate that holds nobody back.
+/// A gate that holds no instance back.
 #[derive(Clone, Copy, Debug)]
 pub struct Open;
 

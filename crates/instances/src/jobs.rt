@@ -13,8 +13,8 @@ use std::alloc::{AllocError, Global};
 use std::thread;
 use std::thread::Threads;
 
-/// Lets each behaviour drive its post, each in a thread, or one after the other where no thread can be made. It answers
-/// what [`drive`] answers of each, in their order. F6: a growth was refused; some may not have been driven then.
+/// Lets each behaviour drive its post, each in a thread, or one after the other if no thread can be made. It returns
+/// the result of [`drive`] for each, in their order. F6: a growth was refused, and some may not have been driven.
 pub(crate) fn drive_all<'a, R: Threads + Sync, G: Gate + Sync>(
     rt: &R,
     alloc: Global,
@@ -39,7 +39,7 @@ pub(crate) fn drive_all<'a, R: Threads + Sync, G: Gate + Sync>(
     thread::map_vec(rt, jobs, &drive_one)
 }
 
-/// Lets a behaviour that is handed over drive a post.
+/// Lets a behaviour that is given away drive a post.
 fn drive_boxed<'a, G: Gate>(
     alloc: Global,
     post: Post<'a>,

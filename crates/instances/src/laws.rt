@@ -1,8 +1,8 @@
-//! What follows from the definitions: the contract of a function that does nothing.
+//! Consequences of the definitions, as the contract of a function that does nothing.
 ghost use Rattle.instances.specs.Laws.{GatheredLaw, RunLaw};
 
-/// What a whole board was gathered to, and what a run of one came to, is a possible chart and exactly the reports of
-/// its receives. An audit by the offline checker accepts nothing else, and refuses this for want of memory alone
+/// The result of gathering a whole board, and the result of a board's run, is a possible chart with exactly the reports
+/// of its receives. An audit by the offline checker accepts nothing else, and refuses this only for lack of memory
 /// (`closure::audit`).
 pub fn accepted_law()
     ensures gathered { GatheredLaw }

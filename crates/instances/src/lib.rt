@@ -1,10 +1,10 @@
-//! Instances that are driven by behaviours, and what is recorded of it.
+//! Instances that are driven by behaviours, and the record of their runs.
 //!
-//! [`drive`] hands a behaviour's acts to a mailbox and the mailbox's answers to the behaviour, turn by turn, until
-//! the behaviour stops or its turns are spent. It answers a [`Trace`] of all turns. A [`Gate`] is called before each
-//! act. [`run`] does so with all posts of a board, each in a thread, and gathers the board. `specs/Answering.antt`
-//! says what a mailbox may answer to an act, `Driving` what a run of a behaviour is, `Traces` what a trace keeps, and
-//! `Whole` what the run of a board comes to. An audit by the offline checker accepts that ([`laws::accepted_law`]).
+//! [`drive`] passes a behaviour's acts to a mailbox and the mailbox's answers to the behaviour, turn by turn, until the
+//! behaviour stops or its turns are spent. It returns a [`Trace`] of all turns. A [`Gate`] is called before each act.
+//! [`run`] does this with all posts of a board, each in a thread, and gathers the board. `specs/Answering.antt` defines
+//! what a mailbox may answer to an act, and `Driving` a run of a behaviour. `Traces` defines what a trace keeps, and
+//! `Whole` the result of a board's run. An audit by the offline checker accepts this result ([`laws::accepted_law`]).
 #![tactic(auto)]
 
 mod acting;

@@ -20,7 +20,7 @@ pub const MAX_TURNS: u32 = 1_000_000;
 
 const _: () = prove!(MAX_TURNS == 1_000_000);
 
-/// Whether posts, so many behaviours and so many turns make a run.
+/// Whether these posts, this many behaviours and this many turns make a run.
 fn is_fit(posts: &[Post], behaviours: usize, turns: u32) -> bool
     ensures yes { result ≡ true → IsFit posts.now behaviours turns }
     ensures no { result ≡ false → IsInvalidInput posts.now behaviours turns }
@@ -64,7 +64,7 @@ fn taken_apart<A: Drop>(
     Ok((posts, traces, ends))
 }
 
-/// Runs a board, of which nothing but memory stands in the way.
+/// Runs a board, which only a lack of memory can prevent.
 fn run_fit<'a, R: Threads + Sync, G: Gate + Sync>(
     rt: &R,
     posts: Vec<Post<'a>>,
@@ -95,10 +95,10 @@ fn run_fit<'a, R: Threads + Sync, G: Gate + Sync>(
     }
 }
 
-/// Runs a board: lets each behaviour drive the post at its place, each in a thread, or one after the other where no
-/// thread can be made, for so many turns at most, and then gathers the board.
+/// Runs a board: lets each behaviour drive the post at its place for at most `turns` turns, and then gathers the board.
+/// Each behaviour runs in a thread, or one after the other if no thread can be made.
 ///
-/// F25 refuses it before anything is started, and then posts and behaviours come back. Else F6 does, and they are gone.
+/// F25 refuses it before anything is started, and then posts and behaviours come back. After F6 they are gone.
 pub fn run<'a, R: Threads + Sync, G: Gate + Sync>(
     rt: &R,
     posts: Vec<Post<'a>>,

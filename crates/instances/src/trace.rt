@@ -1,4 +1,4 @@
-//! What is recorded of a run.
+//! The record of a run.
 ghost use Rattle.std.specs.Prelude.{◌≡◌, ◌<◌, ◌++◌, ◌∷◌, [], vec_len, vec_capacity};
 ghost use Rattle.instances.specs.Traces.{turns_of};
 
@@ -6,15 +6,15 @@ use crate::turn::Turn;
 use behaviour::{BareAct, BareAnswer};
 use std::marker::Model;
 
-/// One turn and equal ones directly after it, so many in all.
+/// One turn and equal ones directly after it, `count` in all.
 #[derive(Clone, Copy, Debug, PartialEq, Eq)]
 pub struct Stretch {
     pub turn: Turn,
     pub count: u32,
 }
 
-/// The turns of a run, in their order. A contract sees the list of them; equal neighbours are kept as one with their
-/// count.
+/// The turns of a run, in their order. A contract sees the list of them. Equal neighbours are kept as one turn with
+/// their count.
 #[derive(Debug, Drop)]
 pub struct Trace {
     stretches: Vec<Stretch>,
@@ -31,14 +31,14 @@ impl Model for Trace {
 }
 
 impl Trace {
-    /// The turns that are kept so.
+    /// The turns of these stretches.
     pub(crate) fn of(stretches: Vec<Stretch>) -> Trace
         ensures { result ≡ turns_of stretches.items }
     {
         Trace { stretches }
     }
 
-    /// Its turns, equal neighbours as one with their count, in their order.
+    /// Its turns in their order, with equal neighbours as one turn with their count.
     pub fn stretches(&self) -> &[Stretch]
         ensures { turns_of result.now ≡ self.now }
     {
@@ -46,7 +46,7 @@ impl Trace {
     }
 }
 
-/// Adds a turn, for which there is room.
+/// Adds a turn. There is room for it.
 pub(crate) fn add_turn(stretches: &mut Vec<Stretch>, act: BareAct, answer: Option<BareAnswer>)
     requires { vec_len stretches.old < vec_capacity stretches.old }
     ensures { turns_of stretches.new.items

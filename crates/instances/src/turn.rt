@@ -3,7 +3,7 @@ ghost use Rattle.std.specs.Prelude.{◌≡◌, ◌↔◌, IsTrue};
 
 use behaviour::{BareAct, BareAnswer};
 
-/// A turn of a run: what the behaviour did, and what came of it. Stopping has no answer.
+/// A turn of a run: the behaviour's act, and the answer to it. Stopping has no answer.
 #[derive(Clone, Copy, Debug, PartialEq, Eq)]
 pub struct Turn {
     pub act: BareAct,
@@ -11,7 +11,7 @@ pub struct Turn {
 }
 
 impl Turn {
-    /// Whether it is this one.
+    /// Whether the two turns are equal.
     pub(crate) fn is(&self, other: &Turn) -> bool
         ensures { IsTrue result ↔ (self.now ≡ other.now) }
     {

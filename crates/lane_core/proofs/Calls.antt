@@ -1,4 +1,4 @@
--- An end that goes on alone, in either form.
+-- An end that continues alone, in either form.
 use Rattle.std.proofs.Common.{◌≡◌, ℕ, suc, zero, ◌+◌, ◌-◌, ◌<◌, ◌≤◌, ◌&&◌, ◌⊎◌, inl, inr, Bool, true, false, cond, List, [], ◌∷◌, ◌++◌, length, take, Option, Some, refl, sym, ap, ◌∙◌, subst, arith}
 use Rattle.std.specs.Prelude.{◌↔◌, reverse}
 use Rattle.std.proofs.lemmas.Bool.{cases_lt}
@@ -28,7 +28,7 @@ pub record Gave {M : Type 0} (t u : Traffic M) (m : M) : Type 0 where
   pub filling : u.filling ≡ []
   pub closed : u.closed ≡ t.closed
 
--- by a take of this message and a free, where nothing else was in the receiver's hand
+-- by a take of this message and a free, if nothing else was in the receiver's hand
 pub took : {M : Type 0} (t : Traffic M) (slot : ℕ) (m : M) → t.emptying ≡ [] → t.slots slot ≡ Some m → Took t (freed_all (taken_out t slot)) m
 took {M} t slot m hand found = record {
   freed = ap (λ (o : Option M). t.freed ++ reverse (message_in o ++ t.emptying)) found ∙ ap (λ ms. t.freed ++ reverse (m ∷ ms)) hand;
@@ -37,7 +37,7 @@ took {M} t slot m hand found = record {
   closed = refl;
 }
 
--- by a fill and a publish, where nothing else was filled
+-- by a fill and a publish, if nothing else was filled
 pub gave : {M : Type 0} (t : Traffic M) (slot : ℕ) (m : M) → t.filling ≡ [] → Gave t (published_all (put_in t slot m)) m
 gave t slot m hand = record {
   published = ap (λ ms. t.published ++ (ms ++ m ∷ [])) hand;
@@ -46,12 +46,12 @@ gave t slot m hand = record {
   closed = refl;
 }
 
--- nothing is taken of nothing
+-- nothing is taken from an empty list
 take_none : {A : Type 0} (n : ℕ) → take {A = A} n [] ≡ []
 take_none zero = refl
 take_none (suc n) = refl
 
--- both of two tests hold
+-- the second of two tests holds if both do
 both : (a b : Bool) → (a && b) ≡ true → b ≡ true
 both true b e = e
 both false b e = let no : true ≡ false = sym e in cc
@@ -63,7 +63,7 @@ module _ {M : Type 0} (form : Form M)
     (looks : (k : ℕ) (h : List (Step M)) → IsRun form k h → IsRun form k (Receiver_loads ∷ h) × (traffic_of form k (Receiver_loads ∷ h) ≡ traffic_of form k h))
     (loaded : (k : ℕ) (h : List (Step M)) → 1 ≤ k → IsRun form k h → (traffic_of form k h).emptying ≡ [] → 0 < length (waiting (traffic_of form k h)) → receiver_keeps form k (Receiver_loads ∷ h) ≡ true)
     (takes : (k : ℕ) (h : List (Step M)) → 1 ≤ k → IsRun form k h → (traffic_of form k h).emptying ≡ [] → receiver_keeps form k h ≡ true → IsRun form k (Frees ∷ Takes ∷ h) × ((m : M) × Took (traffic_of form k h) (traffic_of form k (Frees ∷ Takes ∷ h)) m)) where
-  -- what is found where none waits
+  -- what is found if no message waits
   found_none : (k : ℕ) (h : List (Step M)) → 1 ≤ k → IsRun form k h → length (waiting (traffic_of form k h)) ≤ 0 → receiver_finds form k h ≡ cond (traffic_of form k h).closed Ended Nothing
   found_none k h some run none = go (receiver_finds form k h) (traffic_of form k h).closed (found k h some run) refl
     where
@@ -78,7 +78,7 @@ module _ {M : Type 0} (form : Form M)
           empty [] none = refl
           empty (m ∷ ms) none = absurd (omega arith)
 
-  -- none is claimed where none waits
+  -- no message is claimed if none waits
   claims_none : (k : ℕ) (h : List (Step M)) → 1 ≤ k → IsRun form k h → (traffic_of form k h).emptying ≡ [] → length (waiting (traffic_of form k h)) ≤ 0 → receiver_keeps form k h ≡ false
   claims_none k h some run hand none = go (receiver_keeps form k h) (λ e. claimed k h some run hand e)
     where
@@ -94,11 +94,11 @@ module _ {M : Type 0} (form : Form M)
       t : Traffic M
       t = traffic_of form k h
 
-      -- what the further calls come to, from any run
+      -- the effect of the further calls, from any run
       Further : Type 0
       Further = (g : List (Step M)) → IsRun form k g → (traffic_of form k g).emptying ≡ [] → AreReceived form k (traffic_of form k g) (length calls) (receives form k calls g)
 
-      -- none waits: the call loads alone
+      -- no message waits: the call only loads
       idle : Further → (0 < length (waiting t) → ⊥) → AreReceived form k t (suc (length calls)) (receives form k calls (Receiver_loads ∷ h))
       idle further none =
           let look = looks k h run in
@@ -115,7 +115,7 @@ module _ {M : Type 0} (form : Form M)
           nothing [] none = refl
           nothing (m ∷ ms) none = absurd (none (omega arith))
 
-      -- one was received, from a run g with the same traffic
+      -- one message was received, from a run g with the same traffic
       onward : Further → (g : List (Step M)) → IsRun form k g → traffic_of form k g ≡ t → receiver_keeps form k g ≡ true → AreReceived form k t (suc (length calls)) (receives form k calls (Frees ∷ Takes ∷ g))
       onward further g goes same claim =
           let took = takes k g some goes (ap (λ (u : Traffic M). u.emptying) same ∙ hand) claim in
@@ -152,7 +152,7 @@ module _ {M : Type 0} (form : Form M)
     (looks : (k : ℕ) (h : List (Step M)) → IsRun form k h → IsRun form k (Sender_loads ∷ h) × (traffic_of form k (Sender_loads ∷ h) ≡ traffic_of form k h))
     (loaded : (k : ℕ) (h : List (Step M)) → 1 ≤ k → IsRun form k h → (traffic_of form k h).filling ≡ [] → length (waiting (traffic_of form k h)) < k → sender_keeps form k (Sender_loads ∷ h) ≡ true)
     (gives : (k : ℕ) (h : List (Step M)) (m : M) → 1 ≤ k → IsRun form k h → (traffic_of form k h).filling ≡ [] → (traffic_of form k h).closed ≡ false → sender_keeps form k h ≡ true → IsRun form k (Publishes ∷ Fills m ∷ h) × Gave (traffic_of form k h) (traffic_of form k (Publishes ∷ Fills m ∷ h)) m) where
-  -- there is room where fewer wait
+  -- there is room if fewer messages wait
   found_room : (k : ℕ) (h : List (Step M)) → 1 ≤ k → IsRun form k h → length (waiting (traffic_of form k h)) < k → sender_finds form k h ≡ Vacant
   found_room k h some run less = go (sender_finds form k h) (λ e. (full k h some run).0 e)
     where
@@ -160,7 +160,7 @@ module _ {M : Type 0} (form : Form M)
       go Vacant right = refl
       go Full right = absurd (let many = right refl in omega arith)
 
-  -- no slot is claimed where as many wait
+  -- no slot is claimed if as many messages wait
   claims_full : (k : ℕ) (h : List (Step M)) → 1 ≤ k → IsRun form k h → (traffic_of form k h).filling ≡ [] → length (waiting (traffic_of form k h)) ≡ k → sender_keeps form k h ≡ false
   claims_full k h some run hand many = go (sender_keeps form k h) (λ e. claimed k h some run hand e)
     where
@@ -168,7 +168,7 @@ module _ {M : Type 0} (form : Form M)
       go true less = absurd (let few = less refl in omega arith)
       go false less = refl
 
-  -- nothing is taken of a list
+  -- none of a list's elements is taken
   none_of : (n : ℕ) (ms : List M) → n ≡ 0 → take n ms ≡ []
   none_of n ms e = ap (λ c. take c ms) e
 
@@ -190,11 +190,11 @@ module _ {M : Type 0} (form : Form M)
       m : M
       m = call.message
 
-      -- what the further sends come to, from any run
+      -- the effect of the further sends, from any run
       Further : Type 0
       Further = (g : List (Step M)) → IsRun form k g → (traffic_of form k g).filling ≡ [] → (traffic_of form k g).closed ≡ false → AreSent form k (traffic_of form k g) calls (sends form k calls g)
 
-      -- one was sent, from a run g with the same traffic
+      -- one message was sent, from a run g with the same traffic
       onward : Further → (g : List (Step M)) → IsRun form k g → traffic_of form k g ≡ t → sender_keeps form k g ≡ true → AreSent form k t (call ∷ calls) (sends form k calls (Publishes ∷ Fills m ∷ g))
       onward further g goes same claim =
           let hand_of_g = ap (λ (u : Traffic M). u.filling) same ∙ hand in

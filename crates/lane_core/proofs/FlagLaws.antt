@@ -22,7 +22,7 @@ no_hand true e = absurd (omega arith)
 no_hand false e = refl
 
 module _ {M : Type 0} where
-  -- what was published, and whether the lane is closed, after a step on a closed lane
+  -- the published messages, and whether the lane is closed, after a step on a closed lane
   after_closed : (k : ℕ) (l : FlagLane M) (e : Step M) → Fits k l → MayFollow l e → l.traffic.closed ≡ true → laws.StaysClosed l.traffic (after l e).traffic
   after_closed k l Sender_loads f may closed = record { published = refl; closed = closed }
   after_closed k l (Fills m) f may closed = record { published = refl; closed = closed }
@@ -127,7 +127,7 @@ module _ {M : Type 0} where
           by (inl less) = subst (λ b. cond b Full Vacant ≡ Full ↔ length (waiting l.traffic) ≡ k) (sym (word_open k l some f less)) ((λ (no : Vacant ≡ Full). cc), (λ many. absurd (omega (arith, count_waiting l.traffic))))
           by (inr e) = subst (λ b. cond b Full Vacant ≡ Full ↔ length (waiting l.traffic) ≡ k) (sym (word_full k l some f e)) ((λ yes. omega (arith, count_waiting l.traffic)), (λ many. refl))
 
-  -- A receiver or a sender that goes on alone.
+  -- A receiver or a sender that continues alone.
 
   receiver_claimed : (k : ℕ) (h : List (Step M)) → 1 ≤ k → IsRun (flag_words M) k h → (traffic_of (flag_words M) k h).emptying ≡ [] → receiver_keeps (flag_words M) k h ≡ true → 0 < length (waiting (traffic_of (flag_words M) k h))
   receiver_claimed k h some run hand e =

@@ -17,8 +17,8 @@ abbrev pub bit : Bool → ℕ
 bit true = 1
 bit false = 0
 
--- words, ends and traffic fit together: between the two counts the slots are full, and from the sender's on they are not;
--- the end bit is set on the sender's slot alone, once it has closed; and an end's claim is right
+-- words, ends and traffic agree. The slots between the two counts are full, and those from the sender's count on are
+-- not. Only the sender's slot has the end bit, once the sender has closed. Each end's claim is right
 pub record Fits {M : Type 0} (k : ℕ) (l : FlagLane M) : Type 0 where
   pub sender_slots : l.sender.capacity ≡ k
   pub receiver_slots : l.receiver.capacity ≡ k
@@ -67,7 +67,7 @@ same_less c n other = go (cases_lt c n)
             strictly (inl less) = less
             strictly (inr least) = absurd (other (omega arith))
 
--- a bit that the step on a word leaves as it was
+-- a bit that a step on a word leaves as it was
 bit_kept : (part : Word → Bool) (words : ℕ → Word) (slot i : ℕ) (w : Word) → part w ≡ part (words slot) → part (with_at words slot w i) ≡ part (words i)
 bit_kept part words slot i w same = go (cases_eq i slot)
   where
@@ -84,22 +84,22 @@ module _ {M : Type 0} (k : ℕ) (l : FlagLane M) (some : 1 ≤ k) (f : Fits k l)
   pub at_receiver : receiver_slot l.receiver ≡ l.receiver.taken % k
   at_receiver = ap (λ c. l.receiver.taken % c) f.receiver_slots
 
-  -- the sender's next slot isn't full where fewer wait than there are slots
+  -- the sender's next slot isn't full if fewer messages wait than there are slots
   pub word_open : l.sender.put < l.receiver.taken + k → (sender_word l).full ≡ false
   word_open less = ap (λ i. (l.words i).full) at_sender ∙ f.full l.sender.put (omega arith) less ∙ not_less l.sender.put l.sender.put (omega arith)
 
-  -- it is full where as many wait
+  -- the sender's next slot is full if as many messages wait as there are slots
   pub word_full : l.sender.put ≡ l.receiver.taken + k → (sender_word l).full ≡ true
   word_full e =
       ap (λ i. (l.words i).full) (at_sender ∙ ap (λ c. c % k) e ∙ add-mod_right l.receiver.taken k)
       ∙ f.full l.receiver.taken (omega arith) (omega arith)
       ∙ lt-ltb l.receiver.taken l.sender.put (omega arith)
 
-  -- the receiver's next slot is full where one waits
+  -- the receiver's next slot is full exactly if a message waits
   pub word_waits : (receiver_word l).full ≡ nat_lt l.receiver.taken l.sender.put
   word_waits = ap (λ i. (l.words i).full) at_receiver ∙ f.full l.receiver.taken (omega arith) (omega arith)
 
-  -- the sender's next slot, or it is full
+  -- the sender's next slot is free, or the lane is full
   pub word_cases : (l.sender.put < l.receiver.taken + k) ⊎ (l.sender.put ≡ l.receiver.taken + k)
   word_cases = go (cases_lt l.sender.put (l.receiver.taken + k))
     where
@@ -156,11 +156,11 @@ module _ {M : Type 0} (k : ℕ) (l : FlagLane M) (some : 1 ≤ k) (f : Fits k l)
   pub next_there : l.receiver.claims ≡ true → l.receiver.emptied ≡ false → length l.traffic.freed + length l.traffic.emptying < length l.traffic.published
   next_there claims fresh = omega (arith, f.receiver_claims claims, ap bit fresh)
 
-  -- it is that of the count of what it has freed
+  -- the receiver's next slot is that of the number of messages freed
   pub next_slot : l.receiver.emptied ≡ false → receiver_slot l.receiver ≡ (length l.traffic.freed + length l.traffic.emptying) % k
   next_slot fresh = let counts : l.receiver.taken ≡ length l.traffic.freed + length l.traffic.emptying = omega (arith, ap bit fresh) in at_receiver ∙ ap (λ c. c % k) counts
 
-  -- so is the slot that it took from
+  -- the same for the slot from which it took
   pub last_slot : l.receiver.emptied ≡ true → receiver_slot l.receiver ≡ (length l.traffic.freed + (length l.traffic.emptying - 1)) % k
   last_slot hand = let counts : l.receiver.taken ≡ length l.traffic.freed + (length l.traffic.emptying - 1) = omega (arith, ap bit hand) in at_receiver ∙ ap (λ c. c % k) counts
 
@@ -183,7 +183,7 @@ first k = record {
   holds = holds_first k;
 }
 
--- each step keeps it
+-- each step keeps this agreement
 kept : {M : Type 0} (k : ℕ) (l : FlagLane M) (e : Step M) → 1 ≤ k → Fits k l → MayFollow l e → Fits k (after l e)
 kept k l Sender_loads some old may = record {
   sender_slots = old.sender_slots;
@@ -347,7 +347,7 @@ kept k l Frees some old may =
       holds = holds_freed k l.traffic old.holds;
     }
 
--- after every run
+-- the agreement holds after every run
 pub fits : {M : Type 0} (k : ℕ) (h : List (Step M)) → 1 ≤ k → IsRun (flag_words M) k h → Fits k (lane_after (flag_words M) k h)
 fits k [] some run = first k
 fits {M} k (e ∷ h) some run = kept k (lane_after (flag_words M) k h) e some (fits k h some run.1) run.0

@@ -1,4 +1,4 @@
--- Laws of a form, from what holds after each of its runs.
+-- Laws of a form, from facts that hold after each of its runs.
 use Rattle.std.proofs.Common.{◌≡◌, ℕ, ◌≤◌, true, List, [], ◌∷◌, ◌++◌, refl, ◌∙◌, arith}
 use Rattle.std.specs.Prelude.{reverse}
 use Rattle.std.proofs.lemmas.List.{append_assoc}
@@ -8,7 +8,7 @@ use Rattle.lane_core.specs.Steps.{Step}
 use Rattle.lane_core.specs.Traffic.{Traffic}
 use Rattle.lane_core.proofs.Passing.{Holds, HasRoom, IsFoundRightly, count_waiting}
 
--- what was published stays, and the lane stays closed
+-- the published messages stay, and the lane stays closed
 pub record StaysClosed {M : Type 0} (t u : Traffic M) : Type 0 where
   pub published : u.published ≡ t.published
   pub closed : u.closed ≡ true

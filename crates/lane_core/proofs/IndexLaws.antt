@@ -16,7 +16,7 @@ use Rattle.lane_core.proofs.Passing.{Holds, HasRoom, IsFoundRightly, found_right
 use Rattle.lane_core.proofs.Rings.{other_slot, set_there}
 
 module _ {M : Type 0} where
-  -- what was published, and whether the lane is closed, after a step on a closed lane
+  -- the published messages, and whether the lane is closed, after a step on a closed lane
   after_closed : (k : ℕ) (l : IndexLane M) (e : Step M) → Fits k l → MayFollow l e → l.traffic.closed ≡ true → laws.StaysClosed l.traffic (after l e).traffic
   after_closed k l Sender_loads f may closed = record { published = refl; closed = closed }
   after_closed k l (Fills m) f may closed = record { published = refl; closed = closed }
@@ -107,7 +107,7 @@ module _ {M : Type 0} where
       go true e f = let less : l.sender.published < l.taken + l.sender.capacity = ltb-true _ _ e in ((λ (no : Vacant ≡ Full). cc), (λ many. absurd (omega (arith, count_waiting l.traffic))))
       go false e f = let more : l.taken + l.sender.capacity ≤ l.sender.published = ltb-false _ _ e in ((λ yes. omega (arith, count_waiting l.traffic)), (λ many. refl))
 
-  -- A receiver or a sender that goes on alone.
+  -- A receiver or a sender that continues alone.
 
   receiver_claimed : (k : ℕ) (h : List (Step M)) → 1 ≤ k → IsRun (index_words M) k h → (traffic_of (index_words M) k h).emptying ≡ [] → receiver_keeps (index_words M) k h ≡ true → 0 < length (waiting (traffic_of (index_words M) k h))
   receiver_claimed k h some run hand e =

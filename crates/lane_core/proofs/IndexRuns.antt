@@ -13,8 +13,8 @@ abbrev pub bit : Bool → ℕ
 bit true = 1
 bit false = 0
 
--- words, ends and traffic fit together: each count is that of the content, and what an end last loaded is no more than what
--- has come since
+-- words, ends and traffic agree: each count is that of the messages, and what an end loaded last is no more than the
+-- count since then
 pub record Fits {M : Type 0} (k : ℕ) (l : IndexLane M) : Type 0 where
   pub put : l.put ≡ 2 * l.sender.published + bit l.sender.closed
   pub taken : l.taken ≡ l.receiver.freed
@@ -36,30 +36,30 @@ pub half : (word n : ℕ) (closed : Bool) → word ≡ 2 * n + bit closed → wo
 half word n true e = omega arith
 half word n false e = omega arith
 
--- its low bit says whether the lane is closed
+-- the low bit of the word put is set exactly if the lane is closed
 pub low : (word n : ℕ) (closed : Bool) → word ≡ 2 * n + bit closed → (word % 2 == 1) ≡ closed
 low word n true e = let odd : word % 2 ≡ 1 = omega arith in rw odd refl
 low word n false e = let even : word % 2 ≡ 0 = omega arith in rw even refl
 
--- the slot of the next message that is filled
+-- the slot of the next message to be filled in
 pub next_filled : {M : Type 0} (k : ℕ) (l : IndexLane M) → Fits k l → fill_slot l.sender ≡ (length l.traffic.published + length l.traffic.filling) % k
 next_filled k l f =
     let counts : fill_count l.sender ≡ length l.traffic.published + length l.traffic.filling = omega arith in
     ap (λ c. fill_count l.sender % c) f.sender_slots ∙ ap (λ c. c % k) counts
 
--- that of the last one that was taken
+-- the slot of the last taken message
 pub last_taken : {M : Type 0} (k : ℕ) (l : IndexLane M) → Fits k l → back_slot l.receiver ≡ (length l.traffic.freed + (length l.traffic.emptying - 1)) % k
 last_taken k l f =
     let counts : back_count l.receiver ≡ length l.traffic.freed + (length l.traffic.emptying - 1) = omega arith in
     ap (λ c. back_count l.receiver % c) f.receiver_slots ∙ ap (λ c. c % k) counts
 
--- that of the next one that is taken
+-- the slot of the next message to be taken
 pub next_taken : {M : Type 0} (k : ℕ) (l : IndexLane M) → Fits k l → take_slot l.receiver ≡ (length l.traffic.freed + length l.traffic.emptying) % k
 next_taken k l f =
     let counts : take_count l.receiver ≡ length l.traffic.freed + length l.traffic.emptying = omega arith in
     ap (λ c. take_count l.receiver % c) f.receiver_slots ∙ ap (λ c. c % k) counts
 
--- its slot has a message
+-- this slot has a message
 pub taken_from : {M : Type 0} (k : ℕ) (l : IndexLane M) → Fits k l → MayFollow l Takes → (m : M) × (l.traffic.slots (take_slot l.receiver) ≡ Some m)
 taken_from k l f may = has_next k l.traffic f.holds (take_slot l.receiver) (omega arith) (next_taken k l f)
 
@@ -81,7 +81,7 @@ first k = record {
   holds = holds_first k;
 }
 
--- each step keeps it
+-- each step keeps this agreement
 pub kept : {M : Type 0} (k : ℕ) (l : IndexLane M) (e : Step M) → Fits k l → MayFollow l e → Fits k (after l e)
 kept k l Sender_loads old may = record {
   put = old.put;
@@ -228,7 +228,7 @@ kept k l Frees old may = record {
   holds = holds_freed k l.traffic old.holds;
 }
 
--- after every run
+-- the agreement holds after every run
 pub fits : {M : Type 0} (k : ℕ) (h : List (Step M)) → IsRun (index_words M) k h → Fits k (lane_after (index_words M) k h)
 fits k [] run = first k
 fits {M} k (e ∷ h) run = kept k (lane_after (index_words M) k h) e (fits k h run.1) run.0

@@ -1,5 +1,5 @@
--- What the slots of a lane hold, and what was published and freed, at each touch and publish and free: the same in both
--- forms.
+-- The contents of a lane's slots, and the published and freed messages, at each touch, publish and free: the same in
+-- both forms.
 use Rattle.std.proofs.Common.{◌≡◌, ℕ, ◌+◌, ◌-◌, ◌%◌, ◌<◌, ◌≤◌, ◌⊎◌, inl, inr, Bool, true, false, cond, List, [], ◌∷◌, ◌++◌, length, drop, Option, None, Some, refl, sym, ap, ◌∙◌, subst, arith}
 use Rattle.std.specs.Prelude.{◌↔◌, reverse, nat_lt}
 use Rattle.std.proofs.Math.Nat.{add-mod_right}
@@ -25,14 +25,14 @@ has_other slots k n (m ∷ ms) slot o other has = (
   has_other slots k (n + 1) ms slot o (λ c low high. other c (omega arith) (omega arith)) has.1,
 )
 
--- one message more
+-- one more message
 has_push : {M : Type 0} (slots : ℕ → Option M) (k n : ℕ) (ms : List M) (m : M) → HasSlots slots k n ms → slots ((n + length ms) % k) ≡ Some m → HasSlots slots k n (ms ++ m ∷ [])
 has_push slots k n [] m has last = (subst (λ c. slots (c % k) ≡ Some m) (omega arith) last, tt)
 has_push slots k n (x ∷ ms) m has last =
     let shift : n + length (x ∷ ms) ≡ (n + 1) + length ms = omega arith in
     (has.0, has_push slots k (n + 1) ms m has.1 (subst (λ c. slots (c % k) ≡ Some m) shift last))
 
--- the first of these messages alone
+-- only the first of these messages
 has_front : {M : Type 0} (slots : ℕ → Option M) (k n : ℕ) (xs ys : List M) → HasSlots slots k n (xs ++ ys) → HasSlots slots k n xs
 has_front slots k n [] ys has = tt
 has_front slots k n (x ∷ xs) ys has = (has.0, has_front slots k (n + 1) xs ys has.1)
@@ -41,7 +41,7 @@ has_front slots k n (x ∷ xs) ys has = (has.0, has_front slots k (n + 1) xs ys 
 between : {M : Type 0} (freed emptying : List M) (m : M) (ms : List M) → (freed ++ reverse emptying) ++ m ∷ ms ≡ (freed ++ reverse (m ∷ emptying)) ++ ms
 between freed emptying m ms = sym (ap (λ xs. (freed ++ xs) ++ ms) (reverse_onto emptying m []) ∙ ap (λ xs. xs ++ ms) (sym (append_assoc freed (reverse emptying) (m ∷ []))) ∙ append_assoc (freed ++ reverse emptying) (m ∷ []) ms)
 
--- a slot that is emptied, and one that was empty
+-- a slot that is emptied is empty, and so is one that was empty
 vacated : {M : Type 0} (slots : ℕ → Option M) (slot i : ℕ) → ((i ≡ slot → ⊥) → slots i ≡ None) → with_at slots slot None i ≡ None
 vacated slots slot i empty = go (cases_eq i slot)
   where
@@ -49,8 +49,9 @@ vacated slots slot i empty = go (cases_eq i slot)
     go (inl same) = set_there slots slot i None same
     go (inr other) = set_other slots slot i None other ∙ empty other
 
--- what was freed or is in the receiver's hand is a beginning of what was published, and the slots hold the rest, and then
--- what the sender put in; nothing is in those from which the receiver has taken, nor, on an open lane, in those that are free
+-- the messages freed or in the receiver's hand are a beginning of the published ones. The slots have the rest, and then
+-- the messages that the sender put in. The slots from which the receiver has taken are empty, and so are the free ones
+-- on an open lane
 pub record Holds {M : Type 0} (k : ℕ) (t : Traffic M) : Type 0 where
   pub left : List M
   pub order : t.published ≡ (t.freed ++ reverse t.emptying) ++ left
@@ -58,11 +59,11 @@ pub record Holds {M : Type 0} (k : ℕ) (t : Traffic M) : Type 0 where
   pub taken_empty : (c : ℕ) → length t.freed ≤ c → c < length t.freed + length t.emptying → t.slots (c % k) ≡ None
   pub free_empty : t.closed ≡ false → (c : ℕ) → length t.published + length t.filling ≤ c → c < length t.freed + k → t.slots (c % k) ≡ None
 
--- no more is published or put in than the lane has slots
+-- no more messages are published or put in than the lane has slots
 abbrev pub HasRoom : {M : Type 0} → ℕ → Traffic M → Type 0
 HasRoom k t = length t.published + length t.filling ≤ length t.freed + k
 
--- how much of what was published is left in the slots
+-- how many of the published messages are left in the slots
 pub count_left : {M : Type 0} (k : ℕ) (t : Traffic M) (h : Holds k t) → length t.published ≡ (length t.freed + length t.emptying) + length h.left
 count_left k t h = omega (arith, ap length h.order, length-append (t.freed ++ reverse t.emptying) h.left, length-append t.freed (reverse t.emptying), length-reverse t.emptying)
 
@@ -97,7 +98,7 @@ module _ {M : Type 0} (k : ℕ) (t : Traffic M) (h : Holds k t) where
       other : (c : ℕ) → reached ≤ c → c < reached + length (h.left ++ t.filling) → c % k ≡ slot → ⊥
       other c low high same = other_slot k c (length t.published + length t.filling) (omega (arith, count_held)) (omega arith) (same ∙ at)
 
-  -- what was put in is published
+  -- the messages that were put in are published
   pub holds_published : Holds k (published_all t)
   holds_published = record {
     left = h.left ++ t.filling;
@@ -117,7 +118,7 @@ module _ {M : Type 0} (k : ℕ) (t : Traffic M) (h : Holds k t) where
     free_empty = λ (no : true ≡ false) c low high. cc;
   }
 
-  -- the slot that is taken from next has a message
+  -- the next slot to be taken from has a message
   pub has_next : (slot : ℕ) → reached < length t.published → slot ≡ reached % k → (m : M) × (t.slots slot ≡ Some m)
   has_next slot some at = go h.left h.slots (omega (arith, count_left k t h))
     where
@@ -133,7 +134,7 @@ module _ {M : Type 0} (k : ℕ) (t : Traffic M) (h : Holds k t) where
       go (inl less) = less
       go (inr last) = absurd (other (omega arith))
 
-  -- the receiver takes it
+  -- the receiver takes this message
   pub holds_taken : (slot : ℕ) → reached < length t.published → HasRoom k t → slot ≡ reached % k → Holds k (taken_out t slot)
   holds_taken slot some room at = go h.left h.order h.slots count_held (omega (arith, count_left k t h))
     where
@@ -152,15 +153,15 @@ module _ {M : Type 0} (k : ℕ) (t : Traffic M) (h : Holds k t) where
           } in
           subst (λ (o : Option M). Holds k (record t { slots = with_at t.slots slot None; emptying = message_in o ++ t.emptying })) (sym found) taken
 
-  -- nothing is in the slot from which it took last
+  -- the slot from which the receiver took last is empty
   pub back_empty : 0 < length t.emptying → t.slots ((length t.freed + (length t.emptying - 1)) % k) ≡ None
   back_empty some = h.taken_empty (length t.freed + (length t.emptying - 1)) (omega arith) (omega arith)
 
-  -- nor, on an open lane, in the one that the sender fills next
+  -- on an open lane, the slot that the sender fills next is empty too
   pub next_empty : t.closed ≡ false → length t.published + length t.filling < length t.freed + k → t.slots ((length t.published + length t.filling) % k) ≡ None
   next_empty opened room = h.free_empty opened (length t.published + length t.filling) (omega arith) room
 
-  -- the receiver puts back what it took last
+  -- the receiver puts back the message that it took last
   pub holds_back : (slot : ℕ) → 0 < length t.emptying → HasRoom k t → slot ≡ (length t.freed + (length t.emptying - 1)) % k → Holds k (back_in t t.emptying slot)
   holds_back slot some room at = go t.emptying refl
     where
@@ -179,7 +180,7 @@ module _ {M : Type 0} (k : ℕ) (t : Traffic M) (h : Holds k t) where
             free_empty = λ opened c low high. set_other t.slots slot (c % k) (Some m) (λ same. other_slot k n c (omega (arith, count_left k t h)) (omega arith) (sym (same ∙ at ∙ ap (λ c. c % k) there))) ∙ h.free_empty opened c low high;
           }
 
-  -- what it took is freed
+  -- the messages that it took are freed
   pub holds_freed : Holds k (freed_all t)
   holds_freed = record {
     left = h.left;
@@ -200,7 +201,7 @@ module _ {M : Type 0} (k : ℕ) (t : Traffic M) (h : Holds k t) where
           let e : c ≡ d + k = omega arith in
           ap t.slots (ap (λ n. n % k) e ∙ add-mod_right d k) ∙ h.taken_empty d (omega arith) (omega arith)
 
--- what was taken last is put back into a slot
+-- the message that was taken last is put back into a slot
 pub put_back : {M : Type 0} (t : Traffic M) (slot i : ℕ) → i ≡ slot → 0 < length t.emptying
     → (m : M) × (before : List M) × (t.emptying ≡ m ∷ before) × ((back_in t t.emptying slot).emptying ≡ before) × ((back_in t t.emptying slot).slots i ≡ Some m)
 put_back {M} t slot i same some = go t.emptying refl some
@@ -209,19 +210,19 @@ put_back {M} t slot i same some = go t.emptying refl some
     go [] e some = absurd (omega arith)
     go (m ∷ ms) e some = (m, ms, e, refl, set_there t.slots slot i (Some m) same)
 
--- how many wait
+-- how many messages wait
 pub count_waiting : {M : Type 0} (t : Traffic M) → length (waiting t) ≡ length t.published - length t.freed
 count_waiting t = length-drop (length t.freed) t.published
 
--- what is published goes on with what waits
+-- the published messages are the freed ones and then the waiting ones
 pub goes_on : {M : Type 0} (t : Traffic M) (rest : List M) → t.published ≡ t.freed ++ rest → waiting t ≡ rest
 goes_on t rest order = ap (drop (length t.freed)) order ∙ drop-append_seam t.freed rest
 
--- a message is found exactly where one waits, and the end exactly where none waits and the lane is closed
+-- a message is found exactly if one waits, and the end exactly if none waits and the lane is closed
 abbrev pub IsFoundRightly : {M : Type 0} → Traffic M → Found → Type 0
 IsFoundRightly t found = (found ≡ Message ↔ 0 < length (waiting t)) × (found ≡ Ended ↔ ((waiting t ≡ []) × (t.closed ≡ true)))
 
--- an answer by two tests: whether one waits, and where none does whether the lane is closed
+-- an answer by two tests: whether a message waits, and if none does, whether the lane is closed
 pub found_rightly : {M : Type 0} (t : Traffic M) (some ended : Bool) → some ≡ nat_lt (length t.freed) (length t.published) → (length t.published ≤ length t.freed → ended ≡ t.closed) → IsFoundRightly t (cond some Message (cond ended Ended Nothing))
 found_rightly t true ended e right =
     let less : length t.freed < length t.published = ltb-true _ _ (sym e) in

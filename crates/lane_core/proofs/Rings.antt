@@ -1,4 +1,4 @@
--- Slots of a ring: counts that lie less than k apart have different ones among k; and what each slot has, with one set.
+-- Slots of a ring: counts that differ by less than k have different slots of k. Contents of slots, with one set.
 use Rattle.std.proofs.Common.{◌≡◌, ℕ, suc, ◌+◌, ◌*◌, ◌/◌, ◌%◌, ◌<◌, ◌≤◌, ◌==◌, ◌⊎◌, Bool, true, false, cond, inl, inr, refl, sym, eq-eqb, subst, arith}
 use Rattle.std.proofs.Math.Nat.{div-add-mod, mul-le-mul_left, mul-suc}
 use Rattle.std.proofs.lemmas.Bool.{cases_lt, eqb-true}

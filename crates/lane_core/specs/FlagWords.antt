@@ -1,4 +1,4 @@
--- A lane over slot words: its two ends, and what each step makes of it (this project's profile).
+-- A lane over slot words: its two ends, and the effect of each step on it (this project's profile).
 use Rattle.std.specs.Prelude.{◌≡◌, ℕ, ◌+◌, ◌%◌, ◌<◌, ◌^◌, true, false, not, ◌&&◌, if◌then◌else◌}
 use Rattle.lane_core.specs.declared.flag_words.Word.{Word}
 use Rattle.lane_core.specs.declared.flag_words.SenderEnd.{SenderEnd}
@@ -49,7 +49,7 @@ room_in word = if word.full then Full else Vacant
 abbrev pub MayFill : SenderEnd → Type 0
 MayFill s = (s.claims ≡ true) × (s.filled ≡ false)
 
--- after it filled it
+-- after it filled this slot
 abbrev pub sender_filled : SenderEnd → SenderEnd
 sender_filled s = record s { filled = true }
 
@@ -77,7 +77,7 @@ end_word word = record { full = word.full; end = true }
 abbrev pub sender_closed : SenderEnd → SenderEnd
 sender_closed s = record s { claims = false; filled = false; closed = true }
 
--- what comes next in a send
+-- the next step of a send
 abbrev pub next_sender_step : SenderEnd → SenderStep
 next_sender_step s = if s.filled then Publish else (if s.claims then Fill else Load)
 
@@ -101,7 +101,7 @@ ReceiverFits r = (0 < r.capacity) × (r.taken < 2 ^ 62)
 abbrev pub receiver_slot : ReceiverEnd → ℕ
 receiver_slot r = r.taken % r.capacity
 
--- after it loaded this word: it claims its next slot where that is full
+-- after it loaded this word: it claims its next slot if that is full
 abbrev pub receiver_loaded : ReceiverEnd → Word → ReceiverEnd
 receiver_loaded r word = record r { claims = word.full }
 
@@ -109,7 +109,7 @@ receiver_loaded r word = record r { claims = word.full }
 abbrev pub ReceiverClaims : ReceiverEnd → ℕ → Type 0
 ReceiverClaims r count = (r.claims ≡ true) × (count ≡ r.taken)
 
--- what it finds in this word of its next slot: a message where it is full, and else whether the lane has ended
+-- what it finds in this word of its next slot: a message if the slot is full, and otherwise whether the lane has ended
 abbrev pub found_in : Word → Found
 found_in word = if word.full then Message else (if word.end then Ended else Nothing)
 
@@ -141,7 +141,7 @@ free_word word = record { full = false; end = word.end }
 abbrev pub receiver_freed : ReceiverEnd → ReceiverEnd
 receiver_freed r = record r { taken = r.taken + 1; claims = false; emptied = false }
 
--- what comes next in a receive
+-- the next step of a receive
 abbrev pub next_receiver_step : ReceiverEnd → ReceiverStep
 next_receiver_step r = if r.emptied then Free else (if r.claims then Take else Look)
 

@@ -5,11 +5,10 @@ use Rattle.lane_core.specs.declared.answers.Found.{Found}
 use Rattle.lane_core.specs.Steps.{Step}
 use Rattle.lane_core.specs.Traffic.{Traffic}
 
--- a form of the lanes whose messages are of the type M: what a lane is, what a step makes of it, and what its ends go
--- by
+-- a form of lanes whose messages are of the type M: what a lane is, how a step changes it, and what its ends know
 pub record Form (M : Type 0) : Type 1 where
   pub Lane : Type 0
-  -- with so many slots
+  -- a new lane of this many slots
   pub new_lane : ℕ → Lane
   pub after : Lane → Step M → Lane
   -- the step is allowed, by its end's own numbers
@@ -22,7 +21,7 @@ pub record Form (M : Type 0) : Type 1 where
   -- an end claims the slot of this count
   pub SenderClaims : Lane → ℕ → Type 0
   pub ReceiverClaims : Lane → ℕ → Type 0
-  -- the count whose slot the sender fills next, the receiver takes from next, and it puts back into next
+  -- the counts whose slots the sender fills next, the receiver takes from next, and the receiver puts back into next
   pub fills_next : Lane → ℕ
   pub takes_next : Lane → ℕ
   pub puts_back_next : Lane → ℕ
@@ -44,7 +43,7 @@ IsRun form k (e ∷ h) = form.MayFollow (lane_after form k h) e × IsRun form k 
 abbrev pub traffic_of : {M : Type 0} → Form M → ℕ → List (Step M) → Traffic M
 traffic_of form k h = form.traffic (lane_after form k h)
 
--- What the ends go by after them.
+-- What the ends know after these steps.
 
 abbrev pub sender_finds : {M : Type 0} → Form M → ℕ → List (Step M) → Room
 sender_finds form k h = form.sender_finds (lane_after form k h)

@@ -1,4 +1,4 @@
--- A lane over index words: its two ends, and what each step makes of it (this project's profile).
+-- A lane over index words: its two ends, and the effect of each step on it (this project's profile).
 use Rattle.std.specs.Prelude.{◌≡◌, ℕ, ◌+◌, ◌-◌, ◌*◌, ◌/◌, ◌%◌, ◌<◌, ◌≤◌, ◌^◌, ◌==◌, nat_lt, true, false, if◌then◌else◌}
 use Rattle.lane_core.specs.declared.index_words.SenderEnd.{SenderEnd}
 use Rattle.lane_core.specs.declared.index_words.ReceiverEnd.{ReceiverEnd}
@@ -28,11 +28,12 @@ SenderFits s = (0 < s.capacity) × (s.published + s.filled < 2 ^ 62) × (s.freed
 abbrev pub sender_loaded : SenderEnd → ℕ → SenderEnd
 sender_loaded s word = record s { freed = word }
 
--- it claims the slot of this count: from its count of published messages up to the last loaded one with the capacity
+-- it claims the slot of this count: one from its count of published messages up to the last loaded count plus the
+-- capacity
 abbrev pub SenderClaims : SenderEnd → ℕ → Type 0
 SenderClaims s count = (s.published ≤ count) × (count < s.freed + s.capacity)
 
--- what it found by its last load: room where it claims a slot
+-- what it found by its last load: room if it claims a slot
 abbrev pub room_of : SenderEnd → Room
 room_of s = if nat_lt s.published (s.freed + s.capacity) then Vacant else Full
 
@@ -56,11 +57,11 @@ sender_filled s = record s { filled = s.filled + 1 }
 abbrev pub MayPublish : SenderEnd → Type 0
 MayPublish s = (s.closed ≡ false) × (0 < s.filled)
 
--- the word by which it publishes what is filled
+-- the word that publishes the filled slots
 abbrev pub publish_word : SenderEnd → ℕ
 publish_word s = 2 * (s.published + s.filled)
 
--- after it published that
+-- after it published them
 abbrev pub sender_published : SenderEnd → SenderEnd
 sender_published s = record s { published = s.published + s.filled; filled = 0 }
 
@@ -68,7 +69,7 @@ sender_published s = record s { published = s.published + s.filled; filled = 0 }
 abbrev pub MayClose : SenderEnd → Type 0
 MayClose s = s.closed ≡ false
 
--- the word by which it closes
+-- the word that closes the lane
 abbrev pub close_word : SenderEnd → ℕ
 close_word s = 2 * s.published + 1
 
@@ -76,7 +77,7 @@ close_word s = 2 * s.published + 1
 abbrev pub sender_closed : SenderEnd → SenderEnd
 sender_closed s = record s { filled = 0; closed = true }
 
--- what comes next in a send
+-- the next step of a send
 abbrev pub next_sender_step : SenderEnd → SenderStep
 next_sender_step s =
     if nat_lt 0 s.filled then Publish else (if nat_lt (fill_count s) (s.freed + s.capacity) then Fill else Load)
@@ -97,15 +98,15 @@ new_receiver k = record { capacity = k; freed = 0; emptied = 0; published = 0; c
 abbrev pub ReceiverFits : ReceiverEnd → Type 0
 ReceiverFits r = (0 < r.capacity) × (r.freed + r.emptied < 2 ^ 62)
 
--- after it loaded this word: the count in it, and whether its low bit says closed
+-- after it loaded this word: the count in it, and whether its low bit means closed
 abbrev pub receiver_loaded : ReceiverEnd → ℕ → ReceiverEnd
 receiver_loaded r word = record r { published = word / 2; closed = word % 2 == 1 }
 
--- it claims the slot of this count: from its count of freed messages up to the last loaded one
+-- it claims the slot of this count: one from its count of freed messages up to the last loaded count
 abbrev pub ReceiverClaims : ReceiverEnd → ℕ → Type 0
 ReceiverClaims r count = (r.freed ≤ count) × (count < r.published)
 
--- what it found by its last load: a message where it claims a slot, and else whether the lane is closed
+-- what it found by its last load: a message if it claims a slot, and otherwise whether the lane is closed
 abbrev pub found_by : ReceiverEnd → Found
 found_by r = if nat_lt r.freed r.published then Message else (if r.closed then Ended else Nothing)
 
@@ -129,7 +130,7 @@ receiver_took r = record r { emptied = r.emptied + 1 }
 abbrev pub MayPutBack : ReceiverEnd → Type 0
 MayPutBack r = 0 < r.emptied
 
--- the count of what it took last
+-- the count of the message that it took last
 abbrev pub back_count : ReceiverEnd → ℕ
 back_count r = r.freed + (r.emptied - 1)
 
@@ -137,7 +138,7 @@ back_count r = r.freed + (r.emptied - 1)
 abbrev pub back_slot : ReceiverEnd → ℕ
 back_slot r = back_count r % r.capacity
 
--- after it put that back
+-- after it put this message back
 abbrev pub receiver_put_back : ReceiverEnd → ReceiverEnd
 receiver_put_back r = record r { emptied = r.emptied - 1 }
 
@@ -145,15 +146,15 @@ receiver_put_back r = record r { emptied = r.emptied - 1 }
 abbrev pub MayFree : ReceiverEnd → Type 0
 MayFree r = 0 < r.emptied
 
--- the word by which it frees what it took
+-- the word that frees what it took
 abbrev pub free_word : ReceiverEnd → ℕ
 free_word r = r.freed + r.emptied
 
--- after it freed that
+-- after it freed it
 abbrev pub receiver_freed : ReceiverEnd → ReceiverEnd
 receiver_freed r = record r { freed = r.freed + r.emptied; emptied = 0 }
 
--- what comes next in a receive
+-- the next step of a receive
 abbrev pub next_receiver_step : ReceiverEnd → ReceiverStep
 next_receiver_step r = if nat_lt 0 r.emptied then Free else (if nat_lt (take_count r) r.published then Take else Look)
 
@@ -178,7 +179,8 @@ pub record IndexLane (M : Type 0) : Type 0 where
 abbrev pub new_lane : {M : Type 0} → ℕ → IndexLane M
 new_lane k = record { put = 0; taken = 0; sender = new_sender k; receiver = new_receiver k; traffic = no_traffic }
 
--- after one step: an end's step reads its own numbers, and a load the other's word; each end stores its own word alone
+-- after one step: it reads its end's own numbers, and a load also the other end's word; each end stores only its own
+-- word
 abbrev pub after : {M : Type 0} → IndexLane M → Step M → IndexLane M
 after l Sender_loads = record l { sender = sender_loaded l.sender l.taken }
 after l (Fills m) = record l { sender = sender_filled l.sender; traffic = put_in l.traffic (fill_slot l.sender) m }

@@ -1,7 +1,7 @@
--- The steps of the two ends of a lane, in either form (this project's profile: a closable bounded queue with one sender
--- and one receiver, which is what a lane of ITU-T Z.120 is between two instances).
+-- The steps of the two ends of a lane, in either form (this project's profile). A lane is a closable bounded queue with
+-- one sender and one receiver, as between two instances in ITU-T Z.120.
 
--- a step of one end, where messages are of the type M: a step on a word, or a touch of a slot
+-- a step of one end, for messages of the type M: a step on a word, or a touch of a slot
 pub data Step (M : Type 0) : Type 0 where
   Sender_loads : Step M
   -- it puts this message into a slot

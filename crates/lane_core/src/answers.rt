@@ -5,7 +5,7 @@
 pub enum Room {
     /// It claims at least one slot.
     Vacant,
-    /// Each slot has a message that waits.
+    /// Each slot has a waiting message.
     Full,
 }
 
@@ -27,17 +27,17 @@ pub enum SenderStep {
     Load,
     /// It puts the message into the next slot.
     Fill,
-    /// It publishes what it has put into slots.
+    /// It publishes the messages that it has put into slots.
     Publish,
 }
 
-/// The next step of a receiver that wants a message.
+/// The next step of a receiver that is to receive a message.
 #[derive(Clone, Copy, Debug, PartialEq, Eq)]
 pub enum ReceiverStep {
     /// It loads a word.
     Look,
     /// It takes the message out of the next slot.
     Take,
-    /// It frees the slots that it has taken from.
+    /// It frees the slots from which it has taken messages.
     Free,
 }

@@ -1,5 +1,5 @@
-//! The two ends over slot words: each slot has a word of two bits beside it. The sender sets them, the receiver
-//! clears the first; an end loads the word of its own next slot alone.
+//! The two ends over slot words: each slot has a word of two bits. The sender sets the bits, and the receiver clears
+//! the first. An end loads only the word of its own next slot.
 ghost use Rattle.std.specs.Prelude.{IsTrue, ◌↔◌, ◌≡◌, ◌+◌, ◌<◌, ◌^◌, true, false};
 ghost use Rattle.lane_core.specs.FlagWords.{new_word, new_sender, sender_slot, sender_loaded, room_in, sender_filled};
 ghost use Rattle.lane_core.specs.FlagWords.{full_word, sender_published, end_word, sender_closed, next_sender_step};
@@ -14,7 +14,7 @@ use crate::index_words::LIMIT;
 /// The word of a slot.
 #[derive(Clone, Copy, Debug, PartialEq, Eq)]
 pub struct Word {
-    /// Whether the slot has a message that waits.
+    /// Whether the slot has a waiting message.
     pub full: bool,
     /// Whether the lane was closed when this slot was the sender's next. It may be set while the slot is full.
     pub end: bool,
@@ -49,7 +49,7 @@ pub struct SenderEnd {
 }
 
 impl SenderEnd {
-    /// The sender of a new lane of so many slots.
+    /// The sender of a new lane of `capacity` slots.
     #[inline]
     pub fn new(capacity: u64) -> SenderEnd
         ensures { result ≡ new_sender capacity }
@@ -63,7 +63,7 @@ impl SenderEnd {
         }
     }
 
-    /// Its next slot, whose word it loads and which it fills.
+    /// Its next slot: it loads this slot's word, and fills this slot.
     pub fn slot(&self) -> u64
         requires { SenderFits self.now }
         ensures { result ≡ sender_slot self.now }
@@ -99,8 +99,7 @@ impl SenderEnd {
         0 < self.capacity && self.put < LIMIT
     }
 
-    /// The step that comes next where it has a message to send: what is filled is published, a slot that it claims is
-    /// filled, and else it loads.
+    /// The next step of a send. A filled slot is published, a claimed slot is filled, and otherwise a word is loaded.
     pub fn next(&self) -> SenderStep
         ensures step { result ≡ next_sender_step self.now }
         ensures allowed { self.now.closed ≡ false → MaySend self.now result }
@@ -114,7 +113,7 @@ impl SenderEnd {
         }
     }
 
-    /// What the word of its next slot tells: it claims the slot unless that is full.
+    /// Loads the word of its next slot: the sender claims the slot unless it is full.
     pub fn load(&mut self, word: Word) -> Room
         ensures after { self.new ≡ sender_loaded self.old word }
         ensures found { result ≡ room_in word }
@@ -136,7 +135,7 @@ impl SenderEnd {
         self.filled = true;
     }
 
-    /// Answers what its next slot's word becomes as it publishes the message there: the full bit is set.
+    /// Publishes the message in its next slot, and returns the slot's new word: the full bit is set.
     pub fn publish(&mut self, mut word: Word) -> Word
         requires fits { SenderFits self.old }
         requires allowed { MayPublish self.old }
@@ -150,7 +149,7 @@ impl SenderEnd {
         word
     }
 
-    /// Answers what its next slot's word becomes as it closes the lane: the end bit is set, on a full word too.
+    /// Closes the lane, and returns the new word of its next slot: the end bit is set, even if the slot is full.
     pub fn close(&mut self, mut word: Word) -> Word
         requires { MayClose self.old }
         ensures after { self.new ≡ sender_closed self.old }
@@ -178,7 +177,7 @@ pub struct ReceiverEnd {
 }
 
 impl ReceiverEnd {
-    /// The receiver of a new lane of so many slots.
+    /// The receiver of a new lane of `capacity` slots.
     #[inline]
     pub fn new(capacity: u64) -> ReceiverEnd
         ensures { result ≡ new_receiver capacity }
@@ -191,7 +190,7 @@ impl ReceiverEnd {
         }
     }
 
-    /// Its next slot, whose word it loads and from which it takes.
+    /// Its next slot: it loads this slot's word, and takes from this slot.
     pub fn slot(&self) -> u64
         requires { ReceiverFits self.now }
         ensures { result ≡ receiver_slot self.now }
@@ -221,8 +220,8 @@ impl ReceiverEnd {
         0 < self.capacity && self.taken < LIMIT
     }
 
-    /// The step that comes next where it wants a message: what it took is freed, a slot that it claims is taken from,
-    /// and else it loads.
+    /// The next step of a receive. A taken message is freed, a message is taken from a claimed slot, and otherwise a
+    /// word is loaded.
     pub fn next(&self) -> ReceiverStep
         ensures step { result ≡ next_receiver_step self.now }
         ensures allowed { MayReceive self.now result }
@@ -236,8 +235,8 @@ impl ReceiverEnd {
         }
     }
 
-    /// What the word of its next slot tells: it claims a full slot; and the lane has ended where the slot isn't full
-    /// and has the end bit.
+    /// Loads the word of its next slot: the receiver claims the slot if it is full. The lane has ended if the slot
+    /// isn't full and has the end bit.
     pub fn load(&mut self, word: Word) -> Found
         ensures after { self.new ≡ receiver_loaded self.old word }
         ensures found { result ≡ found_in word }
@@ -266,7 +265,7 @@ impl ReceiverEnd {
         self.emptied = false;
     }
 
-    /// Answers what its next slot's word becomes as it frees the slot: the full bit alone is cleared.
+    /// Frees its next slot, and returns the slot's new word: only the full bit is cleared.
     pub fn free(&mut self, mut word: Word) -> Word
         requires fits { ReceiverFits self.old }
         requires allowed { MayFree self.old }

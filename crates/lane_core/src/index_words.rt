@@ -1,6 +1,6 @@
-//! The two ends over index words. The sender stores the word `put`: twice the count of the messages that it
-//! published, and one more when it has closed the lane. The receiver stores the word `taken`: the count of the
-//! messages that it freed. Each end loads the other's word, keeps what it loaded, and may go on by it.
+//! The two ends over index words. The sender stores the word `put`: twice the number of messages that it published, and
+//! one more when it has closed the lane. The receiver stores the word `taken`: the number of messages that it freed.
+//! Each end loads the other's word, keeps what it loaded, and may continue by this.
 ghost use Rattle.std.specs.Prelude.{IsTrue, ◌↔◌, ◌≡◌, ◌+◌, ◌*◌, ◌<◌, ◌≤◌, ◌^◌, false};
 ghost use Rattle.lane_core.specs.IndexWords.{new_sender, sender_loaded, room_of, fill_slot, sender_filled};
 ghost use Rattle.lane_core.specs.IndexWords.{publish_word, sender_published, close_word, sender_closed};
@@ -11,7 +11,7 @@ ghost use Rattle.lane_core.specs.IndexWords.{MayPutBack, MayFree, MayReceive, Se
 
 use crate::answers::{Found, ReceiverStep, Room, SenderStep};
 
-/// Counts are below this number: twice a count, and one more, is then a word.
+/// Counts are below this number, so that twice a count, and one more, is still a word.
 pub const LIMIT: u64 = 0x4000_0000_0000_0000;
 
 /// The sender of a lane. Its numbers are counts of messages since the lane began.
@@ -21,16 +21,16 @@ pub struct SenderEnd {
     pub(crate) capacity: u64,
     /// How many messages it published.
     pub(crate) published: u64,
-    /// How many it has put into slots since.
+    /// How many messages it has put into slots since then.
     pub(crate) filled: u64,
-    /// How many were freed, by its last load.
+    /// How many messages were freed, by its last load.
     pub(crate) freed: u64,
     /// Whether it closed the lane.
     pub(crate) closed: bool,
 }
 
 impl SenderEnd {
-    /// The sender of a new lane of so many slots.
+    /// The sender of a new lane of `capacity` slots.
     #[inline]
     pub fn new(capacity: u64) -> SenderEnd
         ensures { result ≡ new_sender capacity }
@@ -83,8 +83,7 @@ impl SenderEnd {
             && self.capacity < LIMIT - self.freed
     }
 
-    /// The step that comes next where it has a message to send: what is filled is published, a slot that it claims is
-    /// filled, and else it loads.
+    /// The next step of a send. Filled slots are published, a claimed slot is filled, and otherwise a word is loaded.
     pub fn next(&self) -> SenderStep
         requires { SenderFits self.now }
         ensures step { result ≡ next_sender_step self.now }
@@ -99,7 +98,7 @@ impl SenderEnd {
         }
     }
 
-    /// What the word `taken` tells: it claims the slots up to that count and the capacity.
+    /// Loads the word `taken`: the sender claims the slots up to this count plus the capacity.
     pub fn load(&mut self, taken: u64) -> Room
         requires { taken + self.old.capacity < 2 ^ 64 }
         ensures after { self.new ≡ sender_loaded self.old taken }
@@ -113,7 +112,7 @@ impl SenderEnd {
         }
     }
 
-    /// Answers the slot that is to be filled next, which counts as filled from then on.
+    /// Returns the slot that is to be filled next. This slot then counts as filled.
     pub fn fill(&mut self) -> u64
         requires fits { SenderFits self.old }
         requires allowed { MayFill self.old }
@@ -125,7 +124,7 @@ impl SenderEnd {
         slot
     }
 
-    /// Answers the word `put` that publishes what is filled.
+    /// Returns the word `put` that publishes the filled slots.
     pub fn publish(&mut self) -> u64
         requires fits { SenderFits self.old }
         requires allowed { MayPublish self.old }
@@ -137,7 +136,7 @@ impl SenderEnd {
         2 * self.published
     }
 
-    /// Answers the word `put` that closes the lane. It keeps the count.
+    /// Returns the word `put` that closes the lane. It keeps the count.
     pub fn close(&mut self) -> u64
         requires fits { SenderFits self.old }
         requires allowed { MayClose self.old }
@@ -157,16 +156,16 @@ pub struct ReceiverEnd {
     pub(crate) capacity: u64,
     /// How many messages it freed.
     pub(crate) freed: u64,
-    /// How many it has taken out of slots since, and not put back.
+    /// How many messages it has taken out of slots since then, and not put back.
     pub(crate) emptied: u64,
-    /// How many were published, by its last load.
+    /// How many messages were published, by its last load.
     pub(crate) published: u64,
     /// Whether the lane was closed, by its last load.
     pub(crate) closed: bool,
 }
 
 impl ReceiverEnd {
-    /// The receiver of a new lane of so many slots.
+    /// The receiver of a new lane of `capacity` slots.
     #[inline]
     pub fn new(capacity: u64) -> ReceiverEnd
         ensures { result ≡ new_receiver capacity }
@@ -208,8 +207,8 @@ impl ReceiverEnd {
         0 < self.capacity && self.freed < LIMIT && self.emptied < LIMIT - self.freed
     }
 
-    /// The step that comes next where it wants a message: what it took is freed, a slot that it claims is taken from,
-    /// and else it loads.
+    /// The next step of a receive. Taken messages are freed, a message is taken from a claimed slot, and otherwise a
+    /// word is loaded.
     pub fn next(&self) -> ReceiverStep
         requires { ReceiverFits self.now }
         ensures step { result ≡ next_receiver_step self.now }
@@ -224,8 +223,8 @@ impl ReceiverEnd {
         }
     }
 
-    /// What the word `put` tells: it claims the slots up to that count; and the lane has ended where there is none and
-    /// the word says that it is closed.
+    /// Loads the word `put`: the receiver claims the slots up to its count. The lane has ended if it claims no slot and
+    /// the word has the closed bit.
     pub fn load(&mut self, put: u64) -> Found
         ensures after { self.new ≡ receiver_loaded self.old put }
         ensures found { result ≡ found_by (receiver_loaded self.old put) }
@@ -241,7 +240,7 @@ impl ReceiverEnd {
         }
     }
 
-    /// Answers the slot that is to be taken from next, which counts as taken from then on.
+    /// Returns the slot from which the next message is to be taken. This message then counts as taken.
     pub fn take(&mut self) -> u64
         requires fits { ReceiverFits self.old }
         requires allowed { MayTake self.old }
@@ -253,7 +252,7 @@ impl ReceiverEnd {
         slot
     }
 
-    /// Answers the slot that gets back the message that was taken last. The receiver keeps its claim.
+    /// Returns the slot into which the last taken message goes back. The receiver keeps its claim.
     pub fn put_back(&mut self) -> u64
         requires fits { ReceiverFits self.old }
         requires allowed { MayPutBack self.old }
@@ -264,7 +263,7 @@ impl ReceiverEnd {
         (self.freed + self.emptied) % self.capacity
     }
 
-    /// Answers the word `taken` that frees the slots that it has taken from.
+    /// Returns the word `taken` that frees the slots from which it has taken.
     pub fn free(&mut self) -> u64
         requires fits { ReceiverFits self.old }
         requires allowed { MayFree self.old }

@@ -1,5 +1,5 @@
-//! What holds of every run of the two ends of a lane, in any order of their steps: the contracts of functions that do
-//! nothing. Each is called at the type of the messages, which may be any.
+//! Laws of every run of the two ends of a lane, in any order of their steps, as contracts of functions that do nothing.
+//! Each function is called at the type of the messages, which may be any type.
 ghost use Rattle.lane_core.specs.Alone.{ReceiverAlone, SenderAlone};
 ghost use Rattle.lane_core.specs.IndexWords.{index_words};
 ghost use Rattle.lane_core.specs.Laws.{FreedInOrder, AtMostCapacity, NoSlotOfBoth, FillsOwnSlot, TakesOwnMessage};
@@ -7,12 +7,12 @@ ghost use Rattle.lane_core.specs.Laws.{PutsBackOwnMessage, NothingAfterClose, Fu
 ghost use Rattle.lane_core.specs.Laws.{EndedExactly};
 ghost use Rattle.lane_core.specs.FlagWords.{flag_words};
 
-/// Of every run with messages of this type, in either form and of any capacity: the messages freed are the first of
-/// those published, in order; no more wait than the lane has slots; no slot is claimed by both ends, and each touches
-/// only slots that it claims; what is filled is an empty slot, while the lane is open; what is taken is a message;
-/// what was taken last is put back into the slot that it came from, which is empty, and is what is taken next; after
-/// the close nothing is published; and what an end finds by a load is so: full exactly where as many wait as there
-/// are slots, a message exactly where one waits, and ended exactly where none waits and the lane is closed.
+/// Laws of every run, with messages of this type, in either form and of any capacity. The freed messages are the first
+/// of the published ones, in order, and no more messages wait than the lane has slots. No slot is claimed by both ends,
+/// and each end touches only slots that it claims. While the lane is open, only an empty slot is filled. A take finds a
+/// message. The message that was taken last is put back into the slot that it came from, which is empty, and is taken
+/// next. After the close nothing is published. A load finds the lane full exactly if as many messages wait as there are
+/// slots, and a message exactly if one waits. It finds the end exactly if none waits and the lane is closed.
 pub fn every_run<Message>()
     ensures index_in_order { FreedInOrder (index_words Message) }
     ensures index_bounded { AtMostCapacity (index_words Message) }
@@ -36,12 +36,11 @@ pub fn every_run<Message>()
     ensures slot_ended { EndedExactly (flag_words Message) }
 {}
 
-/// Of every run with messages of this type, in either form and of any capacity, after which one end makes no step
-/// while the other, which stands between two calls, goes on alone. A receiver frees exactly the messages that wait,
-/// the next at each call; then every call finds nothing if the lane is open, and that it has ended if it is closed. A
-/// sender on an open lane publishes as many messages as there are free slots, and then always finds the lane full.
-/// Any of these calls may go by what was loaded earlier, where its end claims a slot by that; each other one makes a
-/// load.
+/// Laws of every run, with messages of this type, in either form and of any capacity, after which only one end makes
+/// steps. This end is between two calls at first, and continues alone. A receiver frees exactly the waiting messages,
+/// one at each call. Then every call finds nothing if the lane is open, and the end if it is closed. A sender on an
+/// open lane publishes as many messages as there are free slots, and then always finds the lane full. A call may use
+/// what was loaded earlier, if its end claims a slot by this. Every other call makes a load.
 pub fn every_stop<Message>()
     ensures index_receiver { ReceiverAlone (index_words Message) }
     ensures index_sender { SenderAlone (index_words Message) }

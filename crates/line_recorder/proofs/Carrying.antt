@@ -43,7 +43,7 @@ clocks_many n (Send a b m ∷ h) q p = go (is_lane a b q p) (clocks_many n h q p
 clocks_many n (Receive a b c ∷ h) q p = clocks_many n h q p
 clocks_many n (Close a b ∷ h) q p = clocks_many n h q p
 
--- the clock of the first message that waits is there
+-- the clock of the first waiting message is there
 first_waits : (n : ℕ) (h : List Occurrence) (q p : ℕ) → 0 < length (waiting h q p) → slice_get (clocks_of n h q p) (received h q p) ≡ Some (first_clock (waiting_clocks n h q p))
 first_waits n h q p some = go (waiting_clocks n h q p) refl (omega (arith, length-drop (received h q p) (clocks_of n h q p), length-drop (received h q p) (sent h q p), clocks_many n h q p))
   where
@@ -51,13 +51,13 @@ first_waits n h q p some = go (waiting_clocks n h q p) refl (omega (arith, lengt
     go [] e some = absurd (omega arith)
     go (clock ∷ rest) e some = ith_at_drop (received h q p) (clocks_of n h q p) clock rest e
 
--- the message that waits first
+-- the first waiting message
 pub first_message : (ms : List Content) → 0 < length ms → (m : Content) × (rest : List Content) × (ms ≡ m ∷ rest)
 first_message [] some = absurd (omega arith)
 first_message (m ∷ rest) some = (m, rest, refl)
 
--- what is carried is right: each clock has n entries; what an instance knows of another is the greatest heard of it; and a
--- message's clock is what its send knows
+-- what is carried is right: each clock has n entries; an instance knows of another the greatest event heard of it; and
+-- a message's clock is what its send knows
 pub record IsCarried (n : ℕ) (h : List Occurrence) : Type 0 where
   pub known_long : (p : ℕ) → length (knowledge_of n h p) ≡ n
   pub long : (q p i : ℕ) (clock : List ℕ) → slice_get (clocks_of n h q p) i ≡ Some clock → length clock ≡ n
@@ -65,7 +65,7 @@ pub record IsCarried (n : ℕ) (h : List Occurrence) : Type 0 where
   pub carries : (q p i j : ℕ) (clock : List ℕ) → slice_get (clocks_of n h q p) i ≡ Some clock → IsSendAfter (chart_of h q) p i j → (r : ℕ) → 1 ≤ r → r ≤ n → IsKnown (chart_of h) (at q j) r (entry_of clock r)
 
 module _ (n k : ℕ) (h : List Occurrence) (legal : IsLegal n k h) (old : IsCarried n h) where
-  -- what a line has heard stays where the line doesn't grow
+  -- what a line has heard stays the same if the line doesn't grow
   heard_on : (e : Occurrence) (p q : ℕ) → 1 ≤ p → p ≤ n → 1 ≤ q → q ≤ n → (q ≡ p → ⊥) → chart_of (e ∷ h) p ≡ chart_of h p → IsGreatestHeard (chart_of (e ∷ h)) p (length (chart_of (e ∷ h) p)) q (entry_of (knowledge_of n h p) q)
   heard_on e p q p_low p_high low high other same =
       subst (λ l. IsGreatestHeard (chart_of (e ∷ h)) p l q (entry_of (knowledge_of n h p) q)) (sym (ap length same)) (heard_begun n k h (e ∷ h) legal (e ∷ [], refl) p (length (chart_of h p)) q (entry_of (knowledge_of n h p) q) (omega arith) (old.knows p q p_low p_high low high other))
@@ -89,7 +89,7 @@ module _ (n k : ℕ) (h : List Occurrence) (legal : IsLegal n k h) (old : IsCarr
     abbrev index : ℕ
     index = length (chart_of h p) + 1
 
-    -- what the new message carries is what its send knows
+    -- the new message carries what its send knows
     newest_carries : (j : ℕ) → IsSendAfter (after_send p) q (length (clocks_of n h p q)) j → (r : ℕ) → 1 ≤ r → r ≤ n → IsKnown after_send (at p j) r (entry_of (with_entry (knowledge_of n h p) p index) r)
     newest_carries j sends r low high =
         let place : index ≡ j = same_place_on_lane (after_send p) q (length (sent h p q)) index j (newest_is_send h p q m) (subst (λ l. IsSendAfter (after_send p) q l j) (clocks_many n h p q) sends) in

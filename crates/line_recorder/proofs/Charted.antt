@@ -25,7 +25,7 @@ chart_event-next c r m (more, is) =
     let events = r.line.events in
     ap (λ line. ith line (length events + 1)) is ∙ ith-append (events ++ m ∷ []) more (length events + 1) (omega (arith, length-append events (m ∷ []))) ∙ ith_push events m
 
--- what the chart has before it is the recorder's line
+-- before the new event, the chart has the recorder's line
 line_before : (c : Chart) (r : RecorderView) (m : Event) → HasLine c (with_event r.line m) → take (length r.line.events) (c r.line.instance) ≡ r.line.events
 line_before c r m (more, is) =
     let events = r.line.events in

@@ -1,4 +1,4 @@
--- Reports that are kept as two lists: one more, and what fits into them.
+-- Reports that are kept as two lists: one more report, and the sizes of what is kept.
 use Rattle.std.specs.Prelude.{Result, Ok, Err, OnErr}
 use Rattle.std.proofs.Common.{◌≡◌, ℕ, zero, suc, ◌+◌, ◌-◌, ◌<◌, ◌≤◌, List, [], ◌∷◌, ◌++◌, length, length-append, take, drop, map, get_or, All, AllPairs, refl, sym, ap, ap₂, ◌∙◌, subst, arith, append_assoc, drop-cons}
 use Rattle.std.proofs.Math.Seq.{take-length, take-append_seam, take-append-add}
@@ -16,13 +16,13 @@ use Rattle.line_recorder.specs.declared.kept_reports.KeptReceive.{KeptReceive}
 use Rattle.line_recorder.specs.Kept.{range_of, report_of, reports_of, ranges_in, AreKept, IsOnLine, IsOfLine}
 use Rattle.line_recorder.specs.Recorders.{RecorderView, IsReportAbove}
 
--- One report more.
+-- One more report.
 
 no_ranges : (ranges : List EventRange) → length ranges ≡ 0 → ranges ≡ []
 no_ranges [] none = refl
 no_ranges (r ∷ ranges) none = absurd (omega (arith, none))
 
--- its ranges come behind those of the others
+-- its ranges come after those of the other reports
 pub reports_push : (p : ℕ) (receives : List KeptReceive) (ranges : List EventRange) (kept : KeptReceive) (more : List EventRange) → length ranges ≡ ranges_in receives
     → reports_of p (receives ++ kept ∷ []) (ranges ++ more) ≡ reports_of p receives ranges ++ report_of p kept more ∷ []
 reports_push p [] ranges kept more long = ap (λ (rs : List EventRange). report_of p kept (rs ++ more) ∷ []) (no_ranges ranges long)
@@ -36,13 +36,13 @@ pub ranges_in-push : (receives : List KeptReceive) (kept : KeptReceive) → rang
 ranges_in-push [] kept = omega arith
 ranges_in-push (first ∷ receives) kept = let rest = ranges_in-push receives kept in omega (arith, rest)
 
--- a report whose ranges are all of these
+-- a report that has all of these ranges
 pub report_is : (p : ℕ) (kept : KeptReceive) (ranges : List EventRange) (report : ReportView) → kept.ranges ≡ length ranges → kept.index ≡ report.receive.index → report.receive.instance ≡ p → events_in ranges ≡ report.earlier → report_of p kept ranges ≡ report
 report_is p kept ranges report many place instance earlier =
     ap₂ (λ (e : EventNo) (es : List EventNo). record { receive = e; earlier = es }) (ap₂ (λ (q i : ℕ). record { instance = q; index = i }) (sym instance) place)
     (ap (λ n. events_in (take n ranges)) many ∙ ap events_in (take-length ranges) ∙ earlier)
 
--- the events of one range more, which are read from the last range on
+-- the events of one more range; the ranges are read from the last one on
 pub read_before : (p : ℕ) (kept : List KeptRange) (place : ℕ) (d : KeptRange) (range : EventRange) (old new : List EventNo) → place < length kept → range ≡ range_of p (get_or kept place d) → old ≡ events_in (map (range_of p) (drop (suc place) kept)) → new ≡ events_of range ++ old
     → new ≡ events_in (map (range_of p) (drop place kept))
 read_before p kept place d range old new inside is before put =
@@ -53,16 +53,16 @@ pub no_receives : (p : ℕ) (receives : List KeptReceive) (ranges : List EventRa
 no_receives p [] ranges none = refl
 no_receives p (kept ∷ receives) ranges none = omega (arith, ap length none)
 
--- what holds, holds where the answer is a refusal
+-- a fact also holds if the answer is a refusal
 pub refused : {X E : Type 0} (r : Result X E) (P : Type 0) → P → OnErr r P
 refused (Ok x) P its = tt
 refused (Err e) P its = its
 
--- the first k reports are behind those of old, and the others are yet to come
+-- the list has the old reports and then the first k new ones, and the others are yet to come
 pub begun_with : {A : Type 0} (so_far rest old all : List A) (k : ℕ) → so_far ++ rest ≡ old ++ all → length so_far ≡ length old + k → so_far ≡ old ++ take k all
 begun_with so_far rest old all k listed many = sym (take-append_seam so_far rest) ∙ ap (take (length so_far)) listed ∙ ap (λ n. take n (old ++ all)) many ∙ take-append-add old all k
 
--- one report more, made again of the first ranges that are left
+-- one more report, made again from the first remaining ranges
 pub listed_next : (p q : ℕ) (receives : List KeptReceive) (k : ℕ) (d : KeptReceive) (left own others : List KeptRange) (so_far all : List ReportView) (earlier : List EventNo) (report : ReportView) → q ≡ p → k < length receives → AreKept p (drop k receives) left
     → so_far ++ reports_of p (drop k receives) (map (range_of p) left) ≡ all → own ≡ take (get_or receives k d).ranges left → others ≡ drop (get_or receives k d).ranges left → earlier ≡ events_in (map (range_of q) own)
     → report ≡ record { receive = record { instance = q; index = (get_or receives k d).index }; earlier = earlier } → AreKept p (drop (k + 1) receives) others × ((so_far ++ report ∷ []) ++ reports_of p (drop (k + 1) receives) (map (range_of p) others) ≡ all)
@@ -89,10 +89,10 @@ listed_next p q receives k d left own others so_far all earlier report same insi
           ∙ listed,
     )
 
--- What fits.
+-- Sizes.
 
 module _ (r : EventRange) (ranges : List EventRange) where
-  -- of what holds of all events it holds of those of a range, and of the others
+  -- what holds for all events holds for those of a range, and for the others
   in_range : (P : EventNo → Type 0) → All P (events_in (r ∷ ranges)) → (k : ℕ) → k < r.count → P (record { instance = r.first.instance; index = r.first.index + k })
   in_range P all k within =
       let e : EventNo = record { instance = r.first.instance; index = r.first.index + k } in
@@ -102,7 +102,7 @@ module _ (r : EventRange) (ranges : List EventRange) where
   behind : (P : EventNo → Type 0) → All P (events_in (r ∷ ranges)) → All P (events_in ranges)
   behind P all i d inside = subst P (get_or-append-add (events_of r) (events_in ranges) i d) (all (length (events_of r) + i) d (omega (arith, inside, length-append (events_of r) (events_in ranges))))
 
--- ranges whose events are on a line are on it
+-- ranges whose events are on a line are on this line
 are_on_line : (p : ℕ) (ranges : List EventRange) → All IsRange ranges → All (λ (e : EventNo). e.instance ≡ p) (events_in ranges) → All (λ (e : EventNo). e.index ≤ MAX_EVENTS) (events_in ranges) → All (IsOnLine p) ranges
 are_on_line p [] each own within = All-nil (IsOnLine p)
 are_on_line p (r ∷ ranges) each own within =
@@ -116,7 +116,7 @@ are_on_line p (r ∷ ranges) each own within =
     })
     (are_on_line p ranges (All-tail IsRange r ranges each) (behind r ranges (λ (e : EventNo). e.instance ≡ p) own) (behind r ranges (λ (e : EventNo). e.index ≤ MAX_EVENTS) within))
 
--- and so are those of a report of the line
+-- the ranges of a report of a line are on this line
 pub on_line : (p : ℕ) (ranges : List EventRange) (report : ReportView) → All IsRange ranges → events_in ranges ≡ report.earlier → IsOfLine p report → All (IsOnLine p) ranges
 on_line p ranges report each events its = are_on_line p ranges each (subst (All (λ (e : EventNo). e.instance ≡ p)) (sym events) its.own) (subst (All (λ (e : EventNo). e.index ≤ MAX_EVENTS)) (sym events) its.within)
 
@@ -136,7 +136,7 @@ rising_least xs rising begun (suc k) d within =
     let up = rising k (suc k) d (omega arith) within in
     omega (arith, before, up)
 
--- and so are few
+-- there are at most n rising numbers from 1 to n
 few_rising : (xs : List ℕ) (n : ℕ) → AllPairs (λ i j. i < j) xs → All (λ i. 1 ≤ i) xs → All (λ i. i ≤ n) xs → length xs ≤ n
 few_rising xs n rising begun within = by (length xs) refl
   where
@@ -146,7 +146,7 @@ few_rising xs n rising begun within = by (length xs) refl
         let inside : m < length xs = omega (arith, many) in
         omega (arith, many, rising_least xs rising begun m 0 inside, within m 0 inside)
 
--- the report of a receive that comes next is one of its line
+-- the report of the next receive is one of its line
 pub is_of_line : (r : RecorderView) (from region entry : ℕ) (report : ReportView) → IsReportAbove r from region entry report → length r.line.events < MAX_EVENTS → IsOfLine r.line.instance report
 is_of_line r from region entry report made short = record {
   instance = ap (λ (e : EventNo). e.instance) made.receive;

@@ -1,4 +1,4 @@
--- What an instance's recorder holds, when the history grows.
+-- An instance's recorder as the history grows.
 use Rattle.std.proofs.Common.{◌≡◌, ◌≢◌, ℕ, ◌+◌, ◌<◌, ◌≤◌, List, [], ◌∷◌, ◌++◌, length, map, refl, sym, ap, ap₂, ◌∙◌, subst, arith}
 use Rattle.std.specs.Prelude.{All}
 use Rattle.std.proofs.lemmas.Bool.{eq-eqb, ne_eqb}
@@ -21,7 +21,7 @@ use Rattle.line_recorder.proofs.Carrying.{carried_report}
 use Rattle.line_recorder.specs.Recording.{IsRecorder}
 use Rattle.chart.proofs.Sends.{line_after_send, line_after_receive}
 
--- an event of another instance leaves what an instance knows
+-- an event of another instance doesn't change what an instance knows
 pub knowledge_of-other : (n : ℕ) (h : List Occurrence) (e : Occurrence) (p : ℕ) → p ≢ by e → knowledge_of n (e ∷ h) p ≡ knowledge_of n h p
 knowledge_of-other n h (Send a b m) p ne = rw (ne_eqb p a ne)
 knowledge_of-other n h (Receive a b c) p ne = rw (ne_eqb p a ne)
@@ -31,7 +31,7 @@ knowledge_of-other n h (Close a b) p ne = refl
 pub send_clock-is : (n : ℕ) (h : List Occurrence) (p : ℕ) (r : RecorderView) → IsRecorder n h p r → send_clock r ≡ with_entry (knowledge_of n h p) p (length (chart_of h p) + 1)
 send_clock-is n h p r its = ap₂ (λ (l : LineView) (known : List ℕ). with_entry known l.instance (length l.events + 1)) its.line its.knowledge
 
--- a recorder of an instance that did nothing
+-- the recorder of an instance that did nothing
 pub IsRecorder-idle : (n k : ℕ) (h g : List Occurrence) (p : ℕ) (r : RecorderView) → IsLegal n k h → Begins h g → chart_of g p ≡ chart_of h p → knowledge_of n g p ≡ knowledge_of n h p → IsRecorder n h p r → IsRecorder n g p r
 IsRecorder-idle n k h g p r legal begins same knows old = record {
   line = rw same old.line;
@@ -40,7 +40,7 @@ IsRecorder-idle n k h g p r legal begins same knows old = record {
   reports = reports_begun n k h g legal begins p r.reports (old.receives ∙ ap receives_of old.line) old.reports;
 }
 
--- one that recorded a send
+-- a recorder that recorded a send
 pub IsRecorder-send : (n k : ℕ) (h : List Occurrence) (p q : ℕ) (m : Content) (r : RecorderView) → IsLegal n k h → IsRecorder n h p r → IsRecorder n (Send p q m ∷ h) p (after_send r q m.name)
 IsRecorder-send n k h p q m r legal old = record {
   line = rw (line_after_send h p q m) (ap (λ (l : LineView). record l { events = l.events ++ send_event q m.name ∷ [] }) old.line);
@@ -49,7 +49,7 @@ IsRecorder-send n k h p q m r legal old = record {
   reports = reports_begun n k h (Send p q m ∷ h) legal (Send p q m ∷ [], refl) p r.reports (old.receives ∙ ap receives_of old.line) old.reports;
 }
 
--- one that recorded a receive of the first message that waited
+-- a recorder that recorded a receive of the first waiting message
 pub IsRecorder-receive : (n k : ℕ) (h : List Occurrence) (p q c : ℕ) (m : Content) (rest : List Content) (clock : List ℕ) (clocks : List (List ℕ)) (r : RecorderView) (report : ReportView) → IsLegal n k h → 1 ≤ p → p ≤ n → waiting h q p ≡ m ∷ rest → waiting_clocks n h q p ≡ clock ∷ clocks → IsReportOf r q c clock report → IsRecorder n h p r
     → IsRecorder n (Receive p q c ∷ h) p (after_receive r q m.name c clock report)
 IsRecorder-receive n k h p q c m rest clock clocks r report legal low high first stamp made old =

@@ -1,4 +1,4 @@
--- Several sends at once are those sends one after another.
+-- Several sends at once are the same as these sends one after another.
 use Rattle.std.proofs.Common.{◌≡◌, ℕ, zero, suc, ◌+◌, ◌-◌, max, List, [], ◌∷◌, ◌++◌, length, map, refl, sym, ap, ap₂, ◌∙◌, arith, append_assoc, append-nil}
 use Rattle.std.proofs.lemmas.List.{length-append}
 use Rattle.chart.specs.Charts.{LineView}
@@ -32,7 +32,7 @@ pub send_clocks_are : (r : RecorderView) (to : ℕ) (names : List (List ℕ)) �
 send_clocks_are r to [] = refl
 send_clocks_are r to (name ∷ names) = ap (λ clocks. send_clock r ∷ clocks) (send_clocks_are (after_send r to name) to names) ∙ next_clocks-suc r to name (length names)
 
--- what several sends make of a recorder
+-- a recorder after several sends
 pub after_sends_is : (r : RecorderView) (to : ℕ) (names : List (List ℕ)) → after_sends r to names ≡ record { line = record { instance = r.line.instance; events = r.line.events ++ map (send_event to) names }; knowledge = known_after r (length names); reports = r.reports; room = r.room - length names }
 after_sends_is r to [] = ap₂ (λ events room. record { line = record { instance = r.line.instance; events = events }; knowledge = r.knowledge; reports = r.reports; room = room }) (sym (append-nil r.line.events)) (omega arith)
 after_sends_is r to (name ∷ names) =
@@ -46,7 +46,7 @@ pub is_after_sends : (r : RecorderView) (to : ℕ) (names : List (List ℕ)) (li
     → ◌≡◌ {A = RecorderView} (record { line = line; knowledge = known; reports = r.reports; room = room }) (after_sends r to names)
 is_after_sends r to names line known room is_line is_known is_room = rw (after_sends_is r to names, is_line, is_known, is_room) refl
 
--- one send more
+-- one more send
 pub after_sends-push : (r : RecorderView) (to : ℕ) (names : List (List ℕ)) (name : List ℕ) → after_sends r to (names ++ name ∷ []) ≡ after_send (after_sends r to names) to name
 after_sends-push r to [] name = refl
 after_sends-push r to (first ∷ names) name = after_sends-push (after_send r to first) to names name

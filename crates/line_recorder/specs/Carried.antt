@@ -1,5 +1,5 @@
--- What the recorders of several instances know after a history, and the clocks that the messages of its lanes carry:
--- vector time (Fidge 1988, Mattern 1989) along a history of this project's profile.
+-- What the recorders of several instances know after a history, and the clocks that the messages of its lanes carry.
+-- This is vector time (Fidge 1988, Mattern 1989) along a history of this project's profile.
 use Rattle.std.specs.Prelude.{ℕ, ◌+◌, ◌==◌, List, [], ◌∷◌, ◌++◌, length, drop, replicate, if◌then◌else◌}
 use Rattle.chart.specs.Words.{Instance, Clock}
 use Rattle.chart.specs.declared.history.Occurrence.{Occurrence}
@@ -17,11 +17,11 @@ abbrev pub first_clock : List Clock → Clock
 first_clock [] = []
 first_clock (clock ∷ clocks) = clock
 
--- before the first event
+-- what is carried before the first event
 abbrev pub nothing_carried : ℕ → Carried
 nothing_carried n = record { knowledge = λ p. replicate n 0; clocks = λ q p. [] }
 
--- after p's send to q, which is this event of its line: the message carries what p knows then
+-- after p's send to q, which has this index on its line: the message carries what p knows then
 abbrev pub carried_by_send : Carried → ℕ → ℕ → ℕ → Carried
 carried_by_send w p q index = record {
   knowledge = λ r. if r == p then with_entry (w.knowledge r) r index else w.knowledge r;
@@ -35,7 +35,7 @@ carried_by_receive w p clock = record {
   clocks = w.clocks;
 }
 
--- after the history, among n instances
+-- what is carried after the history, among n instances
 abbrev pub carried : ℕ → List Occurrence → Carried
 carried n [] = nothing_carried n
 carried n (Send p q m ∷ h) = carried_by_send (carried n h) p q (length (chart_of h p) + 1)
@@ -51,6 +51,6 @@ knowledge_of n h p = (carried n h).knowledge p
 abbrev pub clocks_of : ℕ → List Occurrence → ℕ → ℕ → List Clock
 clocks_of n h q p = (carried n h).clocks q p
 
--- the clocks of the messages from q to p that wait
+-- the clocks of the waiting messages from q to p
 abbrev pub waiting_clocks : ℕ → List Occurrence → ℕ → ℕ → List Clock
 waiting_clocks n h q p = drop (received h q p) (clocks_of n h q p)

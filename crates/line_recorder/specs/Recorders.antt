@@ -1,5 +1,5 @@
--- What a recorder is to a contract, and what it is after each event (vector time as Fidge 1988 and Mattern 1989 have
--- it; races as this project's profile has them).
+-- What a contract sees of a recorder, and how each event changes it (vector time: after Fidge 1988 and Mattern 1989;
+-- races: this project's profile).
 use Rattle.std.specs.Prelude.{◌≡◌, ℕ, ◌+◌, ◌-◌, List, [], ◌∷◌, ◌++◌, length, map, max, replicate, All}
 use Rattle.chart.specs.Words.{Instance, Name, Clock}
 use Rattle.chart.specs.declared.event.Event.{Event}
@@ -9,8 +9,8 @@ use Rattle.chart.specs.Order.{AreLineRaces}
 use Rattle.chart.specs.Reports.{ReportView}
 use Rattle.clock.specs.Clocks.{entry_of, with_entry, merged}
 
--- an instance's line, how many events it knows of each instance, the reports of its receives, and for how many events
--- room was made on the line
+-- an instance's line, how many events it knows of each instance, and the reports of its receives. `room`: the number of
+-- further events for which room was made on the line
 pub record RecorderView : Type 0 where
   pub line : LineView
   pub knowledge : Clock
@@ -34,7 +34,7 @@ with_event l m = record { instance = l.instance; events = l.events ++ m ∷ [] }
 abbrev pub send_clock : RecorderView → Clock
 send_clock r = with_entry r.knowledge r.line.instance (length r.line.events + 1)
 
--- after a send, which is known from then on
+-- after a send, which is part of the knowledge from then on
 abbrev pub after_send : RecorderView → ℕ → Name → RecorderView
 after_send r to name = record {
   line = with_event r.line (send_event to name);
@@ -43,7 +43,7 @@ after_send r to name = record {
   room = r.room - 1;
 }
 
--- with all ready for a send, which is known from then on, but isn't on the line yet
+-- with everything ready for a send, which is part of the knowledge already, but isn't on the line yet
 abbrev pub begun_send : RecorderView → RecorderView
 begun_send r = record {
   line = r.line;
@@ -52,7 +52,7 @@ begun_send r = record {
   room = max r.room 1;
 }
 
--- after that send is on the line too
+-- after this send is on the line too
 abbrev pub after_begun : RecorderView → ℕ → Name → RecorderView
 after_begun r to name = record {
   line = with_event r.line (send_event to name);
@@ -61,7 +61,7 @@ after_begun r to name = record {
   room = r.room - 1;
 }
 
--- after a receive of which there is this report, before anything is known of its message
+-- after a receive with this report, before the message's clock is merged
 abbrev pub after_report : RecorderView → ℕ → Name → ℕ → ReportView → RecorderView
 after_report r from name region report = record {
   line = with_event r.line (receive_event from name region);
@@ -70,7 +70,7 @@ after_report r from name region report = record {
   room = r.room - 1;
 }
 
--- after a receive of a message with this clock, of which there is this report
+-- after a receive of a message with this clock, and with this report
 abbrev pub after_receive : RecorderView → Instance → Name → ℕ → Clock → ReportView → RecorderView
 after_receive r from name region clock report = record {
   line = with_event r.line (receive_event from name region);
@@ -79,13 +79,14 @@ after_receive r from name region clock report = record {
   room = r.room - 1;
 }
 
--- the report of the next event, if it is a receive whose send knows so many events of this line: the races above these
+-- the report of the next event, if it is a receive whose send knows `entry` events of this line: the races later than
+-- these
 pub record IsReportAbove (r : RecorderView) (from region entry : ℕ) (report : ReportView) : Type 0 where
   pub receive : report.receive ≡ record { instance = r.line.instance; index = length r.line.events + 1 }
   pub races : AreLineRaces r.line.events entry from region (map (λ race. race.index) report.earlier)
   pub own : All (λ race. race.instance ≡ r.line.instance) report.earlier
 
--- the report of the next event, if it is a receive of a message with this clock: the races above the clock's own
+-- the report of the next event, if it is a receive of a message with this clock: the races later than the clock's own
 -- entry for this line
 pub record IsReportOf (r : RecorderView) (from region : ℕ) (clock : Clock) (report : ReportView) : Type 0 where
   pub receive : report.receive ≡ record { instance = r.line.instance; index = length r.line.events + 1 }
@@ -103,6 +104,6 @@ abbrev pub send_clocks : RecorderView → ℕ → List Name → List Clock
 send_clocks r to [] = []
 send_clocks r to (name ∷ names) = send_clock r ∷ send_clocks (after_send r to name) to names
 
--- with room for so many events at least
+-- with room for at least this many events
 abbrev pub with_room : RecorderView → ℕ → RecorderView
 with_room r events = record r { room = max r.room events }

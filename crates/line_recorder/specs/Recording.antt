@@ -6,7 +6,7 @@ use Rattle.chart.specs.Reports.{IsReportIn, receives_of}
 use Rattle.line_recorder.specs.Carried.{knowledge_of}
 use Rattle.line_recorder.specs.Recorders.{RecorderView}
 
--- it has p's line in the chart of the history, what p knows, and the reports of its receives
+-- the recorder has p's line in the chart of the history, what p knows, and the reports of its receives
 pub record IsRecorder (n : ℕ) (h : List Occurrence) (p : ℕ) (recorder : RecorderView) : Type 0 where
   pub line : recorder.line ≡ record { instance = p; events = chart_of h p }
   pub knowledge : recorder.knowledge ≡ knowledge_of n h p

@@ -10,7 +10,7 @@ use thiserror::Error;
 /// Why an event isn't recorded: the first of these that applies.
 #[derive(Clone, Copy, Debug, PartialEq, Eq, Error)]
 pub enum RecordError {
-    /// F7: the line has no room for it: it takes at most [`chart::MAX_EVENTS`] events.
+    /// F7: the line has no place for it: a line has at most [`chart::MAX_EVENTS`] events.
     #[error("the line is full")]
     LineFull,
     /// F6: a growth was refused.
@@ -26,7 +26,7 @@ impl From<AllocError> for RecordError {
     }
 }
 
-/// What a line refuses, but for its own instance as partner, which no recorder's call gives it.
+/// The refusals of a line, except for its own instance as partner, which no call of a recorder gives it.
 impl From<LineError> for RecordError {
     ghost use Rattle.chart.specs.declared.line.LineError.TheVariants as line;
 

@@ -21,20 +21,20 @@ struct KeptRange {
 #[derive(Clone, Copy, Debug)]
 struct KeptReceive {
     index: u16,
-    /// So many ranges are its report's.
+    /// How many ranges its report has.
     ranges: u16,
 }
 
-/// The reports of a line's receives, in their order. A contract sees a record of the line's instance, of the reports,
-/// and of the room for more.
+/// The reports of a line's receives, in their order. A contract sees the line's instance, the reports, and the room for
+/// more.
 ///
-/// A report takes four bytes, and four for each of its ranges. So it isn't there to be lent: [`KeptReports::add_to`]
+/// A report takes four bytes, and four for each of its ranges. So there is no report to lend: [`KeptReports::add_to`]
 /// makes it again.
 #[derive(Drop)]
 pub(crate) struct KeptReports {
     instance: InstanceNo,
     receives: Vec<KeptReceive>,
-    /// The ranges of all reports, those of the first one first.
+    /// The ranges of all reports, in the order of the reports.
     ranges: Vec<KeptRange>,
 }
 
@@ -67,9 +67,9 @@ impl KeptReports {
         }
     }
 
-    /// Makes room for this report. One without races needs none for ranges.
+    /// Makes room for this report. A report without races needs none for ranges.
     ///
-    /// F6: it fails only where there is no memory.
+    /// F6: it fails only if there is no memory.
     #[inline(always)]
     pub fn make_room(&mut self, report: &Report) -> Result<(), AllocError>
         ensures ok { OnOk result (HasRoomFor self.new report.now) }
@@ -98,8 +98,8 @@ impl KeptReports {
 
     /// Adds the reports to a list.
     ///
-    /// F6: it fails only where there is no memory, and never without a report. The list then has the first ones behind
-    /// what it had.
+    /// F6: it fails only if there is no memory, and never if there is no report. After a failure the list has the first
+    /// reports after its old elements.
     pub fn add_to(&self, alloc: Global, reports: &mut Vec<Report>) -> Result<(), AllocError>
         ensures ok { OnOk result (reports.new.items ≡ reports.old.items ++ self.now.reports) }
         ensures err { OnErr result ((n : ℕ) × (reports.new.items ≡ reports.old.items ++ take n self.now.reports)) }
@@ -121,7 +121,7 @@ impl KeptReports {
     }
 }
 
-/// Adds these ranges of a line, for which there is room.
+/// Adds these ranges of a line. There is room for them.
 #[inline(always)]
 fn add_ranges(kept: &mut Vec<KeptRange>, ranges: &[EventRange])
     requires on_line { (p : ℕ) × All (IsOnLine p) ranges.now }
@@ -139,7 +139,7 @@ fn add_ranges(kept: &mut Vec<KeptRange>, ranges: &[EventRange])
 
 /// The events of these ranges of an instance's line.
 ///
-/// F6: it fails only where there is no memory.
+/// F6: it fails only if there is no memory.
 fn ranges_of(
     alloc: Global,
     instance: InstanceNo,
@@ -157,7 +157,7 @@ fn ranges_of(
 }
 
 impl KeptRange {
-    /// The range, of this instance's line.
+    /// The range on this instance's line.
     fn of_line(self, instance: InstanceNo) -> EventRange
         ensures { result ≡ range_of instance self }
     {

@@ -1,24 +1,25 @@
-//! What an instance records of itself while it runs: its line, what it knows by vector time (Fidge 1988, Mattern
-//! 1989), and the races of each of its receives, found as the message comes (the races of Alur, Holzmann, Peled
-//! 1996, in this project's profile).
+//! What an instance records of itself while it runs: its line, what it knows by vector time, and the races of each of
+//! its receives, found as the message comes. Vector time is from Fidge 1988 and Mattern 1989. The races are those of
+//! Alur, Holzmann, Peled 1996, in this project's profile.
 //!
-//! What is promised:
+//! Promises:
 //!
-//! - A send adds exactly its event, and answers what is known with the event's own index ([`Recorder::send`]).
+//! - A send adds exactly its event, and returns what is known with the event's own index ([`Recorder::send`]).
 //!   Several sends are all recorded, or none is ([`Recorder::send_many`]).
-//! - A receive's report is made by its message's clock alone; the report is kept, and the clock is merged
+//! - A receive's report is made only from its message's clock. The report is kept, and the clock is merged
 //!   ([`Recorder::receive`]).
-//! - The same with clocks told as what changed in them since another one, of which no copy is made
+//! - The same holds for clocks that are given as differences from another clock. No clock is copied then
 //!   ([`Recorder::begin_send`], [`Recorder::receive_over`]).
-//! - Of several sends all that can be refused comes before the first ([`Recorder::ready_sends`]). The first is then
-//!   recorded, and each later one makes its difference of one entry ([`Recorder::send_ready`],
+//! - For several sends, all steps that can be refused come before the first send ([`Recorder::ready_sends`]). The first
+//!   send is then recorded, and each later one makes a difference of one entry ([`Recorder::send_ready`],
 //!   [`Recorder::send_next`]).
-//! - A full line (F7), and then a refused allocation (F6), leave all as it was.
-//! - After [`Recorder::reserve`] there is room for so many events, and each event takes one place of it. With room, a
-//!   send among up to eight instances isn't refused for want of memory.
-//! - Where a recorder knows what its line has heard, the clock of its next send is what that send knows in the chart,
-//!   if it is the line's last or the chart has no cycle ([`laws::knowledge_law`], [`laws::clock_law`]). Where a
-//!   message's clock is what its send knows, the report is the receive's ([`laws::report_law`]).
+//! - A full line (F7), and then a refused allocation (F6), leave everything as it was.
+//! - [`Recorder::reserve`] makes room for events, and each event takes one place of it. With room, a send among up to
+//!   eight instances isn't refused for lack of memory.
+//! - If a recorder knows what its line has heard, the clock of its next send is what that send knows in the chart. The
+//!   send has to be the line's last event, or the chart without a cycle ([`laws::knowledge_law`],
+//!   [`laws::clock_law`]). If a message's clock is what its send knows, the report is the receive's
+//!   ([`laws::report_law`]).
 //! - Along any legal history these clocks are what the sends know ([`laws::history_law`]).
 #![tactic(auto)]
 

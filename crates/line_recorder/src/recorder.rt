@@ -18,21 +18,21 @@ use online_races::next_races;
 use std::alloc::{AllocError, Global};
 use std::marker::Model;
 
-/// One of several instances, as it records itself: its line, its knowledge and its reports. A contract sees a record of
-/// the three, and of the room that was made on the line.
+/// What one of several instances records of itself: its line, its knowledge and its reports. A contract sees these
+/// three, and the room that was made on the line.
 ///
-/// Its knowledge has for the instance itself the number of its last send, and for each other one the most that the
-/// clock of a received message had of it.
+/// For the instance itself, the knowledge has the number of its last send. For each other instance it has the greatest
+/// entry in the clocks of the received messages.
 pub struct Recorder {
     pub(crate) alloc: Global,
     pub(crate) line: GrowingLine,
     pub(crate) knowledge: Clock,
     reports: KeptReports,
-    /// For so many events room was made: the line has so much, or more.
+    /// The number of further events for which room was made. The line has this much room, or more.
     pub(crate) room: usize,
 }
 
-// (by hand, so that who lets go of one calls this, and has no code and no proof of its own for what lies within)
+// Written by hand, so that code which drops one calls this, and needs no code and no proof of its own for the parts.
 impl Drop for Recorder {
     #[inline(never)]
     fn drop(self) {
@@ -64,9 +64,9 @@ impl Model for Recorder {
 }
 
 impl Recorder {
-    /// The recorder of instance `p` of `n`, which did nothing yet.
+    /// The recorder of instance `p` of `n`, which has done nothing yet.
     ///
-    /// It takes no memory, however many instances there are. So F6, which its type has room for, never comes.
+    /// It takes no memory, for any number of instances. So it never returns F6, although its type allows this.
     pub fn new(alloc: Global, p: InstanceNo, n: usize) -> Result<Recorder, AllocError>
         requires at_least_two { 2 ≤ n }
         requires at_most { n ≤ MAX_INSTANCES }
@@ -83,7 +83,7 @@ impl Recorder {
         })
     }
 
-    /// Where it takes its memory from.
+    /// The allocator of its memory.
     #[inline(always)]
     pub fn alloc(&self) -> Global {
         self.alloc
@@ -97,8 +97,8 @@ impl Recorder {
         &self.line
     }
 
-    /// For so many events room was made on the line, and not used yet: they need no memory there. An event takes one
-    /// place of it.
+    /// The number of further events for which room was made on the line: they need no memory there. Each event takes
+    /// one place of it.
     #[inline(always)]
     pub fn room(&self) -> usize
         ensures { result ≡ self.now.room }
@@ -106,9 +106,9 @@ impl Recorder {
         self.room
     }
 
-    /// Makes room for so many events on the line.
+    /// Makes room for at least `events` further events on the line.
     ///
-    /// F6: it fails only where there is no memory, and then nothing has changed.
+    /// F6: it fails only if there is no memory, and then nothing has changed.
     #[inline(always)]
     pub fn reserve(&mut self, events: usize) -> Result<(), AllocError>
         ensures ok { OnOk result (self.new ≡ with_room self.old events) }
@@ -119,7 +119,7 @@ impl Recorder {
         Ok(())
     }
 
-    /// How many events it knows of each instance, as its next send will, but for that send itself.
+    /// How many events it knows of each instance. Its next send knows the same, and itself.
     #[inline(always)]
     pub fn knowledge(&self) -> &Clock
         ensures value { result.now ≡ self.now.knowledge }
@@ -128,9 +128,9 @@ impl Recorder {
         &self.knowledge
     }
 
-    /// The clock of the next event, if it is a send: what is known, and the send itself. Nothing is recorded.
+    /// The clock of the next event, if it is a send: what is known, with the send itself. Nothing is recorded.
     ///
-    /// It takes no memory, however many instances there are. So F6, which its type has room for, never comes.
+    /// It takes no memory, for any number of instances. So it never returns F6, although its type allows this.
     #[inline(always)]
     pub fn next_clock(&self) -> Result<Clock, AllocError>
         requires { length self.now.line.events < MAX_EVENTS }
@@ -143,11 +143,11 @@ impl Recorder {
             .stamped(self.alloc, self.line.instance(), next)
     }
 
-    /// Adds the report of each receive of the line, in their order, to a list. They are made again of what is kept of
-    /// them.
+    /// Adds the report of each receive of the line to a list, in their order. The reports are made again from what is
+    /// kept of them.
     ///
-    /// F6: it fails only where there is no memory, and never without a receive. The list then has the first ones behind
-    /// what it had.
+    /// F6: it fails only if there is no memory, and never if there is no receive. After a failure the list has the
+    /// first reports after its old elements.
     pub fn add_reports(&self, alloc: Global, reports: &mut Vec<Report>) -> Result<(), AllocError>
         ensures ok { OnOk result (reports.new.items ≡ reports.old.items ++ self.now.reports) }
         ensures err { OnErr result ((n : ℕ) × (reports.new.items ≡ reports.old.items ++ take n self.now.reports)) }
@@ -156,7 +156,7 @@ impl Recorder {
         self.reports.add_to(alloc, reports)
     }
 
-    /// The line, of which the recorder is made no more. Its events go into this list, which has room for them. It takes
+    /// Ends the recorder, and returns its line. The line's events go into `events`, which has room for them. It takes
     /// no memory.
     pub fn into_line(self, events: Vec<Event>) -> Line
         requires empty { events.items ≡ [] }
@@ -173,9 +173,9 @@ impl Recorder {
         Line::of(line, events)
     }
 
-    /// Records a send to this instance, and answers its clock: what is known, and the send itself.
+    /// Records a send to this instance, and returns its clock: what is known, with the send itself.
     ///
-    /// A refusal, the first of F7 and F6 that applies, changes nothing. With room it takes no memory.
+    /// The first of F7 and F6 that applies refuses it, and then nothing has changed. With room it takes no memory.
     #[inline(always)]
     pub fn send(&mut self, to: InstanceNo, name: Name) -> Result<Clock, RecordError>
         requires among { to ≤ length self.old.knowledge }
@@ -200,13 +200,12 @@ impl Recorder {
         Ok(clock)
     }
 
-    /// Makes all ready for the next event to be a send, which [`Recorder::record_begun`] then records: room for it on
-    /// the line, its own number in what is known, and the difference, which is what changed in its clock since the
-    /// base. No clock is copied. So its message can be on its way before it is recorded.
+    /// Prepares the next event as a send, which [`Recorder::record_begun`] then records. It makes room for the send on
+    /// the line, stamps the knowledge with the send's number, and makes the difference: what changed in the send's
+    /// clock since the base. No clock is copied. So the message can be on its way before its send is recorded.
     ///
-    /// F6: it fails only where there is no memory, and then nothing has changed but the difference. With room it takes
-    /// none up to [`clock::INLINE_ENTRIES`] instances, and none where nothing new is known of the others since the
-    /// base.
+    /// F6: it fails only if there is no memory, and then nothing has changed except the difference. With room it needs
+    /// none up to [`clock::INLINE_ENTRIES`] instances, and none if nothing new is known of the others since the base.
     #[inline(always)]
     pub fn begin_send(&mut self, base: &Clock, diff: &mut Diff) -> Result<(), AllocError>
         requires entries { length base.now ≡ length self.old.knowledge }
@@ -232,8 +231,7 @@ impl Recorder {
         Ok(())
     }
 
-    /// Records the send to this instance that [`Recorder::begin_send`] made all ready for. It isn't refused, and takes
-    /// no memory.
+    /// Records the send to this instance that [`Recorder::begin_send`] prepared. It isn't refused, and takes no memory.
     #[inline(always)]
     pub fn record_begun(&mut self, to: InstanceNo, name: Name)
         requires not_itself { to ≢ self.old.line.instance }
@@ -241,7 +239,8 @@ impl Recorder {
         requires begun { 0 < self.old.room }
         ensures { self.new ≡ after_begun self.old to name }
     {
-        // (said to the compiler too, by a match, which a proved build keeps: else it looks for room once more)
+        // This match also shows the compiler that there is room, since a proved build keeps it. Otherwise the compiled
+        // code checks for room once more.
         let Some(_) = self.line.room().checked_sub(1) else {
             unreachable!()
         };
@@ -251,14 +250,15 @@ impl Recorder {
         self.room -= 1;
     }
 
-    /// Records a receive from this instance of a message of this name, whose send had this clock, in this coregion (0
-    /// outside of one). It keeps what the report of the receive says, and answers it: the races above what the send
-    /// knows of this line, and it is the message's own clock that says this, not all that is known here.
+    /// Records a receive of a message with this name and this clock from this instance, in the coregion `region` (0
+    /// outside of one). It keeps the report of the receive, and returns it: the races later than the events of this
+    /// line that the send knows. How many these are comes from the message's own clock, not from everything that is
+    /// known here.
     ///
-    /// A refusal, the first of F7 and F6 that applies, changes nothing. Without races, and with room on the line and
-    /// for the report, it takes no memory.
+    /// The first of F7 and F6 that applies refuses it, and then nothing has changed. Without races, and with room on
+    /// the line and for the report, it takes no memory.
     ///
-    /// The caller sees to it that the coregion may come next, as for [`Line::push`].
+    /// The caller ensures that the coregion may come next, as for [`Line::push`].
     #[inline(always)]
     pub fn receive(
         &mut self,
@@ -282,13 +282,13 @@ impl Recorder {
         Ok(report)
     }
 
-    /// Records a receive, as [`Recorder::receive`] does, of a message whose clock is told as what changed in it since
-    /// the base. The base is this clock from then on. No clock is copied.
+    /// Records a receive, as [`Recorder::receive`] does, of a message whose clock is given as a difference from the
+    /// base. Afterwards the base is this clock. No clock is copied.
     ///
-    /// A refusal, the first of F7 and F6 that applies, changes nothing, the base neither. Without races, and with room
-    /// on the line and for the report, it takes no memory.
+    /// The first of F7 and F6 that applies refuses it, and then nothing has changed, not even the base. Without races,
+    /// and with room on the line and for the report, it takes no memory.
     ///
-    /// The caller sees to it that the coregion may come next, as for [`Line::push`].
+    /// The caller ensures that the coregion may come next, as for [`Line::push`].
     #[inline(always)]
     pub fn receive_over(
         &mut self,
@@ -318,8 +318,8 @@ impl Recorder {
         Ok(report)
     }
 
-    /// Records a receive from this instance of a message of this name, whose send knows so many events of this line, in
-    /// this coregion, as [`Recorder::receive`] does, but for what is known, which stays as it was.
+    /// Records a receive of a message with this name from this instance, in this coregion, as [`Recorder::receive`]
+    /// does. The message's send knows `entry` events of this line. The knowledge stays as it was.
     #[inline(always)]
     fn receive_above(
         &mut self,
@@ -352,7 +352,7 @@ impl Recorder {
     }
 }
 
-/// Makes the entry of a send that isn't recorded what it was before the send was stamped.
+/// Sets the entry of a send that isn't recorded back to its value before the send was stamped.
 #[cold]
 #[inline(never)]
 fn set_back(knowledge: &mut Clock, own: InstanceNo, before: u32)

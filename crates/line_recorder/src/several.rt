@@ -12,10 +12,10 @@ use clock::{Clock, Diff};
 use std::alloc::AllocError;
 
 impl Recorder {
-    /// Makes all ready for the next events to be so many sends: room for them on the line, and the difference, which is
-    /// what changes in the clock with the first since the base. None is made yet.
+    /// Prepares the next events as `sends` sends. It makes room for them on the line, and makes the difference: what
+    /// changes in the clock with the first send since the base. No send is made yet.
     ///
-    /// F6: it fails only where there is no memory, and then nothing has changed but the difference.
+    /// F6: it fails only if there is no memory, and then nothing has changed except the difference.
     #[inline(always)]
     pub fn ready_sends(
         &mut self,
@@ -45,7 +45,7 @@ impl Recorder {
         Ok(())
     }
 
-    /// Records a send to this instance for which room was made on the line: it isn't refused, and takes no memory.
+    /// Records a send to this instance. Room was made for it on the line, so it isn't refused, and takes no memory.
     #[inline(always)]
     pub fn send_ready(&mut self, to: InstanceNo, name: Name)
         requires not_itself { to ≢ self.old.line.instance }
@@ -59,8 +59,9 @@ impl Recorder {
         self.record_begun(to, name);
     }
 
-    /// Records a send, as [`Recorder::send_ready`] does, directly after another one, whose clock is what is known. The
-    /// difference is made what changed since: the sender's own entry alone. So no clocks are compared.
+    /// Records a send, as [`Recorder::send_ready`] does, directly after another one, whose clock is the present
+    /// knowledge. The difference is then what changed since that send: only the sender's own entry. So no clocks are
+    /// compared.
     #[inline(always)]
     pub fn send_next(&mut self, to: InstanceNo, name: Name, diff: &mut Diff)
         requires not_itself { to ≢ self.old.line.instance }
@@ -78,11 +79,11 @@ impl Recorder {
         self.record_begun(to, name);
     }
 
-    /// Records a send to this instance for each name, in their order, and answers their clocks, as if each were made by
+    /// Records a send to this instance for each name, in their order, and returns their clocks, as if each were made by
     /// [`Recorder::send`].
     ///
-    /// All are recorded or none: a refusal, the first of F7 and F6 that applies, changes nothing. F7: the line has not
-    /// as much room. All memory is there before anything changes.
+    /// All sends are recorded, or none is. The first of F7 and F6 that applies refuses them, and then nothing has
+    /// changed. F7: the line can't have as many more events. All memory is there before anything changes.
     pub fn send_many(&mut self, to: InstanceNo, names: &[Name]) -> Result<Vec<Clock>, RecordError>
         requires among { to ≤ length self.old.knowledge }
         requires not_itself { to ≢ self.old.line.instance }
@@ -103,7 +104,7 @@ impl Recorder {
         Ok(clocks)
     }
 
-    /// The clocks of the next events, if so many are sends.
+    /// The clocks of the next `sends` events, if they are sends.
     fn next_clocks(&self, sends: usize) -> Result<Vec<Clock>, AllocError>
         requires { length self.now.line.events + sends ≤ MAX_EVENTS }
         ensures { IfOk result (λ clocks. clocks.items ≡ next_clocks self.now sends) }
@@ -119,7 +120,7 @@ impl Recorder {
         Ok(clocks)
     }
 
-    /// The knowledge after the next events, if so many are sends.
+    /// The knowledge after the next `sends` events, if they are sends.
     fn known_after(&self, sends: usize) -> Result<Clock, AllocError>
         requires { length self.now.line.events + sends ≤ MAX_EVENTS }
         ensures { IfOk result (λ known. known ≡ known_after self.now sends) }

@@ -1,4 +1,4 @@
--- Invented sends on a lane: each receive without a send, with the send of the last message before it.
+-- The invented sends of a lane: for each receive without a send, with the send of the last message before it.
 use Rattle.std.proofs.Common.{◌≡◌, ℕ, ◌<◌, Bool, true, false, cond, List, [], ◌∷◌, ◌++◌, Option, None, Some, map, refl, ap, ap₂, ◌∙◌, arith}
 use Rattle.std.specs.Prelude.{is_none}
 use Rattle.std.specs.List.{flat_map}
@@ -24,7 +24,7 @@ abbrev pub begun_lane : Option ℕ → List Taking → List Taking
 begun_lane last [] = []
 begun_lane last (r ∷ rs) = with_begun r.send r.number last (begun_lane (last_after r.send last) rs)
 
--- of these sends those behind one, or at the head
+-- of these sends those that follow one, or are at the head
 abbrev pub is_behind : Option ℕ → Option ℕ → Bool
 is_behind None at = is_none at
 is_behind (Some s) at = is_sent_at s at
@@ -49,7 +49,7 @@ none_invented : (sends : List ℕ) → sent_messages [] sends ≡ map Sent sends
 none_invented [] = refl
 none_invented (s ∷ sends) = ap (λ l. Sent s ∷ l) (none_invented sends)
 
--- one that is invented behind the last message's send, before those that come
+-- one that follows the last message's send, before those to come
 not_behind : (s n : ℕ) (last : Option ℕ) (given : List Taking) → ((l : ℕ) → last ≡ Some l → l < s) → behind_lane (Some s) (record { number = n; send = last } ∷ given) ≡ behind_lane (Some s) given
 not_behind s n None given before = refl
 not_behind s n (Some l) given before = rw (ne_eqb l s (λ e. let less = before l refl in absurd (omega (arith, less, e)))) refl
@@ -68,7 +68,7 @@ without_one n last given [] behind = refl
 without_one n last given (s ∷ sends) behind =
     ap₂ (λ (xs : List ℕ) rest. (Sent s ∷ map Begun xs) ++ rest) (not_behind s n last given (last_before last s sends behind)) (without_one n last given sends (behind_rest last s sends behind))
 
--- all that is invented from a send on is behind it or a later one
+-- the sends that are invented from a send on follow this send or a later one
 none_behind : (at : Option ℕ) (s : ℕ) (rs : List Taking) → Behind at (s ∷ sends_of rs) → behind_lane at (begun_lane (Some s) rs) ≡ []
 none_behind at s [] behind = refl
 none_behind at s (r ∷ rs) behind = go r.send behind (λ t later. none_behind at t rs later)
@@ -90,7 +90,7 @@ itself : (at : Option ℕ) → is_behind at at ≡ true
 itself None = refl
 itself (Some s) = eq-eqb s s refl
 
--- a lane is first in, first out: it gives the messages that are received in this order, and then those that wait
+-- a lane is first in, first out: it has the messages that are received, in this order, and then those that wait
 pub in_order : (last : Option ℕ) (rs : List Taking) (rest : List ℕ) → IsRising (sends_of rs ++ rest) → Behind last (sends_of rs ++ rest)
     → map Begun (behind_lane last (begun_lane last rs)) ++ sent_messages (begun_lane last rs) (sends_of rs ++ rest) ≡ received_messages rs ++ map Sent rest
 in_order last [] rest rising behind = none_invented rest

@@ -1,4 +1,4 @@
--- Invented sends, one by one; and tables that hold them.
+-- Invented sends, one by one, and the tables that hold them.
 use Rattle.std.proofs.Common.{◌≡◌, ℕ, zero, suc, ◌+◌, ◌-◌, ◌<◌, ◌≤◌, ◌==◌, Bool, true, false, cond, List, [], ◌∷◌, ◌++◌, Option, None, Some, length, take, drop, get_or, map, refl, sym, ap, ap₂, ◌∙◌, subst, arith, append_assoc}
 use Rattle.std.specs.Prelude.{fold}
 use Rattle.std.proofs.lemmas.List.{drop_all, append-nil}
@@ -16,7 +16,7 @@ use Rattle.log_chart.specs.declared.matching.LogLine.{LogLine}
 use Rattle.log_chart.specs.declared.name_order.HostName.{HostName}
 use Rattle.log_chart.proofs.MatchingLemmas.{from_here}
 
--- of each lane the send of its last message behind so many lines
+-- the send of each lane's last message, after this number of lines
 abbrev pub lasts_at : List LogLine → ℕ → LaneSends
 lasts_at lines n = fold lasts_after (λ q p. None) (take n lines)
 
@@ -40,7 +40,7 @@ pub begun_end : (lasts : LaneSends) (lines : List LogLine) (given : List Begun) 
 unfolding begun_from
 begun_end lasts lines given n past = rw (drop_all n lines past) (append-nil given)
 
--- the sends at a head to one receiver, one by one
+-- the invented sends at a head to one receiver, one by one
 module _ (items : List Item) (heads : List Begun) (n p : ℕ) (b : Begun) (within : n < length heads) (is : b ≡ get_or heads n b) where
   pub head_more : (more : List Item) → (b.receiver == p) ≡ true → more ≡ items ++ invented p b.receive ∷ []
       → more ++ map (invented p) (heads_to (drop (n + 1) heads) p) ≡ items ++ map (invented p) (heads_to (drop n heads) p)
@@ -55,7 +55,7 @@ pub head_end : (items : List Item) (heads : List Begun) (n p : ℕ) → length h
 unfolding heads_to
 head_end items heads n p past = rw (drop_all n heads past) (append-nil items)
 
--- and to all receivers
+-- and those to all receivers
 module _ (items : List Item) (heads : List Begun) (hosts : List HostName) (n : ℕ) where
   pub heads_more : (x : HostName) (more : List Item) → n < length hosts → x ≡ get_or hosts n x → more ≡ items ++ map (invented x.host) (heads_to heads x.host)
       → more ++ heads_in heads (drop (n + 1) hosts) ≡ items ++ heads_in heads (drop n hosts)
@@ -66,7 +66,7 @@ module _ (items : List Item) (heads : List Begun) (hosts : List HostName) (n : �
   unfolding heads_in
   heads_end past = rw (drop_all n hosts past) (append-nil items)
 
--- the receives behind one send rise
+-- the receives whose invented sends follow one send rise
 below_behind : (n : ℕ) (given : List Begun) (s : ℕ) → IsBelowAll n given → IsBelow n (behind given s)
 unfolding behind
 below_behind n [] s below = tt
@@ -85,7 +85,7 @@ behind_rises n (b ∷ given) s are = go (is_sent_at s b.behind) (behind_rises n 
     go true rest = (below_behind b.receive given s are.2, rest)
     go false rest = rest
 
--- those from one on
+-- the invented sends from one on
 given_from : (n k : ℕ) (given : List Begun) → AreGiven n given → AreGiven n (drop k given)
 given_from n zero given are = are
 given_from n (suc k) [] are = tt
@@ -113,7 +113,7 @@ pub no_behind : (given : List Begun) (n : ℕ) (c : ℕ) → length given ≤ n 
 unfolding behind
 no_behind given n c past = rw (drop_all n given past) refl
 
--- the tables lead through one list
+-- the tables go along one list
 pub one_chain : (next : List (Option ℕ)) (k : Option ℕ) (xs ys : List ℕ) → IsChain next k xs → IsChain next k ys → xs ≡ ys
 one_chain next None [] [] one other = refl
 one_chain next None [] (y ∷ ys) one other = absurd other
@@ -124,7 +124,7 @@ one_chain next (Some k) (x ∷ xs) (y ∷ ys) one other =
     let same : x ≡ y = sym one.0 ∙ other.0 in
     ap₂ (λ (a : ℕ) l. a ∷ l) same (one_chain next (get_or next x None) xs ys one.2 (subst (λ z. IsChain next (get_or next z None) ys) (sym same) other.2))
 
--- one number of a list more
+-- one more number of a list
 module _ (next : List (Option ℕ)) (n : ℕ) where
   pub next_chain : (k : Option ℕ) (numbers : List ℕ) (items more : List Item) (p : ℕ) → k ≡ Some n → IsChain next k numbers → IsRising numbers → more ≡ items ++ invented p n ∷ []
       → (xs : List ℕ) × IsChain next (get_or next n None) xs × IsRising xs × (more ++ map (invented p) xs ≡ items ++ map (invented p) numbers)

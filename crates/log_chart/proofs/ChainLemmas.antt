@@ -1,10 +1,10 @@
--- Lists in two tables, when one gets a number or loses its first one.
+-- Lists in two tables that get a number or lose their first one.
 use Rattle.std.proofs.Common.{◌≡◌, ◌≢◌, ℕ, ◌<◌, ◌==◌, Bool, true, false, cond, List, [], ◌∷◌, Option, None, Some, length, set, get_or, refl, sym, subst, arith, eqb-true}
 use Rattle.std.proofs.lemmas.Bool.{eqb-false}
 use Rattle.std.proofs.lemmas.List.{length-set, get_or-set_same, get_or-set_other}
 use Rattle.log_chart.specs.Chains.{IsBelow, IsChain, AreChains, with_first}
 
--- a chain of numbers above one that is changed
+-- a chain of numbers above a number that changes
 chain_set : (next : List (Option ℕ)) (n : ℕ) (y k : Option ℕ) (xs : List ℕ) → IsBelow n xs → IsChain next k xs → IsChain (set next n y) k xs
 chain_set next n y None [] below chain = tt
 chain_set next n y None (x ∷ xs) below chain = absurd chain
@@ -17,7 +17,7 @@ chain_set next n y (Some k) (x ∷ xs) below chain =
 pub chains_same : (first next : List (Option ℕ)) (f g : ℕ → List ℕ) → ((c : ℕ) → f c ≡ g c) → AreChains first next f → AreChains first next g
 chains_same first next f g same are = λ c within. subst (IsChain next (get_or first c None)) (same c) (are c within)
 
--- a number is put before those of a list
+-- a number is put before the numbers of a list
 pub put_chains : (first next : List (Option ℕ)) (lists : ℕ → List ℕ) (c n : ℕ) → c < length first → n < length next → AreChains first next lists
     → ((d : ℕ) → IsBelow n (lists d)) → AreChains (set first c (Some n)) (set next n (get_or first c None)) (with_first lists c n)
 put_chains first next lists c n within fits are below d d_within = go (c == d) refl

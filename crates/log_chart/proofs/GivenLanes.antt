@@ -12,7 +12,7 @@ use Rattle.log_chart.proofs.LaneLists.{Taking}
 use Rattle.log_chart.proofs.BegunLanes.{with_begun, last_after, begun_lane, behind_lane}
 use Rattle.log_chart.proofs.LogLanes.{LineFits, Fits, taking_of, takes_on}
 
--- those of the lane from q to p
+-- the invented sends of the lane from q to p
 abbrev pub given_of : Begun → Taking
 given_of b = record { number = b.receive; send = b.behind }
 
@@ -35,7 +35,7 @@ given_lane from to q p lasts (x ∷ lines) fits = go (is_send x.entry.kind) refl
     same_last true last = refl
     same_last false last = refl
 
-    -- a line that takes no send leaves the last one
+    -- a line that takes no send leaves the last send
     stays_last : x.send ≡ None → lasts_after lasts x q p ≡ lasts q p
     stays_last none = ap (λ t. cond (is_on q p x) (newer t (lasts q p)) (lasts q p)) none ∙ same_last (is_on q p x) (lasts q p)
 
@@ -68,7 +68,7 @@ given_lane from to q p lasts (x ∷ lines) fits = go (is_send x.entry.kind) refl
     go false e None f more = begins e f (x.entry.peer == q && x.entry.host == p) refl more
     go false e (Some s) f more = takes s e f (x.entry.peer == q && x.entry.host == p) refl more
 
--- an invented send stands behind one of its lane
+-- an invented send follows a send of its lane
 abbrev pub GivenFits : (ℕ → ℕ) → (ℕ → ℕ) → List Begun → Type 0
 GivenFits from to [] = Unit {0}
 GivenFits from to (b ∷ given) = ((s : ℕ) → b.behind ≡ Some s → (from s ≡ b.sender) × (to s ≡ b.receiver)) × GivenFits from to given
@@ -96,7 +96,7 @@ given_fits from to lasts (x ∷ lines) fits are = go (is_begun x) (given_fits fr
     go true rest = (λ s is. are x.entry.peer x.entry.host s is, rest)
     go false rest = rest
 
--- those behind a send of the lane
+-- those that follow a send of the lane
 pub behind_on : (from to : ℕ → ℕ) (q p s : ℕ) → from s ≡ q → to s ≡ p → (given : List Begun) → GivenFits from to given → behind given s ≡ behind_lane (Some s) (given_on q p given)
 unfolding behind
 behind_on from to q p s from_q to_p [] fits = refl

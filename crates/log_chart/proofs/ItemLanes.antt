@@ -78,7 +78,7 @@ heads_received q given [] = refl
 heads_received q given (x ∷ hosts) =
     received-append q (map (invented x.host) (heads_to given x.host)) (heads_in given hosts) ∙ ap₂ (λ (a b : List MessageNo). a ++ b) (none_received q x.host (heads_to given x.host)) (heads_received q given hosts)
 
--- what a line of the log adds
+-- what a line of the log adds to a host's line
 module _ (from to : ℕ → ℕ) (q p : ℕ) (given : List Begun) (given_fit : GivenFits from to given) where
   lane_given : List Taking
   lane_given = given_on q p given
@@ -143,7 +143,7 @@ lines_received q p given (x ∷ lines) =
     go true e rest = ap₂ (λ (a b : List MessageNo). a ++ b) (received_by q p given x true e) rest
     go false e rest = ap₂ (λ (a b : List MessageNo). a ++ b) (received_by q p given x false e) rest
 
--- a lane's messages on the line of its sender, and on that of its receiver
+-- a lane's messages on the line of its sender and on that of its receiver
 pub line_sent : (from to : ℕ → ℕ) (hosts : List HostName) (lines : List LogLine) (given : List Begun) (q p : ℕ) → times p hosts ≡ 1 → Fits from to lines → GivenFits from to given
     → sent_to p (items_of hosts lines given q) ≡ map BegunMessage (heads_to (heads given q) p) ++ sent_messages (given_on q p given) (sends_on q p lines)
 unfolding items_of

@@ -1,4 +1,4 @@
--- Fates on a lane.
+-- The fates of the messages of a lane.
 use Rattle.std.proofs.Common.{◌≡◌, ◌≢◌, ℕ, ◌<◌, ◌≤◌, ◌⊎◌, inl, inr, ◌==◌, Bool, true, false, cond, List, [], ◌∷◌, Option, None, Some, filter, refl, sym, ap, ap₂, ◌∙◌, subst, arith, eqb-true}
 use Rattle.std.specs.Prelude.{nat_lt, unwrap_or}
 use Rattle.std.proofs.lemmas.Bool.{eq-eqb, ne_eqb, eqb-false, false≢true, ltb-false}
@@ -9,7 +9,7 @@ use Rattle.log_chart.specs.declared.fate.Fate.TheVariants.{Stays, Lost, Overtake
 use Rattle.log_chart.proofs.LaneLists.{Taking, with_send, sends_of, lane_first, lane_last, lane_fate, taken_fate, staying_receives, Has, IsApart, AreApart}
 use Rattle.log_chart.proofs.RisingLists.{below_all}
 
--- none of these sends is before s, or behind it
+-- none of these sends is before s, or none is after it
 abbrev AtLeast : ℕ → Option ℕ → Type 0
 AtLeast s None = Unit {0}
 AtLeast s (Some t) = s ≤ t
@@ -62,7 +62,7 @@ last_has s u (r ∷ rs) bound has = go r.send (last_parts s r.send (lane_last rs
     go (Some t) parts (inl e) rest = omega (arith, parts.0, e)
     go (Some t) parts (inr there) rest = rest parts.1 there
 
--- a message has a fate exactly where it is received
+-- a message has a fate exactly if it is received
 pub fate_has : (s : ℕ) (fate : Fate) (rs : List Taking) → lane_fate s rs ≡ Some fate → Has (sends_of rs) s
 fate_has s fate [] is = absurd (cc is)
 fate_has s fate (r ∷ rs) is = go r.send is (fate_has s fate rs)
@@ -90,7 +90,7 @@ has_fate s (r ∷ rs) none has = go r.send none has (has_fate s rs)
     go None its there rest = rest its there
     go (Some t) its there rest = here t (t == s) refl its there rest
 
--- receives that stay, by what comes behind each
+-- the receives that stay, by the receives after each of them
 abbrev own_fate : Option ℕ → List Taking → Fate
 own_fate None rs = Stays
 own_fate (Some s) rs = overtaking (lane_first rs) s
@@ -143,7 +143,7 @@ kept_has (r ∷ rs) s has = go (stays (own_fate r.send rs)) r.send has (kept_has
         by_send None it = it
         by_send (Some u) it = inr it
 
--- the sends of those that stay rise
+-- the sends of the receives that stay rise
 pub kept_rise : (rs : List Taking) → AreApart rs → IsRising (sends_of (kept_from rs))
 kept_rise [] apart = tt
 kept_rise (r ∷ rs) apart = go (stays (own_fate r.send rs)) refl (kept_rise rs apart.1)

@@ -1,4 +1,4 @@
--- One lane of a log, as lists: the numbers of its sends, and of its receives with the sends that they take.
+-- One lane of a log, as lists: the numbers of its sends, and the numbers of its receives with the sends that they take.
 use Rattle.std.proofs.Common.{◌≡◌, ℕ, ◌⊎◌, cond, List, [], ◌∷◌, Option, None, Some, filter}
 use Rattle.std.specs.Prelude.{unwrap_or}
 use Rattle.log_chart.specs.Fates.{earlier, later_one, overtaking, unreceived, is_sent_at, stays}
@@ -31,7 +31,7 @@ abbrev pub lane_fate : ℕ → List Taking → Option Fate
 lane_fate s [] = None
 lane_fate s (r ∷ rs) = cond (is_sent_at s r.send) (Some (overtaking (lane_first rs) s)) (lane_fate s rs)
 
--- what becomes of a receive with this send, and of a send
+-- the fate of a receive with this send, and of a send
 abbrev pub taken_fate : List Taking → Option ℕ → Fate
 taken_fate rs None = Stays
 taken_fate rs (Some s) = unwrap_or (lane_fate s rs) Stays
@@ -50,7 +50,7 @@ abbrev pub Has : List ℕ → ℕ → Type 0
 Has [] s = ⊥
 Has (x ∷ xs) s = (x ≡ s) ⊎ Has xs s
 
--- no receive takes the send of another
+-- no two receives take the same send
 abbrev pub IsApart : Option ℕ → List ℕ → Type 0
 IsApart None xs = Unit {0}
 IsApart (Some s) xs = Has xs s → ⊥

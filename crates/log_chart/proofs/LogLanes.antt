@@ -13,7 +13,7 @@ abbrev pub sends_on : ℕ → ℕ → List LogLine → List ℕ
 sends_on q p [] = []
 sends_on q p (x ∷ lines) = cond (is_send x.entry.kind && is_on q p x) (x.number ∷ sends_on q p lines) (sends_on q p lines)
 
--- its receives
+-- the numbers of its receives
 abbrev pub taking_of : LogLine → Taking
 taking_of x = record { number = x.number; send = x.send }
 
@@ -21,7 +21,7 @@ abbrev pub takes_on : ℕ → ℕ → List LogLine → List Taking
 takes_on q p [] = []
 takes_on q p (x ∷ lines) = cond (not (is_send x.entry.kind) && is_on q p x) (taking_of x ∷ takes_on q p lines) (takes_on q p lines)
 
--- a line whose lane is that of its number and of the send that it takes; a send takes none
+-- the lane of a line is that of its number and of the send that it takes; a send takes none
 pub record LineFits (from to : ℕ → ℕ) (x : LogLine) : Type 0 where
   pub sender : sender_of x.entry ≡ from x.number
   pub receiver : receiver_of x.entry ≡ to x.number
@@ -101,7 +101,7 @@ module _ (from to : ℕ → ℕ) (q p : ℕ) where
       let ends = and_parts (sender_of x.entry == q) (receiver_of x.entry == p) its in
       (eqb-true (sender_of x.entry) q ends.0, eqb-true (receiver_of x.entry) p ends.1)
 
-  -- the sends that stay, and the receives
+  -- the sends that stay, and the receives that stay
   module _ (all : List LogLine) (all_fit : Fits from to all) where
     sent_here : (x : LogLine) → LineFits from to x → is_send x.entry.kind ≡ true → is_on q p x ≡ true → fate_of all x ≡ sent_fate (takes_on q p all) x.number
     sent_here x fits sends its =

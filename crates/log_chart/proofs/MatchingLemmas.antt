@@ -1,4 +1,4 @@
--- The sends of streams, from the last line to the first; and the lines with the sends that they take, one by one.
+-- The sends of streams, from the last line to the first, and the lines with the sends that they take, one by one.
 use Rattle.std.proofs.Common.{◌≡◌, ℕ, ◌+◌, ◌<◌, ◌≤◌, ◌==◌, ◌&&◌, Bool, true, false, cond, List, [], ◌∷◌, ◌++◌, Option, length, take, drop, get_or, refl, sym, ap, ◌∙◌, subst, arith, append_assoc}
 use Rattle.std.specs.Prelude.{fold}
 use Rattle.std.proofs.lemmas.List.{drop_more, drop_all, append-nil}
@@ -10,11 +10,11 @@ use Rattle.log_chart.specs.Matching.{sends_from, send_for, left_after, matched_f
 use Rattle.log_chart.specs.declared.entry.Entry.{Entry}
 use Rattle.log_chart.specs.declared.matching.LogLine.{LogLine}
 
--- what is left of a list from an element on
+-- the rest of a list from an element on
 pub from_here : {X : Type 0} (xs : List X) (n : ℕ) (x : X) → n < length xs → x ≡ get_or xs n x → drop n xs ≡ x ∷ drop (n + 1) xs
 from_here xs n x within is = drop_more xs n x within ∙ ap (λ y. y ∷ drop (n + 1) xs) (sym is)
 
--- there is a stream for each line
+-- there are at most as many streams as lines
 pub stream_within : (log : List Entry) (n : ℕ) (e : Entry) → HaveStreams log → n < length log → e ≡ get_or log n e → e.stream < length log
 stream_within log n e have within is = subst (λ x. x.stream < length log) (sym is) (All-get_or (λ x. x.stream < length log) log n e within have)
 
@@ -32,7 +32,7 @@ pub no_sends : (n : ℕ) (log : List Entry) (c : ℕ) → length log ≤ n → [
 unfolding sends_from
 no_sends n log c past = rw (drop_all n log past) refl
 
--- a line more, which is a send or isn't
+-- one more line, which is a send or isn't
 module _ (log : List Entry) (n m : ℕ) (e : Entry) (more : n + 1 ≡ m) (within : n < length log) (is : e ≡ get_or log n e) where
   here : drop n log ≡ e ∷ drop m log
   here = from_here log n e within is ∙ ap (λ k. e ∷ drop k log) more
@@ -45,11 +45,11 @@ module _ (log : List Entry) (n m : ℕ) (e : Entry) (more : n + 1 ≡ m) (within
   unfolding sends_from
   sends_kept other c = rw (here, other, more) refl
 
--- a line that takes a send leaves the stream without its first
+-- a line that takes a send leaves its stream without the first send
 pub taken_same : (left : ℕ → List ℕ) (e : Entry) → takes e.kind ≡ true → (c : ℕ) → without_first left e.stream c ≡ left_after left e c
 taken_same left e takes_one c = rw takes_one refl
 
--- what is left of each stream behind so many lines
+-- the remaining sends of each stream after this number of lines
 abbrev pub left_at : List Entry → ℕ → ℕ → List ℕ
 left_at log n = fold left_after (sends_from 0 log) (take n log)
 

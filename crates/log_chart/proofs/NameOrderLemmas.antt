@@ -1,4 +1,4 @@
--- The hosts of a log by their names: each of them stands there once.
+-- The hosts of a log in the order of their names: each of them is there once.
 use Rattle.std.proofs.Common.{◌≡◌, ◌≢◌, ℕ, zero, suc, ◌+◌, ◌<◌, ◌≤◌, inl, inr, ◌==◌, Bool, true, false, cond, List, [], ◌∷◌, Some, length, drop, get_or, refl, sym, ap, ◌∙◌, arith, eqb-true, eq-eqb}
 use Rattle.std.specs.List.{insert}
 use Rattle.std.proofs.lemmas.Bool.{cases_eq, ne_eqb}
@@ -18,7 +18,7 @@ module _ (log : List Entry) (n p : ℕ) (e : Entry) (within : n < length log) (i
   unfolding name_of
   name_here its = rw (from_here log n e within is, its) refl
 
--- a host stands behind those that it isn't before
+-- a host is after those that it isn't before
 abbrev pub IsBehind : List HostName → HostName → ℕ → Type 0
 IsBehind hosts x i = (j : ℕ) (y : HostName) → j < i → j < length hosts → y ≡ get_or hosts j y → is_before x y ≡ false
 
@@ -31,7 +31,7 @@ behind_more hosts x y i within is other behind j z less inside z_is =
       | inr differs ↦ behind j z (omega arith) inside z_is
     ]
 
--- put in behind them and before the first that it is before
+-- it is put after them, and before the first that it is before
 pub put_there : (hosts : List HostName) (x : HostName) (i : ℕ) → i ≤ length hosts → IsBehind hosts x i
     → ((y : HostName) → i < length hosts → y ≡ get_or hosts i y → is_before x y ≡ true) → insert hosts i x ≡ put_by_name hosts x
 unfolding put_by_name
@@ -43,7 +43,7 @@ put_there (y ∷ hosts) x (suc i) within behind here =
     (ap (λ l. y ∷ l)
     (put_there hosts x i (omega (arith, within)) (λ j z less inside. behind (suc j) z (omega (arith, less)) (omega (arith, inside))) (λ z inside. here z (omega (arith, inside)))))
 
--- how often a host stands there
+-- how often a host is there
 abbrev pub times : ℕ → List HostName → ℕ
 times p [] = 0
 times p (x ∷ hosts) = cond (x.host == p) 1 0 + times p hosts
@@ -66,7 +66,7 @@ times_past (suc n) p log past =
     let rest = times_past n p log (omega (arith, past)) in
     times_put p (by_name n log) (host_of log (suc n)) ∙ rw other (omega (arith, rest))
 
--- each of n hosts once
+-- each of n hosts is there once
 pub times_once : (n p : ℕ) (log : List Entry) → 1 ≤ p → p ≤ n → times p (by_name n log) ≡ 1
 unfolding by_name
 times_once zero p log low high = absurd (omega (arith, low, high))
@@ -118,7 +118,7 @@ unfolding by_name
 by_name_count zero log = refl
 by_name_count (suc n) log = length_put (by_name n log) (host_of log (suc n)) ∙ ap suc (by_name_count n log)
 
--- one host more
+-- one more host
 pub by_name_more : (n : ℕ) (log : List Entry) (x : HostName) → x ≡ host_of log (suc n) → put_by_name (by_name n log) x ≡ by_name (n + 1) log
 unfolding by_name
 by_name_more n log x is = let next : n + 1 ≡ suc n = omega arith in rw (next, is) refl

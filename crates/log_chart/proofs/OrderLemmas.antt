@@ -1,4 +1,4 @@
--- The lines of a log with the sends that they take: their numbers rise, and these and the sends' are those of lines.
+-- The lines of a log with the sends that they take: their numbers rise, and all numbers are those of lines.
 use Rattle.std.proofs.Common.{◌≡◌, ℕ, suc, ◌+◌, ◌<◌, ◌≤◌, ◌==◌, ◌&&◌, Bool, true, false, cond, List, [], ◌∷◌, ◌++◌, Option, None, Some, length, drop, filter, refl, sym, ap, subst, arith}
 use Rattle.std.specs.Prelude.{All}
 use Rattle.std.proofs.lemmas.List.Elements.{All-nil, All-cons}
@@ -14,7 +14,7 @@ use Rattle.log_chart.specs.Matching.{sends_from, send_for, left_after, matched_f
 use Rattle.log_chart.specs.declared.entry.Entry.{Entry}
 use Rattle.log_chart.specs.declared.matching.LogLine.{LogLine}
 
--- the number is below those of all these lines
+-- the number is less than those of all these lines
 abbrev pub IsAbove : ℕ → List LogLine → Type 0
 IsAbove n [] = Unit {0}
 IsAbove n (x ∷ lines) = (n < x.number) × IsAbove n lines
@@ -24,12 +24,12 @@ abbrev pub Rises : List LogLine → Type 0
 Rises [] = Unit {0}
 Rises (x ∷ lines) = IsAbove x.number lines × Rises lines
 
--- they and their sends are among so many lines
+-- they and their sends are among n lines
 abbrev pub Within : ℕ → List LogLine → Type 0
 Within n [] = Unit {0}
 Within n (x ∷ lines) = (x.number < n) × IsWithin n x.send × Within n lines
 
--- all these numbers are below one
+-- all these numbers are less than one number
 abbrev Below : ℕ → List ℕ → Type 0
 Below n [] = Unit {0}
 Below n (x ∷ xs) = (x < n) × Below n xs
@@ -95,7 +95,7 @@ matched_within log = within_from (length log) (sends_from 0 log) 0 log (λ c. se
 pub matched_rises : (log : List Entry) → Rises (matched log)
 matched_rises log = rises_from (sends_from 0 log) 0 log
 
--- in the words of the contracts
+-- the same in the words of the contracts
 all_within : (n : ℕ) (lines : List LogLine) → Within n lines → All (λ x. IsWithin n x.send) lines
 all_within n [] within = All-nil (λ (x : LogLine). IsWithin n x.send)
 all_within n (x ∷ lines) within = All-cons (λ (y : LogLine). IsWithin n y.send) x lines within.1 (all_within n lines within.2)

@@ -14,7 +14,7 @@ pub below_all : (n : ℕ) (xs : List ℕ) → ((s : ℕ) → Has xs s → n < s)
 below_all n [] all = tt
 below_all n (x ∷ xs) all = (all x (inl refl), below_all n xs (λ s has. all s (inr has)))
 
--- rising lists of the same numbers are one
+-- rising lists with the same numbers are equal
 pub rising_same : (xs ys : List ℕ) → IsRising xs → IsRising ys → ((s : ℕ) → Has xs s → Has ys s) → ((s : ℕ) → Has ys s → Has xs s) → xs ≡ ys
 rising_same [] [] one other to from = refl
 rising_same [] (y ∷ ys) one other to from = absurd (from y (inl refl))
@@ -42,7 +42,7 @@ rising_same (x ∷ xs) (y ∷ ys) one other to from = ap₂ (λ (a : ℕ) l. a �
         go (inl e) = absurd (let less = below_has y s ys other.0 has in omega (arith, less, heads, e))
         go (inr there) = there
 
--- some of a rising list
+-- a part of a rising list rises
 module _ (p : ℕ → Bool) where
   pub has_some : (xs : List ℕ) (s : ℕ) → Has (filter p xs) s → Has xs s × (p s ≡ true)
   has_some [] s has = absurd has

@@ -1,4 +1,4 @@
--- Sends that stay: those of the receives that stay, and then those that nobody received yet.
+-- The sends that stay: those of the receives that stay, and then those that nobody received.
 use Rattle.std.proofs.Common.{◌≡◌, ◌≢◌, ℕ, ◌<◌, ◌⊎◌, inl, inr, ◌&&◌, Bool, true, false, cond, List, [], ◌∷◌, ◌++◌, Option, None, Some, filter, refl, sym, ap, ◌∙◌, subst, arith}
 use Rattle.std.specs.Prelude.{is_none, unwrap_or}
 use Rattle.std.proofs.lemmas.Bool.{false≢true}
@@ -10,7 +10,7 @@ use Rattle.log_chart.proofs.LaneLists.{Taking, with_send, sends_of, lane_last, l
 use Rattle.log_chart.proofs.RisingLists.{rising_same, has_some, some_has, rising_some, has_either, has_left, has_right, rising_joined}
 use Rattle.log_chart.proofs.LaneFates.{at_most, last_has, fate_has, has_fate, kept_rise, staying_is}
 
--- nobody received it, and none that was sent later
+-- nobody received it or a later one
 abbrev waits : List Taking → ℕ → Bool
 waits rs s = is_none (lane_fate s rs) && stays (unreceived s (lane_last rs))
 
@@ -70,7 +70,7 @@ sends_stay rs sends rising apart logged =
     received : (s : ℕ) → Has (sends_of (staying_receives rs)) s → Has (sends_of rs) s
     received s has = (taken_has (λ t. stays (taken_fate rs t)) rs s has).0
 
-    -- of one that waits
+    -- of a send that waits
     waiting : (s : ℕ) → Has (waiting_sends rs sends) s → (lane_fate s rs ≡ None) × (stays (unreceived s (lane_last rs)) ≡ true)
     waiting s has = go (lane_fate s rs) refl (has_some (waits rs) sends s has).1
       where

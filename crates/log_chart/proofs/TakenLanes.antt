@@ -1,4 +1,4 @@
--- Which sends the receives of a lane take: each another one, of the lane.
+-- The sends that the receives of a lane take are sends of the lane, and no two receives take the same.
 use Rattle.std.proofs.Common.{◌≡◌, ℕ, zero, suc, ◌+◌, inl, inr, ◌==◌, ◌&&◌, not, Bool, true, false, cond, List, [], ◌∷◌, Option, None, Some, drop, filter, refl, sym, ap, ap₂, ◌∙◌, subst, arith, eqb-true, eq-eqb, add-one}
 use Rattle.std.proofs.lemmas.Bool.{and_parts, false≢true}
 use Rattle.std.proofs.lemmas.List.Elements.{All-head, All-tail}
@@ -39,7 +39,7 @@ streams_all : (log : List Entry) → AreStreams (stream_at log) 0 log
 streams_all [] = tt
 streams_all (e ∷ log) = (refl, streams_later (stream_at (e ∷ log)) 0 log (streams_same (stream_at log) (λ n. stream_at (e ∷ log) (n + 1)) (λ n. rw (add-one n) refl) 0 log (streams_all log)))
 
--- what is left of each stream: its own sends, in their order
+-- the remaining sends of each stream: its own ones, in their order
 pub record AreLeft (stream : ℕ → ℕ) (left : ℕ → List ℕ) : Type 0 where
   pub own : (c s : ℕ) → Has (left c) s → stream s ≡ c
   pub rising : (c : ℕ) → IsRising (left c)
@@ -104,7 +104,7 @@ took left e s is = go (takes e.kind) refl is
     go true f same = (f, same)
     go false f same = absurd (cc same)
 
--- what the receives of a lane take was left before
+-- what the receives of a lane take remained before
 module _ (stream : ℕ → ℕ) (q p : ℕ) where
   taken_left : (left : ℕ → List ℕ) (k : ℕ) (log : List Entry) → AreLeft stream left → (s : ℕ) → Has (sends_of (takes_on q p (matched_from left k log))) s → Has (left (stream s)) s
   unfolding matched_from
@@ -123,7 +123,7 @@ module _ (stream : ℕ → ℕ) (q p : ℕ) where
       go true (Some t) f (inr there) rest = rest there
       go false send f there rest = rest there
 
-  -- a send that is taken isn't left
+  -- a send that is taken doesn't remain
   gone : (left : ℕ → List ℕ) (e : Entry) (s : ℕ) → AreLeft stream left → send_for left e ≡ Some s → Has (left_after left e (stream s)) s → ⊥
   gone left e s are is has =
       let first = took left e s is in
@@ -152,7 +152,7 @@ module _ (stream : ℕ → ℕ) (q p : ℕ) where
       go true (Some t) f rest = (λ has. gone left e t are f (taken_left (left_after left e) (k + 1) log (left_then stream left e are) t has), rest)
       go false send f rest = rest
 
--- lines are of the lanes of their streams
+-- lines are on the lanes of their streams
 sends_nothing : (left : ℕ → List ℕ) (e : Entry) → is_send e.kind ≡ true → send_for left e ≡ None
 sends_nothing left e sends = go e.kind sends
   where
@@ -207,7 +207,7 @@ module _ (from to : ℕ → ℕ) (q p s c : ℕ) (sender : from s ≡ q) (receiv
       go true f false there rest = more (is_send e.kind && (sender_of e == q && receiver_of e == p)) (rest there)
       go false f its there rest = more (is_send e.kind && (sender_of e == q && receiver_of e == p)) (rest there)
 
--- one that a receive of the lane takes is of the lane
+-- a send that a receive of the lane takes is of the lane
 pub taken_lane : (from to : ℕ → ℕ) (q p : ℕ) (lines : List LogLine) → Fits from to lines → (s : ℕ) → Has (sends_of (takes_on q p lines)) s → (from s ≡ q) × (to s ≡ p)
 taken_lane from to q p [] fits s has = absurd has
 taken_lane from to q p (x ∷ lines) fits s has = go (is_send x.entry.kind) (is_on q p x) refl x.send refl has (taken_lane from to q p lines fits.1 s)

@@ -1,13 +1,12 @@
--- Lists of numbers in two tables, one with the first number of each list, the other with the number behind each (this
--- project's own).
+-- Lists of numbers in two tables: the first number of each list, and the number after each number (this project's own).
 use Rattle.std.specs.Prelude.{◌≡◌, ℕ, ◌<◌, ◌==◌, List, [], ◌∷◌, length, drop, Option, None, Some, slice_index_or, if◌then◌else◌}
 
--- the number is below all of a list
+-- the number is less than all numbers of a list
 abbrev pub IsBelow : ℕ → List ℕ → Type 0
 IsBelow n [] = Unit {0}
 IsBelow n (x ∷ xs) = (n < x) × IsBelow n xs
 
--- from this number on the table leads through the list
+-- from this number on the table goes along the list
 abbrev pub IsChain : List (Option ℕ) → Option ℕ → List ℕ → Type 0
 IsChain next None [] = Unit {0}
 IsChain next None (x ∷ xs) = ⊥
@@ -23,10 +22,10 @@ abbrev pub first_of : List ℕ → Option ℕ
 first_of [] = None
 first_of (x ∷ xs) = Some x
 
--- the lists with a number before those of one
+-- the lists, one of them with one more number before the others
 abbrev pub with_first : (ℕ → List ℕ) → ℕ → ℕ → ℕ → List ℕ
 with_first lists c n d = if c == d then n ∷ lists d else lists d
 
--- the lists without the first number of one
+-- the lists, one of them without its first number
 abbrev pub without_first : (ℕ → List ℕ) → ℕ → ℕ → List ℕ
 without_first lists c d = if c == d then drop 1 (lists d) else lists d

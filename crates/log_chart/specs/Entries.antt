@@ -1,4 +1,4 @@
--- What the lines of a log say (after the convention of ShiViz: each event of a host is a line, in their order).
+-- What a line of a log records (after the convention of ShiViz: each event of a host is a line, in their order).
 use Rattle.std.specs.Prelude.{◌<◌, Bool, true, false, List, length, All}
 use Rattle.log_chart.specs.declared.entry.Entry.{Entry}
 use Rattle.log_chart.specs.declared.entry.Kind.{Kind}

@@ -1,4 +1,4 @@
--- What a table says of lanes and messages: for the crate's own functions.
+-- What tables hold of lanes and messages: for the crate's own functions.
 use Rattle.std.specs.Prelude.{◌≡◌, ℕ, ◌<◌, List, length, All, Option, None, Some, slice_index_or}
 use Rattle.log_chart.specs.LaneTables.{AreLanes}
 use Rattle.log_chart.specs.Fates.{first_sent, last_sent, message_fate}
@@ -14,7 +14,7 @@ AreLast table lines = AreLanes table (last_sent lines)
 abbrev pub AreFates : List (Option Fate) → List LogLine → Type 0
 AreFates table lines = (s : ℕ) → s < length table → slice_index_or table s None ≡ message_fate s lines
 
--- the send, if there is one, is one of so many lines
+-- the send, if there is one, is one of n lines
 abbrev pub IsWithin : ℕ → Option ℕ → Type 0
 IsWithin n None = Unit {0}
 IsWithin n (Some s) = s < n
@@ -22,6 +22,6 @@ IsWithin n (Some s) = s < n
 abbrev pub AreWithin : List LogLine → Type 0
 AreWithin lines = All (λ x. IsWithin (length lines) x.send) lines
 
--- each line has its number, from 0
+-- the number of each line is below the count of the lines
 abbrev pub AreNumbered : List LogLine → Type 0
 AreNumbered lines = All (λ x. x.number < length lines) lines

@@ -11,7 +11,7 @@ use Rattle.log_chart.specs.declared.item.Item.{Item}
 use Rattle.log_chart.specs.declared.matching.LogLine.{LogLine}
 use Rattle.log_chart.specs.declared.name_order.HostName.{HostName}
 
--- the lines of its hosts, which are these by their names, from p on
+-- the lines of k hosts, from p on, of these hosts in the order of their names
 unfoldable pub lines_from : List HostName → List LogLine → List Begun → ℕ → ℕ → List (List Item)
 lines_from hosts lines given p zero = []
 lines_from hosts lines given p (suc k) = items_of hosts lines given p ∷ lines_from hosts lines given (suc p) k

@@ -1,4 +1,4 @@
-//! Receives whose sends the log doesn't have.
+//! Receives whose sends aren't in the log.
 ghost use Rattle.std.specs.Prelude.{◌≡◌, IfOk};
 ghost use Rattle.log_chart.specs.Begun.{lasts_after, is_begun, begun_of, begun};
 ghost use Rattle.log_chart.specs.LaneTables.{LaneSends, AreLanes};
@@ -16,7 +16,8 @@ pub struct Begun {
     pub receive: usize,
     pub sender: InstanceNo,
     pub receiver: InstanceNo,
-    /// The number of the line directly behind whose send it stands, or else it is at the head of the sender's line.
+    /// The number of the line with the send that the invented send follows directly. Without it the invented send is at
+    /// the head of the sender's line.
     pub behind: Option<usize>,
 }
 
@@ -26,7 +27,7 @@ fn is_begun(line: &LogLine) -> bool
     !is_send(line.entry.kind) && line.send.is_none()
 }
 
-/// The send that is invented for a line. The table has for each lane the send of its last message.
+/// The send that is invented for a line. `lasts` has for each lane the send of its last message so far.
 fn begun_of(lasts: &LaneTable, line: &LogLine) -> Begun
     ensures { (sends : LaneSends) → AreLanes lasts.now sends → result ≡ begun_of sends line.now }
 {
@@ -38,7 +39,7 @@ fn begun_of(lasts: &LaneTable, line: &LogLine) -> Begun
     }
 }
 
-/// One line more.
+/// Notes the send of one more line in `lasts`, as that of its lane's last message.
 fn pass(lasts: &mut LaneTable, line: &LogLine)
     ensures { (sends : LaneSends) → AreLanes lasts.old sends → AreLanes lasts.new (lasts_after sends line.now) }
 {
@@ -49,7 +50,8 @@ fn pass(lasts: &mut LaneTable, line: &LogLine)
     }
 }
 
-/// The sends that are invented for these lines: one for each receive without a send.
+/// The sends that are invented for these lines: one for each receive without a send. It fails only if there is no
+/// memory.
 pub(crate) fn begun_sends(alloc: Global, lines: &[LogLine]) -> Result<Vec<Begun>, AllocError>
     ensures { IfOk result (λ given. given.items ≡ begun lines.now) }
 {

@@ -1,10 +1,10 @@
-//! Lists of numbers that share two tables, each number with the next one of its list.
+//! Lists of numbers that share two tables: the first number of each list, and the number after each number.
 ghost use Rattle.std.specs.Prelude.{◌≡◌, ◌<◌, ℕ, List, [], length, IfOk, slice_index_or, None};
 ghost use Rattle.log_chart.specs.Chains.{IsBelow, AreChains, first_of, with_first, without_first};
 
 use std::alloc::{AllocError, Global};
 
-/// So many lists of numbers below a limit, none of which is in two of them.
+/// Lists of numbers below a limit. No number is in two of them.
 #[derive(Drop)]
 pub(crate) struct Chains {
     first: Vec<Option<usize>>,
@@ -12,7 +12,7 @@ pub(crate) struct Chains {
 }
 
 impl Chains {
-    /// As many empty lists as there are numbers.
+    /// Makes `count` empty lists for numbers below `count`. It fails only if there is no memory.
     pub(crate) fn new(alloc: Global, count: usize) -> Result<Chains, AllocError>
         ensures lists { IfOk result (λ chains. length chains.first.items ≡ count) }
         ensures numbers { IfOk result (λ chains. length chains.next.items ≡ count) }
@@ -24,7 +24,7 @@ impl Chains {
         })
     }
 
-    /// Puts a number before those of a list. It is below all that are in the lists.
+    /// Puts a number before the numbers of a list. It is less than all numbers of the lists.
     pub(crate) fn put_first(&mut self, list: usize, number: usize)
         requires list { list < length self.old.first.items }
         requires number { number < length self.old.next.items }
@@ -48,7 +48,7 @@ impl Chains {
         }
     }
 
-    /// The number behind one of a list.
+    /// The number after a number of a list.
     pub(crate) fn next_of(&self, number: usize) -> Option<usize>
         ensures { result ≡ slice_index_or self.now.next.items number None }
     {
@@ -58,7 +58,7 @@ impl Chains {
         }
     }
 
-    /// Takes the first number of a list.
+    /// Takes the first number off a list.
     pub(crate) fn take_first(&mut self, list: usize) -> Option<usize>
         requires list { list < length self.old.first.items }
         ensures lists { length self.new.first.items ≡ length self.old.first.items }

@@ -1,9 +1,11 @@
 //! The charts of logs.
 //!
-//! What is promised ([`draw`]), unless an allocation is refused: a chart always comes out where there are two hosts
-//! and none has too many events, and it is possible; each line of a host is an event of its line, in their order,
-//! but for what is left out and what is invented, and each of these is told; and each receive's send is the one
-//! that the rules of `log_chart` and `log_chart::cycles` say.
+//! Promises of [`draw`], unless an allocation is refused:
+//!
+//! - Each log of two hosts or more has a chart, unless a host has too many events, and the chart is possible.
+//! - The events of a host are its lines, in their order, without the skipped lines and with the invented sends. All of
+//!   these are listed.
+//! - Each receive has the send that the rules of `log_chart` and `log_chart::cycles` give it.
 
 mod chart_lines;
 mod drawing;

@@ -22,7 +22,7 @@ use chart::InstanceNo;
 use std::alloc::{AllocError, Global};
 use std::marker::Model;
 
-/// The events of a host. A contract sees their list.
+/// The events of a host. A contract sees them as a list.
 #[derive(Drop)]
 pub struct HostLine {
     items: Vec<Item>,
@@ -46,20 +46,20 @@ impl HostLine {
     }
 }
 
-/// The lines of the hosts of a log, and what was done to come to them.
+/// The lines of the hosts of a log, and the steps that led to them.
 #[derive(Drop)]
 pub struct HostLines {
     /// Each line of the log, with the send that it takes.
     pub matched: Vec<LogLine>,
-    /// What becomes of each of these.
+    /// The fate of each of these lines.
     pub fates: Vec<Fate>,
-    /// The sends that are invented.
+    /// The invented sends.
     pub given: Vec<Begun>,
-    /// The events of each host, by its number.
+    /// The events of each host, in the order of the hosts' numbers.
     pub lines: Vec<HostLine>,
 }
 
-/// The lines of the hosts, which are these by their names.
+/// The lines of the hosts. `hosts` has the hosts in the order of their names.
 fn lines_of(
     alloc: Global,
     hosts: &[HostName],
@@ -85,7 +85,7 @@ fn lines_of(
 
 /// The lines of a log that stay, each receive with the send that it takes.
 ///
-/// F6: it fails only where there is no memory.
+/// F6: it fails only if there is no memory.
 pub fn kept_lines(alloc: Global, log: &[Entry]) -> Result<Vec<LogLine>, AllocError>
     requires { HaveStreams log.now }
     ensures { IfOk result (λ lines. lines.items ≡ kept log.now) }
@@ -95,13 +95,14 @@ pub fn kept_lines(alloc: Global, log: &[Entry]) -> Result<Vec<LogLine>, AllocErr
     Ok(sifted.staying)
 }
 
-/// The lines of the hosts of a log, of so many.
+/// The lines of the `count` hosts of a log.
 ///
-/// Each receive takes the first send of its stream that none before it took. Lost messages and those that overtake are
-/// left out. A receive without a send gives its peer one, directly behind the send of the last message before it on its
-/// lane that is left, or at the head of the peer's line: there by the names of the receivers.
+/// Each receive takes the first send of its stream that no receive above it took. Lost messages and messages that
+/// overtake are skipped. For a receive without a send its peer gets an invented one. This is directly after the send of
+/// the last message above the receive on its lane that isn't skipped. If there is none, it is at the head of the peer's
+/// line, by the names of the receivers.
 ///
-/// F6: it fails only where there is no memory.
+/// F6: it fails only if there is no memory.
 pub fn host_lines(alloc: Global, count: usize, log: &[Entry]) -> Result<HostLines, AllocError>
     requires count { count ≤ MAX_INSTANCES }
     requires streams { HaveStreams log.now }

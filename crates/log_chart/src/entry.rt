@@ -1,4 +1,4 @@
-//! What the lines of a log say.
+//! What a line of a log records.
 use chart::{InstanceNo, Name};
 
 /// What a host did with a message.
@@ -6,30 +6,30 @@ use chart::{InstanceNo, Name};
 pub enum Kind {
     Send,
     Receive,
-    /// It received the message, and takes no send of the log: the log is held to begin between the two.
+    /// It received the message, and takes no send of the log: the log is taken to begin between the two.
     Freed,
 }
 
 /// A line of one of the files.
 #[derive(Clone, Copy, Debug, PartialEq, Eq)]
 pub struct Place {
-    /// The file, counted from 0.
+    /// The file, from 0.
     pub file: usize,
-    /// The line, counted from 1.
+    /// The line, from 1.
     pub line: u64,
 }
 
-/// What a line says: a host sent a message to a peer, or received one from it.
+/// What a line records: a host sent a message to a peer, or received one from it.
 #[derive(Clone, Copy, Debug)]
 pub struct Entry {
     pub host: InstanceNo,
-    /// The host's name: where one of several hosts comes first, it is the first by the bytes of its name.
+    /// The name of the host. If one of several hosts has to come first, it is the first one by the bytes of its name.
     pub host_name: Name,
     pub kind: Kind,
     pub peer: InstanceNo,
     pub name: Name,
-    /// The number of what a send and its receive have in common: their lane, and the message's id or, where it has
-    /// none, its name.
+    /// The number of what a send and its receive have in common: their lane, and the message's id or, without an id,
+    /// its name.
     pub stream: usize,
     pub place: Place,
 }

@@ -1,12 +1,12 @@
-//! What becomes of the lines of a log.
+//! Which lines of a log stay, and which are skipped.
 
-/// What becomes of a line.
+/// The fate of a line.
 #[derive(Clone, Copy, Debug, PartialEq, Eq)]
 pub enum Fate {
     Stays,
-    /// It is a send without a receive, and a later one of its lane was received: left out.
+    /// It is a send without a receive, and a later send of its lane was received. The line is skipped.
     Lost,
-    /// Its message overtakes, and is left out: that of the line with this number was sent before it and is received
-    /// behind it.
+    /// Its message overtakes, and the line is skipped. The message of the line with this number was sent before it, and
+    /// is received after it.
     Overtakes(usize),
 }

@@ -13,7 +13,7 @@ use crate::name_order::HostName;
 use chart::InstanceNo;
 use std::alloc::{AllocError, Global};
 
-/// The receives for which a send is invented behind another, by the number of this one's line.
+/// The receives whose invented sends directly follow another send, by the number of the other send's line.
 pub(crate) fn behind_of(alloc: Global, count: usize, given: &[Begun]) -> Result<Chains, AllocError>
     requires { AreGiven count given.now }
     ensures chains { IfOk result (λ chains. AreChains chains.first.items chains.next.items (behind_numbers given.now)) }
@@ -32,7 +32,7 @@ pub(crate) fn behind_of(alloc: Global, count: usize, given: &[Begun]) -> Result<
     Ok(chains)
 }
 
-/// The sends that are invented at the head of a host's line.
+/// The invented sends at the head of a host's line. It fails only if there is no memory.
 fn heads(alloc: Global, given: &[Begun], host: InstanceNo) -> Result<Vec<Begun>, AllocError>
     ensures { IfOk result (λ found. found.items ≡ heads given.now host) }
 {
@@ -43,7 +43,7 @@ fn heads(alloc: Global, given: &[Begun], host: InstanceNo) -> Result<Vec<Begun>,
         .collect(alloc)
 }
 
-/// Those to one receiver.
+/// Adds those of them to one receiver.
 fn push_heads_to(
     items: &mut Vec<Item>,
     heads: &[Begun],
@@ -59,7 +59,7 @@ fn push_heads_to(
     Ok(())
 }
 
-/// Those to these hosts, one after another.
+/// Adds those of them to these hosts, one host after another.
 fn push_heads(items: &mut Vec<Item>, heads: &[Begun], hosts: &[HostName]) -> Result<(), AllocError>
     ensures { OnOk result (items.new.items ≡ items.old.items ++ heads_in heads.now hosts.now) }
 {
@@ -69,7 +69,7 @@ fn push_heads(items: &mut Vec<Item>, heads: &[Begun], hosts: &[HostName]) -> Res
     Ok(())
 }
 
-/// The sends that are invented behind that of a line.
+/// Adds the invented sends that directly follow the send of a line.
 fn push_behind(items: &mut Vec<Item>, behind: &Chains, line: &LogLine) -> Result<(), AllocError>
     requires rising { HoldsRising behind.now }
     requires within { line.now.number < length behind.now.first.items }
@@ -84,7 +84,7 @@ fn push_behind(items: &mut Vec<Item>, behind: &Chains, line: &LogLine) -> Result
     Ok(())
 }
 
-/// What a host's line gets by a line of the log.
+/// Adds what a line of the log gives to a host's line.
 fn push_items(
     items: &mut Vec<Item>,
     behind: &Chains,
@@ -106,7 +106,8 @@ fn push_items(
     Ok(())
 }
 
-/// The events of a host, of these by their names: those of its lines that stay, and the sends that are invented.
+/// The events of a host: those of its lines that stay, and the invented sends. `hosts` has all hosts in the order of
+/// their names. It fails only if there is no memory.
 pub(crate) fn items_of(
     alloc: Global,
     hosts: &[HostName],

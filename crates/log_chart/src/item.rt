@@ -5,7 +5,7 @@ ghost use Rattle.log_chart.specs.Items.{message_of, item_of, invented};
 use crate::matching::{LogLine, is_send};
 use chart::InstanceNo;
 
-/// A message, by the number of the line that sends it or, where its send is invented, of the one that receives it.
+/// A message, by the number of the line that sends it or, if its send is invented, of the line that receives it.
 #[derive(Clone, Copy, Debug, PartialEq, Eq)]
 pub enum MessageNo {
     Sent(usize),
@@ -19,7 +19,7 @@ pub struct Item {
     /// The host at the other end.
     pub partner: InstanceNo,
     pub message: MessageNo,
-    /// The number of its line in the log. An invented send has none.
+    /// The number of its line in the log, or `None` for an invented send.
     pub line: Option<usize>,
 }
 
@@ -48,7 +48,7 @@ pub(crate) fn item_of(line: &LogLine) -> Item
     }
 }
 
-/// A send that is invented for the receive of a line.
+/// The send that is invented for the receive of this line.
 pub(crate) fn invented(receiver: InstanceNo, receive: usize) -> Item
     ensures { result ≡ invented receiver receive }
 {

@@ -7,10 +7,10 @@ use chart::{InstanceNo, MAX_INSTANCES};
 use std::alloc::{AllocError, Global};
 use std::marker::Model;
 
-/// How many lanes there may be, with those from an instance to itself, which nothing goes over.
+/// The most lanes, including those from an instance to itself, which no message uses.
 const LANES: usize = MAX_INSTANCES * MAX_INSTANCES;
 
-/// For each lane the number of a line that sends, if there is one. A contract sees the list.
+/// For each lane the number of a line with a send, if there is one. A contract sees a list.
 #[derive(Drop)]
 pub struct LaneTable {
     sends: Vec<Option<usize>>,
@@ -27,7 +27,7 @@ impl Model for LaneTable {
     ghost invariant = { λ c. length c.sends.items ≡ MAX_INSTANCES * MAX_INSTANCES };
 }
 
-/// Where a lane's send stands.
+/// The index of a lane in the table.
 fn slot(from: InstanceNo, to: InstanceNo) -> usize
     ensures value { result ≡ slot_of from to }
     ensures lane { IsInstance from × IsInstance to }
@@ -37,9 +37,9 @@ fn slot(from: InstanceNo, to: InstanceNo) -> usize
 }
 
 impl LaneTable {
-    /// None for each lane.
+    /// No send for any lane.
     ///
-    /// F6: it fails only where there is no memory.
+    /// F6: it fails only if there is no memory.
     pub fn none(alloc: Global) -> Result<LaneTable, AllocError>
         ensures { IfOk result (λ table. AreLanes table (λ q p. None)) }
     {
@@ -55,7 +55,7 @@ impl LaneTable {
         self.sends[slot(from, to)]
     }
 
-    /// Changes the send of a lane.
+    /// Sets the send of a lane.
     pub fn set(&mut self, from: InstanceNo, to: InstanceNo, send: Option<usize>)
         ensures { (sends : LaneSends) → AreLanes self.old sends → AreLanes self.new (changed sends from to send) }
     {

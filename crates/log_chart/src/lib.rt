@@ -1,16 +1,18 @@
-//! Logs of messages, and the lines of hosts that they come to.
+//! Logs of messages, and the lines of their hosts.
 //!
-//! What is promised, unless an allocation is refused ([`host_lines`]):
+//! Promises of [`host_lines`], unless an allocation is refused:
 //!
-//! - Each receive takes the first send of its lane with its id or, where it has none, its name that none before it
-//!   took.
-//! - What is lost is left out, and so is each message that overtakes; nothing else is. It is told by its number.
-//! - A host's line has its events that stay, in their order. Directly behind a send stand those that are invented
-//!   there, for receives without one, and at its head those that have no message of their lane before them.
-//! - On each lane the n-th message that is received is the n-th that is sent ([`lane_law`]).
+//! - Each receive takes the first send of its lane with its id or, without an id, with its name that no receive above
+//!   it took.
+//! - Lost messages and messages that overtake are skipped, and nothing else. The fate of each line is listed by its
+//!   number.
+//! - A host's line has its events that stay, in their order, and an invented send for each receive without a send. The
+//!   invented send directly follows the send of the last message above the receive on its lane that isn't skipped. If
+//!   there is none, it is at the head of the line.
+//! - On each lane the n-th message that is received is the n-th one that is sent ([`lane_law`]).
 //!
-//! [`cycles`] frees receives until no line comes before itself, [`charts`] draws the chart, and [`named`] makes
-//! entries of lines by names.
+//! [`cycles`] frees receives until no line comes before itself, [`charts`] draws the chart, and [`named`] makes entries
+//! of lines with names.
 #![tactic(auto)]
 
 mod begun;

@@ -1,4 +1,4 @@
-//! What stays of a log, and what is lost or overtakes.
+//! Which lines of a log stay, and which are lost or overtake.
 ghost use Rattle.std.specs.Prelude.{◌≡◌, ◌<◌, ◌∷◌, [], ℕ, List, length, IfOk, Option, Some};
 ghost use Rattle.log_chart.specs.Fates.{sender_of, receiver_of, earlier, later_one, last_sent, overtaking, message_fate};
 ghost use Rattle.log_chart.specs.Fates.{unreceived, fate_of, fates, stays, staying};
@@ -12,7 +12,7 @@ use crate::matching::{LogLine, is_send};
 use chart::InstanceNo;
 use std::alloc::{AllocError, Global};
 
-/// Whose message it is.
+/// The sender of the message.
 pub(crate) fn sender_of(entry: &Entry) -> InstanceNo
     ensures { result ≡ sender_of entry.now }
 {
@@ -23,7 +23,7 @@ pub(crate) fn sender_of(entry: &Entry) -> InstanceNo
     }
 }
 
-/// To whom it goes.
+/// The receiver of the message.
 pub(crate) fn receiver_of(entry: &Entry) -> InstanceNo
     ensures { result ≡ receiver_of entry.now }
 {
@@ -34,18 +34,18 @@ pub(crate) fn receiver_of(entry: &Entry) -> InstanceNo
     }
 }
 
-/// What is known of the messages that are received from some line on.
+/// What is known of the messages that are received in a line or below it.
 #[derive(Drop)]
 struct Received {
-    /// For each send what becomes of its message, if it is received there.
+    /// For each send the fate of its message, if it is received there.
     fates: Vec<Option<Fate>>,
-    /// For each lane the first of these sends.
+    /// For each lane the first send of these messages.
     first: LaneTable,
-    /// For each lane the last of them.
+    /// For each lane the last send of these messages.
     last: LaneTable,
 }
 
-/// The fate of the message of a send, where this is the lane's first send that is received later.
+/// The fate of the message of a send. `first` is the first send of its lane that is received later.
 fn overtaking(first: Option<usize>, send: usize) -> Fate
     ensures { result ≡ overtaking first send }
 {
@@ -61,7 +61,7 @@ fn overtaking(first: Option<usize>, send: usize) -> Fate
     }
 }
 
-/// The earlier one of two sends, the second of which there may not be.
+/// The earlier of two sends. There may be no second one.
 fn earlier(send: usize, other: Option<usize>) -> usize
     ensures { Some result ≡ earlier (Some send) other }
 {
@@ -71,7 +71,7 @@ fn earlier(send: usize, other: Option<usize>) -> usize
     }
 }
 
-/// The later one.
+/// The later of two sends. There may be no second one.
 fn later_one(send: usize, other: Option<usize>) -> usize
     ensures { Some result ≡ later_one (Some send) other }
 {
@@ -82,7 +82,7 @@ fn later_one(send: usize, other: Option<usize>) -> usize
 }
 
 impl Received {
-    /// Nothing is received of so many lines.
+    /// Nothing is received, in a log of `count` lines. It fails only if there is no memory.
     fn nothing(alloc: Global, count: usize) -> Result<Received, AllocError>
         ensures whole { IfOk result (λ r. length r.fates.items ≡ count) }
         ensures fates { IfOk result (λ r. AreFates r.fates.items []) }
@@ -96,7 +96,7 @@ impl Received {
         })
     }
 
-    /// One line more, before those that were gone over.
+    /// Adds one more line, above those that were added.
     fn pass(&mut self, line: &LogLine)
         requires { IsWithin (length self.old.fates.items) line.now.send }
         ensures whole { length self.new.fates.items ≡ length self.old.fates.items }
@@ -117,7 +117,7 @@ impl Received {
         self.last.set(sender, receiver, Some(later_one(send, last)));
     }
 
-    /// What becomes of the message of a send, if it is received.
+    /// The fate of the message of a send, if it is received.
     fn message_fate(&self, send: usize) -> Option<Fate>
         ensures { (lines : List LogLine) → AreFates self.now.fates.items lines → send < length self.now.fates.items
             → result ≡ message_fate send lines }
@@ -128,7 +128,7 @@ impl Received {
         }
     }
 
-    /// What becomes of a send without a receive.
+    /// The fate of a send without a receive.
     fn unreceived(&self, line: &LogLine) -> Fate
         ensures { (lines : List LogLine) → AreLast self.now.last lines
             → result ≡ unreceived line.now.number
@@ -149,7 +149,7 @@ impl Received {
         }
     }
 
-    /// What becomes of a line.
+    /// The fate of a line.
     fn fate_of(&self, line: &LogLine) -> Fate
         requires number { line.now.number < length self.now.fates.items }
         requires send { IsWithin (length self.now.fates.items) line.now.send }
@@ -170,7 +170,7 @@ impl Received {
     }
 }
 
-/// What is known of the messages that these lines receive.
+/// What is known of the messages that these lines receive. It fails only if there is no memory.
 fn received_of(alloc: Global, lines: &[LogLine]) -> Result<Received, AllocError>
     requires { AreWithin lines.now }
     ensures whole { IfOk result (λ r. length r.fates.items ≡ length lines.now) }
@@ -195,17 +195,17 @@ fn stays(fate: Fate) -> bool
     }
 }
 
-/// The lines of a log, sifted.
+/// The fates of the lines of a log, and the lines that stay.
 #[derive(Drop)]
 pub(crate) struct Sifted {
-    /// What becomes of each line.
+    /// The fate of each line.
     pub fates: Vec<Fate>,
     /// The lines that stay.
     pub staying: Vec<LogLine>,
 }
 
-/// What becomes of each line, and the lines that stay. A send without a receive goes where a later send of its lane was
-/// received, and so does a message that overtakes.
+/// The fate of each line, and the lines that stay. A send without a receive is skipped if a later send of its lane was
+/// received. So is a message that overtakes. It fails only if there is no memory.
 pub(crate) fn sift(alloc: Global, lines: &[LogLine]) -> Result<Sifted, AllocError>
     requires sends { AreWithin lines.now }
     requires numbers { AreNumbered lines.now }

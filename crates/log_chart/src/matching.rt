@@ -1,4 +1,4 @@
-//! Which receive has which send.
+//! Which receive takes which send.
 ghost use Rattle.std.specs.Prelude.{◌≡◌, ◌<◌, ◌≤◌, ℕ, List, length, All, IfOk};
 ghost use Rattle.log_chart.specs.Chains.{AreChains, first_of};
 ghost use Rattle.log_chart.specs.Entries.{is_send, takes, HaveStreams};
@@ -14,11 +14,11 @@ pub struct LogLine {
     /// Its number among the lines of the log, from 0.
     pub number: usize,
     pub entry: Entry,
-    /// The number of the line whose message it receives.
+    /// The number of the line whose message it receives, if it takes a send.
     pub send: Option<usize>,
 }
 
-/// Whether a line sends. Else it receives.
+/// Whether a line is a send. Otherwise it is a receive.
 pub fn is_send(kind: Kind) -> bool
     ensures { result ≡ is_send kind }
 {
@@ -37,7 +37,7 @@ fn takes(kind: Kind) -> bool
     }
 }
 
-/// The sends of each stream.
+/// The sends of each stream. It fails only if there is no memory.
 fn sends_of(alloc: Global, log: &[Entry]) -> Result<Chains, AllocError>
     requires { HaveStreams log.now }
     ensures lists { IfOk result (λ chains. length chains.first.items ≡ length log.now) }
@@ -55,7 +55,7 @@ fn sends_of(alloc: Global, log: &[Entry]) -> Result<Chains, AllocError>
     Ok(sends)
 }
 
-/// The send that a line takes, of those that are left.
+/// The send that a line takes, of those that remain.
 fn send_for(left: &mut Chains, entry: &Entry) -> Option<usize>
     requires { entry.now.stream < length left.old.first.items }
     ensures lists { length left.new.first.items ≡ length left.old.first.items }
@@ -71,8 +71,8 @@ fn send_for(left: &mut Chains, entry: &Entry) -> Option<usize>
     }
 }
 
-/// The lines of a log, each receive with its send: along a lane each takes the first send with its id or, where it has
-/// none, its name, that none before it took.
+/// The lines of a log, each receive with its send. Along a lane a receive takes the first send with its id or, without
+/// an id, with its name that no receive above it took. It fails only if there is no memory.
 pub(crate) fn matched(alloc: Global, log: &[Entry]) -> Result<Vec<LogLine>, AllocError>
     requires { HaveStreams log.now }
     ensures { IfOk result (λ lines. lines.items ≡ matched log.now) }

@@ -1,4 +1,4 @@
-//! The hosts of a log by the bytes of their names.
+//! The hosts of a log in the order of their names, byte by byte.
 ghost use Rattle.std.specs.Prelude.{◌≡◌, ◌≤◌, length, insert, IfOk};
 ghost use Rattle.chart.specs.declared.instance.TheConstants.{MAX_INSTANCES};
 ghost use Rattle.log_chart.specs.NameOrder.{name_of, bytes_of, is_before, put_by_name, by_name};
@@ -7,14 +7,14 @@ use crate::entry::Entry;
 use chart::{InstanceNo, Name};
 use std::alloc::{AllocError, Global};
 
-/// A host, with its name where it has lines.
+/// A host, and its name if it has lines.
 #[derive(Clone, Copy, Debug)]
 pub(crate) struct HostName {
     pub host: InstanceNo,
     pub name: Option<Name>,
 }
 
-/// The name of a host, as the first of its lines has it.
+/// The name of a host, from the first of its lines.
 fn name_of(log: &[Entry], host: InstanceNo) -> Option<Name>
     ensures { result ≡ name_of log.now host }
 {
@@ -26,7 +26,7 @@ fn name_of(log: &[Entry], host: InstanceNo) -> Option<Name>
     None
 }
 
-/// The bytes of a name, none where there is none.
+/// The bytes of a name, or no bytes if there is no name.
 fn bytes_of(name: &Option<Name>) -> &[u8]
     ensures { result.now ≡ bytes_of name.now }
 {
@@ -36,14 +36,14 @@ fn bytes_of(name: &Option<Name>) -> &[u8]
     }
 }
 
-/// Whether a host's name is less than another's.
+/// Whether the name of `host` is less than that of `other`.
 fn is_before(host: &HostName, other: &HostName) -> bool
     ensures { result ≡ is_before host.now other.now }
 {
     bytes_of(&host.name).cmp(bytes_of(&other.name)).is_lt()
 }
 
-/// How many hosts stand before this one, where it stands behind those whose names aren't greater.
+/// The place of a host in this order, from 0: after all hosts whose names aren't greater.
 fn place_for(hosts: &[HostName], host: &HostName) -> usize
     ensures within { result ≤ length hosts.now }
     ensures put { insert hosts.now result host.now ≡ put_by_name hosts.now host.now }
@@ -56,7 +56,7 @@ fn place_for(hosts: &[HostName], host: &HostName) -> usize
     hosts.len()
 }
 
-/// The hosts of a log, of so many, by the bytes of their names.
+/// The `count` hosts of a log in the order of their names, byte by byte. It fails only if there is no memory.
 pub(crate) fn hosts_by_name(
     alloc: Global,
     count: usize,

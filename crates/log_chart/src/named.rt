@@ -1,9 +1,10 @@
-//! The entries of logs, of lines by names.
+//! The entries of logs, from lines with names.
 //!
-//! What is promised ([`entries_of`]), unless an allocation is refused: each host is the instance of its name, in
-//! the order in which names come; two messages of a lane are of one stream exactly where they have one id or, where
-//! neither has one, one name. Lines are refused exactly where they have too many hosts, or a host that is its own
-//! peer.
+//! Promises of [`entries_of`], unless an allocation is refused:
+//!
+//! - Each host is the instance of its name, in the order in which the names come.
+//! - Two messages of a lane are of one stream exactly if they have the same id or, if neither has an id, the same name.
+//! - Lines are refused exactly if they have too many hosts, or a host that is its own peer.
 
 mod entering;
 mod host_event;

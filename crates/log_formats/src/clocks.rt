@@ -1,12 +1,14 @@
-//! Logs whose events have vector time: which messages their clocks tell.
+//! Logs whose events have vector time, and the messages that follow from their clocks.
 //!
-//! What is promised ([`by_clocks`]), unless an allocation is refused: what is read is a function of the events of a
-//! log and of their clocks. An event that says in words what it is does so; of any other a receive is from each
-//! host whose entry grew and isn't implied by another that grew, and its send is the event of this host with this
-//! entry. So each message of which clocks tell goes to an event whose clock has its send's event.
+//! Promises of [`by_clocks`], unless an allocation is refused:
 //!
-//! Where clocks are vector time, an event comes before another only if its clock is less: in the log ([`order_law`]),
-//! and in what is read of it by clocks alone ([`read_law`]).
+//! - What is read is a function of a log's events and of their clocks.
+//! - An event in words is read by its words. Any other event has a receive from each host whose entry grew and isn't
+//!   implied by another entry that grew. The send is the event of that host with this entry.
+//! - So each message that follows from clocks goes to an event whose clock has the event of its send.
+//!
+//! If clocks are vector time, an event comes before another one only if its clock is less. This holds in the log
+//! ([`order_law`]), and in what is read of it by clocks alone ([`read_law`]).
 
 mod ends;
 mod heard;

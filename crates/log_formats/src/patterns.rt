@@ -1,8 +1,11 @@
-//! Logs that an expression tells how to read, in the syntax of Rust's regex crate.
+//! Logs that are read by an expression, in the syntax of Rust's regex crate.
 //!
-//! What is promised, unless an allocation is refused, given which lines match and what their groups are (the word
-//! of the crate `regex`): what is read of a log is a function of its bytes and of the expression's groups
-//! ([`read_by`]), and so is what it tells of how receives were chosen ([`observed_by`]).
+//! Promises, unless an allocation is refused:
+//!
+//! - What is read of a log is a function of its bytes and of the expression's groups ([`read_by`]).
+//! - So is how its receives were chosen ([`observed_by`]).
+//!
+//! Which lines match and what their groups span is taken from the contracts of the crate `regex`.
 
 mod expression;
 mod feeds;

@@ -1,4 +1,4 @@
--- Several lines of a text at once: the bytes up to the end of the last of them.
+-- Several lines of a text together: the bytes up to the end of the last one.
 use Rattle.std.proofs.Common.{◌≡◌, ℕ, zero, suc, ◌+◌, ◌≤◌, List, [], ◌∷◌, ◌++◌, refl, sym, ap, ◌∙◌, arith, length, take, add-one, append_assoc, length-append}
 use Rattle.std.specs.List.{flat_map, join_with_byte}
 use Rattle.std.proofs.Math.Seq.{take-append_seam, take-append-add, take-length}
@@ -7,7 +7,7 @@ use Rattle.texts.specs.Lines.{lines_of, end_of, ended}
 use Rattle.texts.proofs.Parts.{lines_joined}
 use Rattle.log_lines.specs.Reading.{all_lines}
 
--- a text whose first line ends
+-- a text whose first line has a line feed
 pub text_cut : (text line after : List ℕ) → lines_of text ≡ line ∷ lines_of after → end_of text ≡ end_of after → text ≡ (line ++ 10 ∷ []) ++ after
 text_cut text line after lines end =
     let cut : flat_map ended (lines_of text) ++ end_of text ≡ flat_map ended (line ∷ lines_of after) ++ end_of after = rw (lines, end) refl in
@@ -19,12 +19,12 @@ lines_cut text line after lines end = rw (lines, end) refl
 pub one_line : (text : List ℕ) → lines_of text ≡ [] → end_of text ≡ text → all_lines text ≡ text ∷ []
 one_line text lines end = rw (lines, end) refl
 
--- one line is all of its text
+-- a text that is one line
 pub window_whole : (text : List ℕ) (more : ℕ) → all_lines text ≡ text ∷ [] → take (length text) text ≡ join_with_byte 10 (take (more + 1) (all_lines text))
 window_whole text zero e = rw (e, take-length) refl
 window_whole text (suc more) e = rw (e, add-one, take-length) refl
 
--- the first line alone
+-- only the first line
 pub window_first : (text line after : List ℕ) → text ≡ (line ++ 10 ∷ []) ++ after → all_lines text ≡ line ∷ all_lines after → take (length line) text ≡ join_with_byte 10 (take (0 + 1) (all_lines text))
 window_first text line after cut lines =
     let within : length line ≤ length (line ++ 10 ∷ []) = omega (arith, length-append line (10 ∷ [])) in
@@ -35,7 +35,7 @@ join_more : (line : List ℕ) (n : ℕ) (lines : List (List ℕ)) (last : List �
 join_more line n [] last = sym (append_assoc line (10 ∷ []) (join_with_byte 10 (last ∷ take n [])))
 join_more line n (next ∷ lines) last = sym (append_assoc line (10 ∷ []) (join_with_byte 10 (next ∷ take n (lines ++ last ∷ []))))
 
--- the first line, and more behind it
+-- the first line, and more lines after it
 pub window_more : (text line after : List ℕ) (more k : ℕ) → text ≡ (line ++ 10 ∷ []) ++ after → all_lines text ≡ line ∷ all_lines after
     → take k after ≡ join_with_byte 10 (take (more + 1) (all_lines after)) → take (length line + 1 + k) text ≡ join_with_byte 10 (take (suc more + 1) (all_lines text))
 window_more text line after more k cut lines rest =

@@ -1,4 +1,4 @@
--- What a log says of messages (after the convention of ShiViz: each event of a host is a line, in their order).
+-- Messages in a log (after the convention of ShiViz: each event of a host is a line, in their order).
 use Rattle.std.specs.Prelude.{ℕ, List, Option, option_map}
 use Rattle.log_lines.specs.declared.event.Act.{Act}
 use Rattle.log_lines.specs.declared.event.Act.TheVariants.{Receive}
@@ -10,7 +10,7 @@ use Rattle.log_lines.specs.declared.event.LineSays.TheVariants as says
 use Rattle.log_lines.specs.declared.event.Place.{Place}
 use Rattle.log_lines.specs.declared.event.LoggedEvent.{LoggedEvent}
 
--- what a host did with a message, by words of the log
+-- the action of a host on a message, in words of the log
 pub record EventView : Type 0 where
   pub host : List ℕ
   pub act : Act
@@ -21,7 +21,7 @@ pub record EventView : Type 0 where
 abbrev pub event_view : Event → EventView
 event_view e = record { host = e.host.now; act = e.act; peer = e.peer.now; name = e.name.now; id = option_map (λ w. w.now) e.id }
 
--- an event, and where it is said
+-- an event, and its place in the log
 pub record LoggedEventView : Type 0 where
   pub event : EventView
   pub place : Place
@@ -29,7 +29,7 @@ pub record LoggedEventView : Type 0 where
 abbrev pub logged_event_view : LoggedEvent → LoggedEventView
 logged_event_view s = record { event = event_view s.event; place = s.place }
 
--- an event of a host with its vector time, by words of the log
+-- an event of a host with its vector time, in words of the log
 pub record ClockedView : Type 0 where
   pub host : List ℕ
   pub clock : List ℕ
@@ -38,7 +38,7 @@ pub record ClockedView : Type 0 where
 abbrev pub clocked_view : Clocked → ClockedView
 clocked_view c = record { host = c.host.now; clock = c.clock.now; event = c.event.now }
 
--- the same, and where it is said
+-- the same, with its place in the log
 pub record ClockedAtView : Type 0 where
   pub clocked : ClockedView
   pub place : Place
@@ -46,7 +46,8 @@ pub record ClockedAtView : Type 0 where
 abbrev pub clocked_at_view : ClockedAt → ClockedAtView
 clocked_at_view c = record { clocked = clocked_view c.clocked; place = c.place }
 
--- what a line says: an event; one with its vector time; a message's send, and its receive with it; what is left alone; what isn't read
+-- the meaning of a line: an event; an event with its vector time; a message's send, together with its receive; nothing,
+-- if the line is ignored; or a line that isn't read
 pub data LineView : Type 0 where
   AnEvent : EventView → LineView
   AClocked : ClockedView → LineView
@@ -61,6 +62,6 @@ line_view (says.Message e) = AMessage (event_view e)
 line_view says.Nothing = Nothing
 line_view says.Other = Other
 
--- the receive of the message that is sent so
+-- the receive of a message, by its send
 abbrev pub received : EventView → EventView
 received e = record { host = e.peer; act = Receive; peer = e.host; name = e.name; id = e.id }

@@ -1,4 +1,4 @@
--- Lines of several texts, in their order.
+-- The order of lines in several texts.
 use Rattle.std.specs.Prelude.{Bool, ◌==◌, ◌&&◌, ◌||◌, nat_lt, if◌then◌else◌}
 use Rattle.log_lines.specs.declared.event.Place.{Place}
 

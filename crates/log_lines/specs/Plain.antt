@@ -1,5 +1,5 @@
--- What a line of an application's log says: `HOST DIR [to or from] PEER NAME [ID] [REST]` (this project's profile of
--- ShiViz's convention).
+-- The meaning of a line of an application's log: `HOST DIR [to or from] PEER NAME [ID] [REST]` (this project's profile
+-- of ShiViz's convention).
 use Rattle.std.specs.Prelude.{ℕ, Bool, ◌||◌, List, [], ◌∷◌, Option, None, Some, codes, nat_eq, if◌then◌else◌}
 use Rattle.std.specs.List.{starts_with}
 use Rattle.texts.specs.Bytes.Words.{is_spelled}
@@ -22,38 +22,38 @@ is_receive_word w =
 abbrev pub is_preposition : List ℕ → Bool
 is_preposition w = is_spelled (codes "to") w || is_spelled (codes "from") w
 
--- what the word tells, in any letters
+-- the meaning of the word, which is case-insensitive
 unfoldable pub direction_of : List ℕ → Direction
 direction_of w =
     if is_send_word w then Sends else (if is_receive_word w then Receives else (if is_spelled (codes "arrive") w then Arrives else Unknown))
 
--- the words from the peer's on: `to` and `from` may stand before it
+-- the words from the peer on; a preposition before the peer is dropped if at least two words follow it
 abbrev pub behind_preposition : List (List ℕ) → List (List ℕ)
 behind_preposition (w ∷ peer ∷ name ∷ words) = if is_preposition w then peer ∷ name ∷ words else w ∷ peer ∷ name ∷ words
 behind_preposition words = words
 
--- the word is no id, and belongs to what is left alone
+-- the word is no id, and begins the rest, which is ignored
 abbrev pub begins_rest : List ℕ → Bool
 begins_rest w = starts_with nat_eq w (codes "takes=")
 
--- the id, in the words behind the name
+-- the id, in the words after the name
 abbrev pub id_in : List (List ℕ) → Option (List ℕ)
 id_in [] = None
 id_in (w ∷ words) = if begins_rest w then None else Some w
 
--- what a line says of a host that did this with the message in these words
+-- the meaning of a line on which a host did this with a message, by the words from the peer on
 abbrev pub event_of : List ℕ → Act → List (List ℕ) → LineView
 event_of host act (peer ∷ name ∷ words) = AnEvent (record { host = host; act = act; peer = peer; name = name; id = id_in words })
 event_of host act words = Other
 
--- and of one of which the second word tells this
+-- the meaning of a line, by its host, its direction and the words from the peer on
 abbrev pub directed : List ℕ → Direction → List (List ℕ) → LineView
 directed host Sends words = event_of host Send words
 directed host Receives words = event_of host Receive words
 directed host Arrives words = Nothing
 directed host Unknown words = Other
 
--- what a line of these words says; a line without a word says nothing
+-- the meaning of a line with these words; a line without a word is ignored
 unfoldable pub line_by : List (List ℕ) → LineView
 line_by (host ∷ dir ∷ words) = directed host (direction_of dir) (behind_preposition words)
 line_by [] = Nothing

@@ -8,7 +8,7 @@ use crate::words::words_of;
 use std::alloc::{AllocError, Global};
 use texts::{first_place, place_of, stripped};
 
-/// Where a clock ends with which the bytes begin.
+/// The end of a clock at the start of the bytes.
 fn clock_end(bytes: &[u8]) -> Option<usize>
     ensures value { result ≡ clock_end bytes.now }
     ensures within { IfSome result (λ end. end ≤ length bytes.now) }
@@ -22,7 +22,7 @@ fn clock_end(bytes: &[u8]) -> Option<usize>
     }
 }
 
-/// The host, the clock and the event of a line, the last of which may be empty.
+/// The host, the clock and the event of a line. The event may be empty.
 #[tactic(auto, unfolding(crate::specs::ClockLines::clock_line))]
 pub(crate) fn clock_line(line: &[u8]) -> Option<Clocked<'_>>
     ensures { option_map clocked_view result ≡ clock_line line.now }
@@ -37,14 +37,14 @@ pub(crate) fn clock_line(line: &[u8]) -> Option<Clocked<'_>>
     })
 }
 
-/// Whether the line is the expression of a parser, with which a log may begin.
+/// Whether the line is the expression of a parser. A log may begin with one.
 pub(crate) fn is_parser(line: &[u8]) -> bool
     ensures { result ≡ is_parser line.now }
 {
     place_of(b"(?<", line).is_some()
 }
 
-/// What stands before the first comma.
+/// The part of the text before its first comma.
 #[tactic(auto, unfolding(crate::specs::ClockLines::before_comma))]
 fn before_comma(text: &[u8]) -> &[u8]
     ensures { result.now ≡ before_comma text.now }
@@ -55,21 +55,21 @@ fn before_comma(text: &[u8]) -> &[u8]
     }
 }
 
-/// Whether the words round a message's name say that it is sent.
+/// Whether the words before and after a message's name state that it is sent.
 fn says_out(direction: &[u8], preposition: &[u8]) -> bool
     ensures { result ≡ says_out direction.now preposition.now }
 {
     direction == b"out".as_slice() && preposition == b"to".as_slice()
 }
 
-/// Whether they say that it is received.
+/// Whether they state that it is received.
 fn says_in(direction: &[u8], preposition: &[u8]) -> bool
     ensures { result ≡ says_in direction.now preposition.now }
 {
     direction == b"in".as_slice() && preposition == b"from".as_slice()
 }
 
-/// What is said of a host in these words.
+/// The meaning of these words about an event of the host.
 fn line_in_words<'a>(host: &'a [u8], words: &[&'a [u8]]) -> LineSays<'a>
     ensures { line_view result ≡ line_in_words host.now (map (λ w. w.now) words.now) }
 {
@@ -99,8 +99,8 @@ fn line_in_words<'a>(host: &'a [u8], words: &[&'a [u8]]) -> LineSays<'a>
     }
 }
 
-/// What an event with its vector time says in the words of our own exports: `out M to B` or `in M from A`. What stands
-/// behind a comma is left alone.
+/// The meaning of an event with its vector time, in the words of this project's exports: `out M to B` or `in M from A`.
+/// The text after a comma is ignored.
 #[tactic(auto, unfolding(crate::specs::ClockLines::event_in_words))]
 pub(crate) fn event_in_words<'a>(
     alloc: Global,

@@ -1,4 +1,4 @@
-//! What a log says of messages.
+//! Messages in a log.
 ghost use Rattle.std.specs.Prelude.{◌≡◌};
 ghost use Rattle.log_lines.specs.Places.{is_before};
 
@@ -16,7 +16,7 @@ pub struct Event<'a> {
     pub act: Act,
     pub peer: &'a [u8],
     pub name: &'a [u8],
-    /// What the send and the receive of the message have in common, where the log has it.
+    /// The common part of the message's send and receive, if the log has it.
     pub id: Option<&'a [u8]>,
 }
 
@@ -30,7 +30,7 @@ pub struct Place {
 }
 
 impl Place {
-    /// Whether it stands before the other one.
+    /// Whether it is before the other one.
     pub fn is_before(&self, other: &Place) -> bool
         ensures { result ≡ is_before self.now other.now }
     {
@@ -38,7 +38,7 @@ impl Place {
     }
 }
 
-/// An event, and where it is said.
+/// An event, and its place in the log.
 #[derive(Clone, Copy, Debug)]
 pub struct LoggedEvent<'a> {
     pub event: Event<'a>,
@@ -53,22 +53,22 @@ pub struct Clocked<'a> {
     pub event: &'a [u8],
 }
 
-/// An event with its vector time, and where it is said.
+/// An event with its vector time, and its place in the log.
 #[derive(Clone, Copy, Debug)]
 pub struct ClockedAt<'a> {
     pub clocked: Clocked<'a>,
     pub place: Place,
 }
 
-/// What a line says.
+/// The meaning of a line.
 #[derive(Clone, Copy, Debug)]
 pub enum LineSays<'a> {
     Event(Event<'a>),
     Clocked(Clocked<'a>),
-    /// The send of a message, and its receive with it.
+    /// The send of a message, together with its receive.
     Message(Event<'a>),
-    /// Something that is left alone.
+    /// Nothing: the line is ignored.
     Nothing,
-    /// Something that isn't read.
+    /// The line isn't read.
     Other,
 }

@@ -1,10 +1,10 @@
-//! Logs of messages: what their lines say.
+//! Logs of messages: the meaning of their lines.
 //!
-//! What is promised, unless an allocation is refused: what is read of a log is a function of its bytes, of an
-//! application's ([`read_plain`]), and of one for ShiViz ([`read_shiviz`], [`by_words`]): its events in the order
-//! of the lines, each with its place, and how many lines aren't read.
+//! What is promised, unless an allocation is refused: the result of reading a log is a function of its bytes. It has
+//! the events in the order of the lines, each with its place, and how many lines aren't read. This holds for the log of
+//! an application ([`read_plain`]), and for one for ShiViz ([`read_shiviz`], [`by_words`]).
 //!
-//! [`names`] gives the lines names for hosts and messages, and [`takes`] reads what each receive would have taken.
+//! [`names`] names the hosts and messages of the lines, and [`takes`] reads what each receive would have taken.
 #![tactic(auto)]
 
 mod clock_line;

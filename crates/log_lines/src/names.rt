@@ -1,8 +1,8 @@
-//! The lines of a log with names for hosts and messages, as a chart has them.
+//! The lines of a log, with names for hosts and messages as in a chart.
 //!
-//! What is promised ([`named`]), unless an allocation is refused: hosts that differ have names that differ, and so
-//! do messages' names; ids are numbered; a message of a host to itself is left out, and counted. All are functions
-//! of what is read of the log (`specs/Names/Naming`).
+//! What is promised ([`named`]), unless an allocation is refused: different hosts have different names, and so have
+//! different messages. Ids are numbered. A message of a host to itself is skipped and counted. All of these are
+//! functions of the log's events (`specs/Names/Naming`).
 
 mod hosts;
 mod ids;

@@ -7,17 +7,17 @@ use crate::event::{Act, Event, LineSays};
 use texts::begins_with;
 use texts::bytes::is_spelled;
 
-/// What the second word of a line tells.
+/// The meaning of a line's second word.
 #[derive(Clone, Copy, Debug, PartialEq, Eq)]
 pub enum Direction {
     Sends,
     Receives,
-    /// A message arrived. When it is received another line tells.
+    /// A message arrived. Another line reports its receive.
     Arrives,
     Unknown,
 }
 
-/// Whether the word is one for sending.
+/// Whether the word stands for sending.
 fn is_send_word(word: &[u8]) -> bool
     ensures { result ≡ is_send_word word.now }
 {
@@ -29,7 +29,7 @@ fn is_send_word(word: &[u8]) -> bool
         || is_spelled(b">", word)
 }
 
-/// Whether the word is one for receiving.
+/// Whether the word stands for receiving.
 fn is_receive_word(word: &[u8]) -> bool
     ensures { result ≡ is_receive_word word.now }
 {
@@ -42,14 +42,14 @@ fn is_receive_word(word: &[u8]) -> bool
         || is_spelled(b"<", word)
 }
 
-/// Whether the word may stand before the peer.
+/// Whether the word is a preposition, which may come before the peer.
 fn is_preposition(word: &[u8]) -> bool
     ensures { result ≡ is_preposition word.now }
 {
     is_spelled(b"to", word) || is_spelled(b"from", word)
 }
 
-/// What the word tells, in any letters.
+/// The meaning of the word, which is case-insensitive.
 #[tactic(auto, unfolding(crate::specs::Plain::direction_of))]
 pub fn direction_of(word: &[u8]) -> Direction
     ensures { result ≡ direction_of word.now }
@@ -65,7 +65,7 @@ pub fn direction_of(word: &[u8]) -> Direction
     }
 }
 
-/// The words from the peer's on: `to` and `from` may stand before it.
+/// The words from the peer on. A preposition before the peer is dropped if at least two words follow it.
 pub fn behind_preposition<'w, 'a>(words: &'w [&'a [u8]]) -> &'w [&'a [u8]]
     ensures { map (λ w. w.now) result.now ≡ behind_preposition (map (λ w. w.now) words.now) }
 {
@@ -81,14 +81,14 @@ pub fn behind_preposition<'w, 'a>(words: &'w [&'a [u8]]) -> &'w [&'a [u8]]
     }
 }
 
-/// Whether the word belongs to what is left alone behind a message.
+/// Whether the word begins the rest of a line, which is ignored.
 pub fn begins_rest(word: &[u8]) -> bool
     ensures { result ≡ begins_rest word.now }
 {
     begins_with(word, b"takes=")
 }
 
-/// The id of a message, with whose name these words stand behind.
+/// The id of a message, in the words after its name.
 pub fn id_in<'a>(words: &[&'a [u8]]) -> Option<&'a [u8]>
     ensures { option_map (λ w. w.now) result ≡ id_in (map (λ w. w.now) words.now) }
 {
@@ -104,7 +104,7 @@ pub fn id_in<'a>(words: &[&'a [u8]]) -> Option<&'a [u8]>
     }
 }
 
-/// What a line says of a host that did this with a message, in these words.
+/// The meaning of a line on which a host did this with a message. `words` begin with the peer and the message's name.
 fn event_of<'a>(host: &'a [u8], act: Act, words: &[&'a [u8]]) -> LineSays<'a>
     ensures { line_view result ≡ event_of host.now act (map (λ w. w.now) words.now) }
 {
@@ -120,7 +120,7 @@ fn event_of<'a>(host: &'a [u8], act: Act, words: &[&'a [u8]]) -> LineSays<'a>
     }
 }
 
-/// What a line says of a host, where its second word tells this and these follow.
+/// The meaning of a line, by its host, its direction and the words from the peer on.
 fn directed<'a>(host: &'a [u8], direction: Direction, words: &[&'a [u8]]) -> LineSays<'a>
     ensures { line_view result ≡ directed host.now direction (map (λ w. w.now) words.now) }
 {
@@ -132,7 +132,7 @@ fn directed<'a>(host: &'a [u8], direction: Direction, words: &[&'a [u8]]) -> Lin
     }
 }
 
-/// What a line of these words says.
+/// The meaning of a line with these words.
 #[tactic(auto, unfolding(crate::specs::Plain::line_by))]
 pub(crate) fn line_by<'a>(words: &[&'a [u8]]) -> LineSays<'a>
     ensures { line_view result ≡ line_by (map (λ w. w.now) words.now) }

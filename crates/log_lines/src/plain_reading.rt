@@ -1,4 +1,4 @@
-//! Logs of applications, read.
+//! Reads logs of applications.
 ghost use Rattle.std.specs.Prelude.{◌≡◌, if◌then◌else◌, map, IfOk, OnOk};
 ghost use Rattle.log_lines.specs.Events.{line_view};
 ghost use Rattle.log_lines.specs.Plain.{line_by};
@@ -13,7 +13,7 @@ use crate::words::words_of;
 use std::alloc::{AllocError, Global};
 use texts::next_line;
 
-/// What a line says.
+/// The meaning of a line.
 #[tactic(auto, unfolding(crate::specs::PlainReading::plain_line))]
 fn plain_line(alloc: Global, line: &[u8]) -> Result<LineSays<'_>, AllocError>
     ensures { IfOk result (λ says. line_view says ≡ plain_line line.now) }
@@ -22,7 +22,7 @@ fn plain_line(alloc: Global, line: &[u8]) -> Result<LineSays<'_>, AllocError>
     Ok(line_by(&words))
 }
 
-/// Adds a line, if it is read.
+/// Adds a line, if it is within the range.
 fn add_line<'a>(
     alloc: Global,
     range: LineRange,
@@ -66,10 +66,10 @@ fn add_text<'a>(
     Ok(())
 }
 
-/// What the texts of an application's log say: each line `HOST DIR [to or from] PEER NAME [ID] [REST]` an event of
-/// HOST. DIR is `send`, `sent`, `tx`, `out`, `->` or `>` for a send, and `recv`, `receive`, `received`, `rx`, `in`,
-/// `<-` or `<` for a receive, in any letters. A line without a word says nothing, nor does one whose DIR is `arrive`;
-/// what else there is isn't read, and counted. It takes time in proportion to the texts.
+/// The meaning of the texts of an application's log. Each line `HOST DIR [to or from] PEER NAME [ID] [REST]` is an
+/// event of HOST. DIR is case-insensitive: `send`, `sent`, `tx`, `out`, `->` or `>` for a send, and `recv`, `receive`,
+/// `received`, `rx`, `in`, `<-` or `<` for a receive. A line without a word is ignored, and so is one whose DIR is
+/// `arrive`. Any other line isn't read, and is counted. It takes time in proportion to the texts.
 #[tactic(auto, unfolding(crate::specs::PlainReading::plain_read))]
 pub fn read_plain<'a>(
     alloc: Global,

@@ -1,8 +1,8 @@
-//! Which lines are read.
+//! The range of lines that are read.
 ghost use Rattle.std.specs.Prelude.{◌≡◌};
 ghost use Rattle.log_lines.specs.Reading.{is_within};
 
-/// The lines of each text that are read: from the first to the last of them, counted from 1.
+/// The range of lines that are read in each text: from the first to the last of them, counted from 1.
 #[derive(Clone, Copy, Debug, PartialEq, Eq)]
 pub struct LineRange {
     pub first: u64,
@@ -17,7 +17,7 @@ impl LineRange {
     };
 }
 
-/// Whether the line with this number is read.
+/// Whether the line with this number is in the range.
 pub fn is_within(range: LineRange, line: u64) -> bool
     ensures { result ≡ is_within range line }
 {

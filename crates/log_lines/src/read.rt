@@ -1,4 +1,4 @@
-//! What is read of a log.
+//! The result of reading a log.
 ghost use Rattle.std.specs.Prelude.{◌≡◌, IfOk, OnOk};
 ghost use Rattle.log_lines.specs.Events.{event_view, line_view, received};
 ghost use Rattle.log_lines.specs.Places.{earlier};
@@ -14,11 +14,11 @@ pub struct Others {
     pub first: Place,
 }
 
-/// What is read of a log: its events, in the order of the lines, and which lines aren't read.
+/// The result of reading a log: its events, in the order of the lines, and the lines that aren't read.
 #[derive(Debug, Drop)]
 pub struct Read<'a> {
     pub logged: Vec<LoggedEvent<'a>>,
-    /// Those with their vector time.
+    /// The events with their vector time.
     pub clocked: Vec<ClockedAt<'a>>,
     pub others: Option<Others>,
 }
@@ -34,7 +34,7 @@ fn earlier(first: Place, place: Place) -> Place
     }
 }
 
-/// One line more that isn't read. The first place counts. Where the count would not fit, it fails.
+/// Adds a line that isn't read. The earlier place is kept. It fails if the count would overflow.
 pub fn one_more(others: Option<Others>, place: Place) -> Result<Others, AllocError>
     ensures { IfOk result (λ more. more ≡ with_other place others) }
 {
@@ -53,7 +53,7 @@ pub fn one_more(others: Option<Others>, place: Place) -> Result<Others, AllocErr
     }
 }
 
-/// The receive of the message that is sent so.
+/// The receive of a message, by its send.
 fn received<'a>(event: Event<'a>) -> Event<'a>
     ensures { event_view result ≡ received (event_view event.entry) }
 {
@@ -67,7 +67,7 @@ fn received<'a>(event: Event<'a>) -> Event<'a>
 }
 
 impl<'a> Read<'a> {
-    /// Nothing. It takes no memory.
+    /// An empty result. It takes no memory.
     pub fn new(alloc: Global) -> Read<'a>
         ensures { read_view result ≡ nothing_read }
     {
@@ -78,7 +78,7 @@ impl<'a> Read<'a> {
         }
     }
 
-    /// Adds what the line at this place says.
+    /// Adds the meaning of the line at this place.
     pub fn add(&mut self, place: Place, line: LineSays<'a>) -> Result<(), AllocError>
         ensures { OnOk result (read_view self.new ≡ with_line place (line_view line.entry) (read_view self.old)) }
     {

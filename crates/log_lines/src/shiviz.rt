@@ -1,4 +1,4 @@
-//! Logs for ShiViz, read.
+//! Reads logs for ShiViz.
 ghost use Rattle.std.specs.Prelude.{◌≡◌, map, IfOk, OnOk};
 ghost use Rattle.log_lines.specs.Events.{clocked_view};
 ghost use Rattle.log_lines.specs.Reading.{read_view, all_lines};
@@ -13,7 +13,7 @@ use crate::step::Step;
 use std::alloc::{AllocError, Global};
 use texts::{next_line, stripped};
 
-/// What a line with a clock says, where this line is the next one.
+/// The meaning of a line with a clock, by the line after it.
 fn by_line<'a>(clocked: Clocked<'a>, next: &'a [u8]) -> Step<'a>
     ensures { step_view result ≡ by_line (clocked_view clocked.entry) next.now }
 {
@@ -33,7 +33,7 @@ fn by_line<'a>(clocked: Clocked<'a>, next: &'a [u8]) -> Step<'a>
     }
 }
 
-/// What a line without a clock says, where this line is the next one.
+/// The meaning of a line without a clock, by the line after it.
 fn by_next<'a>(line: &'a [u8], next: &'a [u8]) -> Step<'a>
     ensures { step_view result ≡ by_next line.now next.now }
 {
@@ -53,7 +53,7 @@ fn by_next<'a>(line: &'a [u8], next: &'a [u8]) -> Step<'a>
     }
 }
 
-/// What a line says, where this line is the next one.
+/// The meaning of a line, by the line after it.
 fn with_next<'a>(line: &'a [u8], next: &'a [u8]) -> Step<'a>
     ensures { step_view result ≡ with_next line.now next.now }
 {
@@ -69,7 +69,7 @@ fn with_next<'a>(line: &'a [u8], next: &'a [u8]) -> Step<'a>
     }
 }
 
-/// The first line of what stands behind a line, if there is one.
+/// The first line of the text after a line. It is empty if there is none.
 fn first_line(after: &[u8]) -> &[u8]
     ensures { result.now ≡ first_line (all_lines after.now) }
 {
@@ -79,7 +79,7 @@ fn first_line(after: &[u8]) -> &[u8]
     }
 }
 
-/// What the first line of a text says.
+/// The meaning of the first line of a text.
 #[tactic(auto, unfolding(crate::specs::ShiViz::shiviz_step))]
 fn shiviz_step(text: &[u8]) -> Step<'_>
     ensures { step_view result ≡ shiviz_step (all_lines text.now) }
@@ -90,7 +90,8 @@ fn shiviz_step(text: &[u8]) -> Step<'_>
     }
 }
 
-/// What the line with this number says, the first of the text, where so many lines are a part of what was said before.
+/// The meaning of the text's first line, which has this number. `taken` is how many of the text's lines belong to an
+/// earlier event.
 fn step_at(range: LineRange, number: u64, taken: usize, text: &[u8]) -> Step<'_>
     ensures { step_view result ≡ step_at shiviz_step range number taken (all_lines text.now) }
 {
@@ -136,8 +137,8 @@ fn add_text<'a>(
     Ok(())
 }
 
-/// What the texts of a log for ShiViz say: each event with its vector time. Blank lines and the expression of a parser
-/// say nothing; what else there is isn't read, and counted.
+/// The meaning of the texts of a log for ShiViz: each event with its vector time. Blank lines and the expression of a
+/// parser are ignored. Any other line isn't read, and is counted.
 #[tactic(auto, unfolding(crate::specs::ShiViz::shiviz_read))]
 pub fn read_shiviz<'a>(
     alloc: Global,

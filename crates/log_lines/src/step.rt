@@ -1,7 +1,7 @@
-//! What the lines of a text say, where one may take others with it.
+//! The meaning of a line that may include lines after it.
 use crate::event::LineSays;
 
-/// What a line says, and how many of those behind it are a part of that.
+/// The meaning of a line, and how many of the lines after it belong to it.
 #[derive(Clone, Copy, Debug)]
 pub struct Step<'a> {
     pub says: LineSays<'a>,

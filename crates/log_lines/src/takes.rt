@@ -1,8 +1,8 @@
-//! What a log tells beside its messages: what each receive would have taken, and which messages arrived when.
+//! The parts of a log besides its messages: what each receive would have taken, and when messages arrived.
 //!
-//! What is promised, unless an allocation is refused: what is told is a function of the log's bytes
-//! ([`read_observed`]), and so are the words of its lines ([`words_in`]); an arrival is one of the stream of the
-//! lines with its lane, and its id or name ([`arrivals_in`]).
+//! What is promised, unless an allocation is refused: these parts are a function of the log's bytes
+//! ([`read_observed`]). The words of its lines are a function of the bytes too ([`words_in`]). An arrival belongs to
+//! the stream of the lines with its lane and its id or name ([`arrivals_in`]).
 
 mod arrivals;
 mod key;

@@ -1,4 +1,4 @@
-//! Several lines of a text at once.
+//! Several lines of a text together.
 ghost use Rattle.std.specs.Prelude.{◌≡◌, ◌+◌, ◌≤◌, length, take};
 ghost use Rattle.std.specs.List.{join_with_byte};
 ghost use Rattle.log_lines.specs.Reading.{all_lines};
@@ -6,7 +6,7 @@ ghost use Rattle.log_lines.specs.Windows.{without_return};
 
 use texts::next_line;
 
-/// How many bytes the first lines have, the first and so many more, with the line feeds between them.
+/// How many bytes the first line and `more` lines after it have, with the line feeds between them.
 fn window_length(text: &[u8], more: usize) -> usize
     ensures within { result ≤ length text.now }
     ensures value { take result text.now ≡ join_with_byte 10 (take (more + 1) (all_lines text.now)) }
@@ -34,7 +34,7 @@ fn without_return(bytes: &[u8]) -> &[u8]
     }
 }
 
-/// The first lines of a text, the first and so many more, without a carriage return at their end.
+/// The first line of a text and `more` lines after it, without a carriage return at their end.
 pub fn window(text: &[u8], more: usize) -> &[u8]
     ensures { result.now ≡ without_return (join_with_byte 10 (take (more + 1) (all_lines text.now))) }
 {

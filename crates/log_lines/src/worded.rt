@@ -1,4 +1,4 @@
-//! Events with vector time, by their words.
+//! Reads events with vector time by their words.
 ghost use Rattle.std.specs.Prelude.{◌≡◌, IfOk};
 ghost use Rattle.log_lines.specs.ByWords.{by_words};
 ghost use Rattle.log_lines.specs.Reading.{read_view};
@@ -7,8 +7,8 @@ use crate::clock_line::event_in_words;
 use crate::read::Read;
 use std::alloc::{AllocError, Global};
 
-/// What is read of a log, with what its events with vector time say in the words `out M to B` and `in M from A`. Those
-/// that say it in other words are among what isn't read.
+/// The result of reading a log, with its events with vector time read by their words `out M to B` and `in M from A`.
+/// Events in other words are among the lines that aren't read.
 #[tactic(auto, unfolding(crate::specs::ByWords::by_words))]
 pub fn by_words<'a>(alloc: Global, read: Read<'a>) -> Result<Read<'a>, AllocError>
     ensures { IfOk result (λ r. read_view r ≡ by_words (read_view read.entry)) }

@@ -5,7 +5,7 @@ ghost use Rattle.log_lines.specs.Words.{words_of};
 use std::alloc::{AllocError, Global};
 use texts::bytes::is_blank;
 
-/// The words of a line: what stands between its blanks.
+/// The words of a line, which blanks separate.
 pub fn words_of(alloc: Global, line: &[u8]) -> Result<Vec<&[u8]>, AllocError>
     ensures { IfOk result (λ v. map (λ w. w.now) v.items ≡ words_of line.now) }
 {

@@ -1,4 +1,4 @@
--- Looks at one lane after another, of which none found a message so far.
+-- Looks at one lane after another, none of which found a message so far.
 use Rattle.std.proofs.Common.{◌≡◌, ◌≢◌, ℕ, ◌+◌, ◌-◌, ◌<◌, ◌≤◌, ◌&&◌, inl, inr, Bool, true, false, List, [], ◌∷◌, ◌++◌, length, drop, Ok, Err, refl, sym, ap, ap₂, ◌∙◌, subst, arith, append-nil, append_assoc, length-append}
 use Rattle.std.specs.Prelude.{All, Result, IsErrAnd}
 use Rattle.std.proofs.lemmas.Bool.{and_right}
@@ -19,7 +19,7 @@ use Rattle.board.specs.Peeking.{ArePeeked, IsFirstWaiting}
 use Rattle.board.proofs.Scanning.{and_true, and_assoc, sound-onward}
 use Rattle.mailbox.specs.TakingAny.{Look, lanes_of, NoneWaits, IsFirst, IsOneOpen, IsDrained, IsEnd, AreFoundEmpty, IsFirstUntaken, TakesFirst, LooksAtAll}
 
--- what was seen may be less
+-- the history seen before may be an earlier one
 none-from : (p : ℕ) (less seen : List Occurrence) (looks : List Look) (after : List Occurrence) → Begins less seen → NoneWaits p seen looks after → NoneWaits p less looks after
 none-from p less seen [] after begins none = begins_onward less seen after begins none
 none-from p less seen (look ∷ looks) after begins none = (begins_onward less seen look.front begins none.0, none.1, none.2)
@@ -32,7 +32,7 @@ none-append p seen (look ∷ looks) mid more after none later = (none.0, none.1,
 lanes-append : (looks more : List Look) → lanes_of (looks ++ more) ≡ lanes_of looks ++ lanes_of more
 lanes-append looks more = map-append (λ (look : Look). look.from) looks more
 
--- one of more looks found an open lane
+-- an open lane of some looks is one of more looks too
 open-left : (p : ℕ) (looks more : List Look) → IsOneOpen p looks → IsOneOpen p (looks ++ more)
 open-left p [] more none = absurd none
 open-left p (look ∷ looks) more (inl opened) = inl opened
@@ -48,7 +48,7 @@ drained-later mid new later q drained =
     let is = later.same.number in
     rw is (closed_begins mid.seen new.seen later.later q mid.number drained.0, drained_begins new.board.size new.board.capacity mid.seen new.seen later.later later.legal q mid.number drained.0 drained.1)
 
--- A post after looks that found no message: it made nothing, and has looked so often at least.
+-- A post after looks that found no message: it made no event, and has looked at least this often.
 pub record HasLooked (old : PostView) (order rest : List ℕ) (its_end : Bool) (now : PostView) : Type 0 where
   pub sound : Sound old now
   pub stays : Stays old now
@@ -62,23 +62,24 @@ looked-none old order sound = record {
   done = ([], refl, record { found = ([], refl, begins_same old.seen, All-nil (IsDrained old)); before = All-nil (λ q. waiting old.seen q old.number ≡ []) }, omega arith);
 }
 
--- all lanes
+-- looks at all lanes
 pub looked-all : (old : PostView) (order : List ℕ) (its_end : Bool) (now : PostView) → HasLooked old order [] its_end now → Stays old now × AreFoundEmpty old order its_end now × (old.looks + length order ≤ now.looks)
 looked-all old order its_end now looked =
     let w = looked.done in
     let all : w.0 ≡ order = sym (append-nil w.0) ∙ w.1 in
     subst (λ x. Stays old now × AreFoundEmpty old x its_end now × (old.looks + length x ≤ now.looks)) all (looked.stays, w.2, w.3)
 
--- what a call leaves that makes no event holds over both
+-- a post that makes no event over one call and then another makes none over both
 stays-onward : (old mid new : PostView) → Stays old mid → Stays mid new → Stays old new
 stays-onward old mid new earlier later = record { made = later.made ∙ earlier.made; region = later.region ∙ earlier.region; room = later.room ∙ earlier.room }
 
--- the order so far, and on
+-- the order of the lanes so far, and of the next ones
 order-on : (order done some rest lanes more after : List ℕ) (from : ℕ) → done ++ (some ++ rest) ≡ order → done ≡ lanes → some ≡ more ++ from ∷ after → order ≡ (lanes ++ more) ++ from ∷ (after ++ rest)
 order-on order done some rest lanes more after from e d s =
     sym e ∙ ap₂ (λ x y. x ++ (y ++ rest)) d s ∙ ap (λ z. lanes ++ z) (append_assoc more (from ∷ after) rest) ∙ sym (append_assoc lanes more (from ∷ (after ++ rest)))
 
--- what a receive from the next of these lanes makes of looks that found no message: it decides, or they go on
+-- the effect of a receive from the next of these lanes after looks that found no message: the receive decides, or the
+-- looks go on
 abbrev pub GoesOn : PostView → List ℕ → List ℕ → Bool → Result Taken TakeError → PostView → Type 0
 GoesOn old order rest its_end (Ok (Got arrival)) new = TakesFirst old order (Ok (Got arrival)) new
 GoesOn old order rest its_end (Ok Nothing) new = HasLooked old order rest false new
@@ -89,7 +90,7 @@ module _ (old mid new : PostView) (first : Sound old old) (order some rest : Lis
   so_far : (done : List ℕ) × (done ++ (some ++ rest) ≡ order) × AreFoundEmpty old done its_end mid × (old.looks + length done ≤ mid.looks)
   so_far = looked.done
 
-  -- it received nothing since
+  -- the post has received nothing since then
   unmade : own mid.seen old.number ≡ own old.seen old.number
   unmade = ap (own mid.seen) (sym looked.sound.same.number) ∙ looked.sound.own ∙ looked.stays.made ∙ sym first.own
 
@@ -100,7 +101,7 @@ module _ (old mid new : PostView) (first : Sound old old) (order some rest : Lis
   ends true false looks more drained then_ = open-right old.number looks more then_
   ends false f looks more opened then_ = open-left old.number looks more opened
 
-  -- no message at these lanes either
+  -- these lanes have no message either
   looked-on : (more_end : Bool) → Stays mid new → AreFoundEmpty mid some more_end new → mid.looks + length some ≤ new.looks → HasLooked old order rest (its_end && more_end) new
   looked-on more_end stays empty looks =
       let were = so_far.2.found in
@@ -120,7 +121,7 @@ module _ (old mid new : PostView) (first : Sound old old) (order some rest : Lis
         );
       }
 
-  -- a message at one of them
+  -- one of these lanes has a message
   first-on : (from : ℕ) (found : List Occurrence) → IsFirst mid some from found → IsFirst old order from found
   first-on from found is =
       let were = so_far.2.found in
@@ -164,7 +165,7 @@ module _ (old mid new : PostView) (first : Sound old old) (order some rest : Lis
   goes-on (Ok Ended) takes looks = subst (λ e. HasLooked old order rest e new) (and_true its_end) (looked-on true takes.0 takes.1 looks)
   goes-on (Err error) takes looks = (stays-onward old mid new looked.stays takes.0, untaken-on error takes.1)
 
--- one look found no message
+-- one look that found no message
 one-empty : (old new : PostView) (q : ℕ) (its_end : Bool) → Sound old new → IsFoundEmpty old q its_end new → AreFoundEmpty old (q ∷ []) its_end new
 one-empty old new q its_end sound empty = record {
   found = (record { from = q; front = new.seen } ∷ [], refl, (sound.later, rw sound.same.number at empty.waits, begins_same new.seen), is its_end empty.closed);
@@ -208,7 +209,7 @@ looked-along old mid new order (q ∷ some) rest its_end more_end first looked p
     subst (λ e. HasLooked old order rest e new) (and_assoc its_end peeked.1 peeked.2 ∙ ap (λ e. its_end && e) (sym peeked.7))
     (looked-along old peeked.0 new order some rest (its_end && peeked.1) peeked.2 first here peeked.6)
 
--- at all lanes, from the first on
+-- looks at all lanes, from the first one on
 pub looked-among : (old new : PostView) (order : List ℕ) (its_end : Bool) → Sound old old → ArePeeked old order its_end new → HasLooked old order [] its_end new
 looked-among old new order its_end first peeked =
     looked-along old old new order order [] true its_end first (subst (λ rest. HasLooked old order rest true old) (sym (append-nil order)) (looked-none old order first)) peeked
@@ -236,7 +237,7 @@ message-among old now new order q result first found last takes = go result take
     go (Ok Ended) its goes = absurd (waits-none q now found.waits.waits its.1.before)
     go (Err error) its goes = (goes, tt)
 
--- a refusal that is handed on
+-- a refusal that is passed on
 pub refused : (old : PostView) (order : List ℕ) (new : PostView) (result : Result Taken TakeError) (error : TakeError) → IsErrAnd result (λ e. e ≡ error) → TakesFirst old order (Err error) new → TakesFirst old order result new
 refused old order new (Ok taken) error never takes = absurd never
 refused old order new (Err e) error same takes = subst (λ x. TakesFirst old order (Err x) new) (sym same) takes

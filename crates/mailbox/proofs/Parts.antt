@@ -20,7 +20,7 @@ pub record MayScan (old : PostView) (last : ℕ) : Type 0 where
   pub known : last ≤ old.board.size
 
 module _ (old : PostView) (last : ℕ) where
-  -- both parts are the whole scan
+  -- both parts together are the whole scan
   pub is-scan : others old.number last old.board.size ++ others old.number 0 last ≡ scan old.board.size old.number last
   is-scan =
       let whole : last - 0 ≡ last = omega arith in
@@ -46,7 +46,7 @@ module _ (old : PostView) (last : ℕ) where
     waits = is.waits;
   })
 
-  -- none was, and in the second part this
+  -- no message was found in the first part, and this was found in the second
   module _ (mid : PostView) (its_end : Bool) (sound : Sound old mid) (none : ArePeeked old (others old.number last old.board.size) its_end mid) where
     here : (result : Scan) (new : PostView) → PeeksAmong mid (others mid.number 0 last) result new → PeeksAmong mid (others old.number 0 last) result new
     here result new peeks = subst (λ p. PeeksAmong mid (others p 0 last) result new) sound.same.number peeks
@@ -72,7 +72,7 @@ module _ (old : PostView) (last : ℕ) where
         let are = subst (λ p. ArePeeked mid (others p 0 last) f new) sound.same.number peeked in
         subst (λ order. ArePeeked old order (its_end && f) new) is-scan (peeked-append old mid new (others old.number last old.board.size) (others old.number 0 last) its_end f none are)
 
-  -- the first part was the end
+  -- the first part found the end
   pub then-any : (mid new : PostView) (result : Scan) → Sound old mid → ArePeeked old (others old.number last old.board.size) true mid → PeeksAmong mid (others mid.number 0 last) result new → PeeksAmong old (scan old.board.size old.number last) result new
   then-any mid new (among.Message from) sound none found = then-found mid true sound none from new found
   then-any mid new among.Nothing sound none peeked = then-none mid true sound none false new peeked

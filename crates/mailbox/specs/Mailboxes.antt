@@ -7,19 +7,19 @@ use Rattle.board.specs.declared.answer.TakenMany.TheVariants as several
 use Rattle.board.specs.declared.error.TakeError.{TakeError}
 use Rattle.board.specs.Views.{PostView}
 
--- its post, and the instance that it got a message from last, 0 for none
+-- the post, and the instance from which it received last, 0 for none
 pub record MailboxView : Type 0 where
   pub post : PostView
   pub last : ℕ
 
--- whom it got a message from last, after this answer
+-- the instance from which it received last, after this answer
 abbrev pub last_after : ℕ → Result Taken TakeError → ℕ
 last_after last (Ok (one.Got arrival)) = arrival.from
 last_after last (Ok one.Nothing) = last
 last_after last (Ok one.Ended) = last
 last_after last (Err error) = last
 
--- and after an answer of several messages of one instance
+-- the same after an answer with several messages from one instance
 abbrev pub last_after_many : ℕ → ℕ → Result TakenMany TakeError → ℕ
 last_after_many last from (Ok (several.Got arrivals stop)) = from
 last_after_many last from (Ok several.Nothing) = last

@@ -11,7 +11,7 @@ use Rattle.board.specs.declared.error.TakeError.TheVariants.{NoSuchInstance, ToI
 use Rattle.board.specs.Views.{PostView, Stays}
 use Rattle.board.specs.Taking.{IsGot, IsUntaken}
 
--- a look at the lane from an instance, and the history in which it was
+-- a look at the lane from an instance, and the history at this look
 pub record Look : Type 0 where
   pub from : ℕ
   pub front : List Occurrence
@@ -19,15 +19,15 @@ pub record Look : Type 0 where
 abbrev pub lanes_of : List Look → List Instance
 lanes_of looks = map (λ (look : Look). look.from) looks
 
--- At each of these looks no message waits for p. The history of each begins with that of the look before it, of the
--- first with what was seen; that after them begins with that of the last.
+-- At each of these looks no message waits for p. The history of each look begins with that of the look before it, and
+-- the first one with what was seen before. The history after all looks begins with that of the last one.
 abbrev pub NoneWaits : ℕ → List Occurrence → List Look → List Occurrence → Type 0
 NoneWaits p seen [] after = Begins seen after
 NoneWaits p seen (look ∷ looks) after = Begins seen look.front × (waiting look.front look.from p ≡ [])
     × NoneWaits p look.front looks after
 
--- the lane from this instance is the first in this order on which a message was found: at a look at each lane before
--- it none waited, and the history in which it was found comes after these looks
+-- the lane from this instance is the first in this order on which a message was found. None waited at a look at each
+-- lane before it. The history in which the message was found comes after these looks
 abbrev pub IsFirst : PostView → List Instance → ℕ → List Occurrence → Type 0
 IsFirst old order from found = (looks : List Look) × (rest : List Instance) × (order ≡ lanes_of looks ++ from ∷ rest)
     × NoneWaits old.number old.seen looks found
@@ -41,12 +41,13 @@ IsOneOpen p (look ∷ looks) = (is_closed look.front look.from p ≡ false) ⊎ 
 abbrev pub IsDrained : PostView → ℕ → Type 0
 IsDrained post q = (is_closed post.seen q post.number ≡ true) × (waiting post.seen q post.number ≡ [])
 
--- whether it is the end: then each of these lanes is drained now, and else one was open at its look
+-- whether it is the end: if so, each of these lanes is drained now; otherwise one was open at its look
 abbrev pub IsEnd : Bool → ℕ → List Look → PostView → Type 0
 IsEnd true p looks new = All (IsDrained new) (lanes_of looks)
 IsEnd false p looks new = IsOneOpen p looks
 
--- a look at each lane, in this order, found that no message waits, be it the end or not; none waited in what was seen
+-- a look at each lane, in this order, found that no message waits, and whether it is the end; none waited in what was
+-- seen before
 pub record AreFoundEmpty (old : PostView) (order : List Instance) (its_end : Bool) (new : PostView) : Type 0 where
   pub found : (looks : List Look) × (order ≡ lanes_of looks) × NoneWaits old.number old.seen looks new.seen
       × IsEnd its_end old.number looks new
@@ -59,8 +60,8 @@ IsFirstUntaken old order ToItself new = ⊥
 IsFirstUntaken old order LineFull new = (from : ℕ) × IsFirst old order from new.seen × IsUntaken old from LineFull new
 IsFirstUntaken old order Memory new = (from : ℕ) × IsFirst old order from new.seen × IsUntaken old from Memory new
 
--- what a receive from the first of these lanes with a message answers; where it got one, the history in which it was
--- found is what was seen before its receive
+-- what a receive from the first of these lanes with a message answers; if it received one, the message was found in the
+-- history before its receive
 abbrev pub TakesFirst : PostView → List Instance → Result Taken TakeError → PostView → Type 0
 TakesFirst old order (Ok (Got arrival)) new = IsGot old arrival.from arrival new
     × IsFirst old order arrival.from (drop 1 new.seen)
@@ -68,14 +69,15 @@ TakesFirst old order (Ok Nothing) new = Stays old new × AreFoundEmpty old order
 TakesFirst old order (Ok Ended) new = Stays old new × AreFoundEmpty old order true new
 TakesFirst old order (Err error) new = Stays old new × IsFirstUntaken old order error new
 
--- it looked so often at least, where it found no message
+-- it looked at least `many` times, if it found no message
 abbrev pub LooksAtAll : ℕ → PostView → Result Taken TakeError → PostView → Type 0
 LooksAtAll many old (Ok (Got arrival)) new = Unit {0}
 LooksAtAll many old (Ok Nothing) new = old.looks + many ≤ new.looks
 LooksAtAll many old (Ok Ended) new = old.looks + many ≤ new.looks
 LooksAtAll many old (Err error) new = Unit {0}
 
--- what a receive from any instance answers, which begins after the one that it got a message from last, 0 for none
+-- what a receive from any instance answers; it begins after the instance from which the mailbox received last, 0 for
+-- none
 abbrev pub TakesAny : PostView → ℕ → Result Taken TakeError → PostView → Type 0
 TakesAny old last result new = TakesFirst old (scan old.board.size old.number last) result new
     × LooksAtAll (old.board.size - 1) old result new

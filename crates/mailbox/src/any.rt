@@ -9,10 +9,10 @@ ghost use Rattle.mailbox.specs.TakingAny.{TakesAny};
 use board::{Post, Scan, TakeError, Taken};
 use chart::InstanceNo;
 
-/// Receives the first message that waits on the lanes to a post, which are looked at in cyclic order: after the lane
-/// from `last`, an instance of the board, or from the lowest number on. F7 and F6 refuse it where a message waits, as
-/// they refuse [`Post::receive`]; the message is then still the first of its lane. Where none is found it is the end
-/// if each lane was found ended, and else nothing; it then looked at each lane and took no memory.
+/// Receives the first message that it finds on the lanes to a post. It looks at them in cyclic order, after the lane
+/// from `last`, an instance of the board, or from the lowest number on. If a message waits, F7 and F6 can refuse it as
+/// they refuse [`Post::receive`], and then the message is still the first of its lane. If it finds none, the answer is
+/// the end if each lane was found ended, and otherwise nothing. It has then looked at each lane, and took no memory.
 pub fn any_from(post: &mut Post, last: Option<InstanceNo>) -> Result<Taken, TakeError>
     requires known { unwrap_or last 0 ≤ post.old.board.size }
     ensures sound { Sound post.old post.new }
@@ -25,7 +25,7 @@ pub fn any_from(post: &mut Post, last: Option<InstanceNo>) -> Result<Taken, Take
     any_after(post, last)
 }
 
-/// The same, after the instance of this number, 0 for none.
+/// The same, after the instance with this number, 0 for none.
 fn any_after(post: &mut Post, last: usize) -> Result<Taken, TakeError>
     requires known { last ≤ post.old.board.size }
     ensures sound { Sound post.old post.new }
@@ -40,8 +40,8 @@ fn any_after(post: &mut Post, last: usize) -> Result<Taken, TakeError>
     }
 }
 
-/// Whether a message waits on one of the lanes to a post, which it looks at in cyclic order after the instance of this
-/// number, until it finds one.
+/// Whether a message waits on one of the lanes to a post. It looks at them in cyclic order after the instance `last`,
+/// until it finds a message.
 fn scan_after(post: &mut Post, last: usize) -> Scan
     requires known { last ≤ post.old.board.size }
     ensures sound { Sound post.old post.new }
@@ -59,8 +59,8 @@ fn scan_after(post: &mut Post, last: usize) -> Scan
     }
 }
 
-/// Receives the message that was found on the lane from this instance. It stands apart, so a scan that finds none makes
-/// nothing that a receive needs.
+/// Receives the message that was found on the lane from this instance. This function isn't inlined, so a scan that
+/// finds no message prepares nothing for a receive.
 #[inline(never)]
 fn receive_found(post: &mut Post, from: InstanceNo) -> Result<Taken, TakeError>
     ensures sound { Sound post.old post.new }

@@ -18,12 +18,12 @@ use board::{CloseError, Memory, Post, RegionError, SendError, Sent, TakeError, T
 use chart::{GrowingLine, InstanceNo, Message};
 use std::marker::Model;
 
-/// A post that keeps from which instance it got a message last, so that [`Mailbox::any`] gives each its turn: an
-/// actor's mailbox, with a lane for each sender.
+/// A post that also keeps the instance from which it received last, so that [`Mailbox::any`] gives each instance its
+/// turn. It is an actor's mailbox, with a lane for each sender.
 ///
-/// A contract sees its post and this instance, 0 for none. It is none at first. Each message that [`Mailbox::any`],
-/// [`Mailbox::receive`] and [`Mailbox::receive_up_to`] get makes it the sender, and no other call changes it. What
-/// else a call does is what the post's call of this name does.
+/// A contract sees the post and this instance, 0 for none. At first there is none. Each message that [`Mailbox::any`],
+/// [`Mailbox::receive`] and [`Mailbox::receive_up_to`] receive makes the instance its sender, and no other call changes
+/// it. Apart from this, a call does what the post's call with this name does.
 #[derive(Drop)]
 pub struct Mailbox<'a> {
     post: Post<'a>,
@@ -42,14 +42,14 @@ impl<'a> Model for Mailbox<'a> {
 }
 
 impl<'a> Mailbox<'a> {
-    /// A mailbox over this post. It takes no memory.
+    /// A mailbox with this post. The call takes no memory.
     pub fn new(post: Post<'a>) -> Mailbox<'a>
         ensures { result ≡ record { post = post.entry; last = 0 } }
     {
         Mailbox { post, last: None }
     }
 
-    /// Its post. It takes no memory.
+    /// Ends the mailbox, and returns its post. The call takes no memory.
     pub fn into_post(self) -> Post<'a>
         ensures { result ≡ self.entry.post }
     {
@@ -63,18 +63,18 @@ impl<'a> Mailbox<'a> {
         self.post.number()
     }
 
-    /// Its line in the chart of what it has seen. It takes no memory.
+    /// The post's line in the chart of what it has seen. The call takes no memory.
     pub fn line(&self) -> &GrowingLine
         ensures { result.now.line ≡ record { instance = self.now.post.number; events = line_of self.now.post } }
     {
         self.post.line()
     }
 
-    /// Receives the first message that it finds on the lanes from the other instances, which it looks at in cyclic
-    /// order, beginning after the instance that it got a message from last. F7 and F6 refuse it where it found a
-    /// message, which is then still the first of its lane; the next call begins with the same instance. Where it
-    /// finds none it is the end if each lane was found ended, and else nothing; it then looked at each lane and took
-    /// no memory.
+    /// Receives the first message that it finds on the lanes from the other instances. It looks at them in cyclic
+    /// order, beginning after the instance from which it received last. If it found a message, F7 and F6 can refuse it.
+    /// The message is then still the first of its lane, and the next call begins with the same instance. If it found
+    /// none, the answer is the end if each lane was found ended, and otherwise nothing. It has then looked at each
+    /// lane, and took no memory.
     pub fn any(&mut self) -> Result<Taken, TakeError>
         ensures sound { Sound self.old.post self.new.post }
         ensures answer { TakesAny self.old.post self.old.last result self.new.post }
@@ -100,8 +100,8 @@ impl<'a> Mailbox<'a> {
         Ok(taken)
     }
 
-    /// Receives the first messages that wait on the lane from an instance, at most so many, as
-    /// [`Post::receive_up_to`] does.
+    /// Receives the first messages that wait on the lane from an instance, at most `max`, as [`Post::receive_up_to`]
+    /// does.
     pub fn receive_up_to(&mut self, from: InstanceNo, max: usize) -> Result<TakenMany, TakeError>
         requires some { 1 ≤ max }
         ensures sound { Sound self.old.post self.new.post }
@@ -160,7 +160,7 @@ impl<'a> Mailbox<'a> {
         self.post.open_coregion()
     }
 
-    /// Closes the coregion that is open, as [`Post::close_coregion`] does.
+    /// Closes the open coregion, as [`Post::close_coregion`] does.
     pub fn close_coregion(&mut self) -> Result<(), RegionError>
         ensures ok { OnOk result (self.new ≡ record self.old { post = record self.old.post { region = 0 } }) }
         ensures not_open { (result ≡ Err CoregionNotOpen) ↔ (self.old.post.region ≡ 0) }
@@ -170,14 +170,14 @@ impl<'a> Mailbox<'a> {
         self.post.close_coregion()
     }
 
-    /// For so many events room was made on its line, and not used yet, as [`Post::room`] tells.
+    /// The number of further events for which its line has memory, as [`Post::room`] returns it.
     pub fn room(&self) -> usize
         ensures { result ≡ self.now.post.room }
     {
         self.post.room()
     }
 
-    /// Makes room for so many events, at most [`chart::MAX_EVENTS`], as [`Post::reserve`] does.
+    /// Makes room for at least `events` further events, at most [`chart::MAX_EVENTS`], as [`Post::reserve`] does.
     pub fn reserve(&mut self, events: usize) -> Result<(), Memory>
         requires { events ≤ MAX_EVENTS }
         ensures ok { OnOk result (self.new ≡ record self.old {

@@ -1,5 +1,5 @@
--- The numbers that C gets (this project's profile): 0 done, 1 nothing waits, 2 ended, and the number of a refusal,
--- below 0.
+-- The numbers that C gets (this project's profile): 0 for done, 1 if nothing waits, 2 for ended, and for a refusal its
+-- number, below 0.
 use Rattle.std.specs.Prelude.{◌≡◌, ℕ, cond, List, Option, None, Some, Result, Ok, Err}
 use lib.IntN.{ℤ, pos, neg_ℤ}
 use Rattle.board.specs.declared.answer.Arrival.{Arrival}
@@ -35,39 +35,39 @@ use Rattle.msc.specs.declared.answers.MscEvent.{MscEvent}
 use Rattle.msc.specs.declared.answers.MscLeft.{MscLeft}
 use Rattle.msc.specs.declared.answers.MscReport.{MscReport}
 
--- a refusal
+-- the number of a refusal, below 0
 abbrev pub code_of : Refusal → ℤ
 code_of refusal = neg_ℤ (pos (number_of refusal))
 
--- what is done or refused
+-- the number of a call that was done or refused
 abbrev pub done_code : {A : Type 0} → Result A Refusal → ℤ
 done_code (Ok done) = pos 0
 done_code (Err refusal) = code_of refusal
 
--- what a receive found, or why it is refused
+-- the number of what a receive found, or of its refusal
 abbrev pub found_code : Result Found Refusal → ℤ
 found_code (Ok (Message arrived)) = pos 0
 found_code (Ok Nothing) = pos 1
 found_code (Ok Ended) = pos 2
 found_code (Err refusal) = code_of refusal
 
--- the number of the event, and else what was there before
+-- the number of the event, or otherwise what was there before
 abbrev pub event_after : ℕ → Result EventNo Refusal → ℕ
 event_after before (Ok event) = event.index
 event_after before (Err refusal) = before
 
--- a number, and else what was there before
+-- a number, or otherwise what was there before
 abbrev pub number_after : ℕ → Result ℕ Refusal → ℕ
 number_after before (Ok number) = number
 number_after before (Err refusal) = before
 
--- What C gets of a call: its number, and what is told through a pointer, where something stood before.
+-- What C gets from a call: its number, and the output written through a pointer, where something was before.
 pub record Got (T : Type 0) : Type 0 where
   pub code : ℤ
   pub before : T
   pub output : T
 
--- what a send, a receive, .. answers: some answer of the handle's call has this code, and tells this
+-- what a send, a receive, .. answers: some answer of the handle's call has this code and this output
 abbrev pub Sends : Option Kept → ℕ → List ℕ → List ℕ → Got ℕ → Option Kept → Type 0
 Sends old to name body got new = (answer : Result EventNo Refusal)
     × HandleSends old to name body answer new × (got.code ≡ done_code answer)
@@ -93,7 +93,7 @@ Closes old to code new = (answer : Result (Unit {0}) Refusal) × HandleCloses ol
 abbrev pub OpensAll : ℕ → List (Option Kept) → ℤ → List (Option Kept) → Type 0
 OpensAll k old code new = (answer : Result (Unit {0}) Refusal) × Opens k old answer new × (code ≡ done_code answer)
 
--- what is copied out of this one of the messages that came last, and how much of it there is
+-- what is copied out of the selected one of the messages that were received last, and its whole length
 abbrev pub Copies : (Arrival → List ℕ) → Which → Option Kept → List ℕ → Got ℕ → List ℕ → Type 0
 Copies what which old room got out = (answer : Result ℕ Refusal)
     × CopiesOut what (picked_in which old) room answer out × (got.code ≡ done_code answer)
@@ -110,7 +110,7 @@ OpensRegion old code new = (answer : Result (Unit {0}) Refusal) × HandleOpens o
 abbrev pub ShutsRegion : Option Kept → ℤ → Option Kept → Type 0
 ShutsRegion old code new = (answer : Result (Unit {0}) Refusal) × HandleShuts old answer new × (code ≡ done_code answer)
 
--- what is told of an event, field by field: 1 says that it is a receive
+-- the description of an event, field by field: 1 means a receive
 abbrev pub event_from : EventInfo → MscEvent
 event_from output = record {
   receives = cond output.receives 1 0;
@@ -119,7 +119,7 @@ event_from output = record {
   name_length = output.name;
 }
 
--- and else what was told before
+-- this description, or otherwise the one before
 abbrev pub filled_event : MscEvent → Result EventInfo Refusal → MscEvent
 filled_event before (Ok output) = event_from output
 filled_event before (Err refusal) = before
@@ -150,7 +150,7 @@ WritesText old names room got out = (answer : Result ℕ Refusal)
     × HandleWritesText old names room answer out × (got.code ≡ done_code answer)
     × (got.output ≡ number_after got.before answer)
 
--- what is told of a report, field by field, and else what was told before
+-- the description of a report, field by field; and this description, or otherwise the one before
 abbrev pub report_from : Reported → MscReport
 report_from output = record { instance = output.instance; event = output.event; races = output.races }
 
@@ -163,7 +163,7 @@ CopiesReport old number room got out = (answer : Result Reported Refusal)
     × HandleReports old number room answer out × (got.code ≡ done_code answer)
     × (got.output ≡ filled_report got.before answer)
 
--- what is told of a message that waits, field by field, and else what was told before
+-- the description of a waiting message, field by field; and this description, or otherwise the one before
 abbrev pub left_from : Waiting → MscLeft
 left_from output = record { name_length = output.name; body_length = output.body }
 

@@ -1,5 +1,5 @@
--- What C gets of a task that is done with the bytes of a file (this project's profile): the exit status, and how long
--- its texts are.
+-- What C gets from a task that is done with the bytes of a file (this project's profile): the exit status, and the
+-- lengths of its texts.
 use Rattle.std.specs.Prelude.{◌≡◌, ℕ, List, Result, Ok, Err}
 use lib.IntN.{ℤ, pos}
 use Rattle.c_board.specs.declared.refusal.Refusal.{Refusal}
@@ -13,17 +13,17 @@ abbrev pub performed_code : Result Performed Refusal → ℤ
 performed_code (Ok performed) = pos performed.status
 performed_code (Err refusal) = code_of refusal
 
--- the lengths, and else what was told before
+-- the lengths, or otherwise those before
 abbrev pub lengths_after : MscLengths → Result Performed Refusal → MscLengths
 lengths_after before (Ok performed) = record { out = performed.out; err = performed.err }
 lengths_after before (Err refusal) = before
 
--- bytes for what is written to standard output, and for what is written to standard error
+-- bytes for standard output, and for standard error
 pub record Streams : Type 0 where
   pub out : List ℕ
   pub err : List ℕ
 
--- the task of the number is done with the bytes
+-- the task with this number is done with the bytes
 abbrev pub PerformsTask : ℕ → ℕ → List ℕ → Streams → Got MscLengths → Streams → Type 0
 PerformsTask task seed bytes room got written = (answer : Result Performed Refusal)
     × Performs (task_in task seed) bytes room.out room.err answer written.out written.err

@@ -1,5 +1,5 @@
--- What a receive of several messages answers, as a number (this project's profile): 0 as many came as there was room to
--- tell of, 1 no more wait, 2 the lane has ended, and the number of a refusal, below 0.
+-- What a receive of several messages answers, as a number (this project's profile). 0: as many came as there was room
+-- to describe. 1: no more wait. 2: the lane has ended. A refusal has its number, below 0.
 use Rattle.std.specs.Prelude.{◌≡◌, ℕ, List, Option, Result, Ok, Err}
 use lib.IntN.{ℤ, pos}
 use Rattle.board.specs.declared.answer.Stop.{Stop}
@@ -13,13 +13,13 @@ use Rattle.c_board.specs.declared.refusal.Refusal.TheVariants as why
 use Rattle.c_board.specs.ReceivingMany.{HandleTakesMany}
 use Rattle.msc.specs.Answers.{code_of}
 
--- why no more came
+-- the number of the reason why no more came
 abbrev pub stop_code : Stop → ℤ
 stop_code Asked = pos 0
 stop_code NoMore = pos 1
 stop_code (Refused error) = code_of (why.Taking error)
 
--- or why none came
+-- the same, or the number of the reason why none came
 abbrev pub many_code : Result FoundMany Refusal → ℤ
 many_code (Ok (Messages count stop)) = stop_code stop
 many_code (Ok Nothing) = pos 1
@@ -33,7 +33,7 @@ many_of (Ok Nothing) = 0
 many_of (Ok Ended) = 0
 many_of (Err refusal) = 0
 
--- some answer of the handle's call has this code, and tells of these messages, so many
+-- some answer of the handle's call has this code, and describes these `many` messages
 abbrev pub TakesUpTo : Option Kept → ℕ → List Arrived → ℤ → List Arrived → ℕ → Option Kept → Type 0
 TakesUpTo old from room code output many new = (answer : Result FoundMany Refusal)
     × HandleTakesMany old from room answer new output × (code ≡ many_code answer) × (many ≡ many_of answer)

@@ -1,5 +1,5 @@
--- What C gets of a command line whose files are in memory (this project's profile): the exit status, and how long its texts
--- are.
+-- What C gets from a command line whose files are in memory (this project's profile): the exit status, and the lengths
+-- of its texts.
 use Rattle.std.specs.Prelude.{◌≡◌, List, Result}
 use Rattle.c_board.specs.declared.refusal.Refusal.{Refusal}
 use Rattle.c_commands.specs.declared.performing.Performed.{Performed}
@@ -9,7 +9,7 @@ use Rattle.msc.specs.declared.performing.MscLengths.{MscLengths}
 use Rattle.msc.specs.Answers.{Got}
 use Rattle.msc.specs.Performing.{performed_code, lengths_after, Streams}
 
--- what some words ask for was done with the texts, or they ask for nothing
+-- the request of some words was done with the texts, or the words are no request
 abbrev pub ViewsTexts : List Bytes → Streams → Got MscLengths → Streams → Type 0
 ViewsTexts texts room got written = (answer : Result Performed Refusal)
     × ViewsSome texts room.out room.err answer written.out written.err

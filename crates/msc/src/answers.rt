@@ -1,17 +1,17 @@
-//! What C gets.
+//! The structures that C gets.
 
-/// What is told of an event of a post's line.
+/// The description of an event on a post's line.
 #[repr(C)]
 #[derive(Clone, Copy)]
 pub struct MscEvent {
-    /// 1 for a receive, and else 0.
+    /// 1 for a receive, and 0 for a send.
     pub receives: u32,
     pub partner: u32,
     pub region: u32,
     pub name_length: usize,
 }
 
-/// What is told of a report of a gathered board.
+/// The description of a report of a gathered board.
 #[repr(C)]
 #[derive(Clone, Copy)]
 pub struct MscReport {
@@ -20,7 +20,7 @@ pub struct MscReport {
     pub races: usize,
 }
 
-/// What is told of a message that waits on a gathered board.
+/// The description of a message that waits on a gathered board.
 #[repr(C)]
 #[derive(Clone, Copy)]
 pub struct MscLeft {

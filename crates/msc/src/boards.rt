@@ -1,4 +1,4 @@
-//! The exports over whole boards.
+//! The exports for whole boards.
 ghost use Rattle.std.specs.Prelude.{◌≡◌};
 ghost use Rattle.c_board.specs.Carrying.{MayCarryOver};
 ghost use Rattle.c_board.specs.Chairs.{KeepOneBoard};

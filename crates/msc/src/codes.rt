@@ -19,7 +19,7 @@ pub(crate) fn code_of(refusal: Refusal) -> i32
     -(refusal.number() as i32)
 }
 
-/// The number of what a receive answers; of a message that came it tells.
+/// The number of a receive's answer. If a message came, its description is written to `output`.
 #[inline(always)]
 pub(crate) fn found_code(answer: Result<Found, Refusal>, output: &mut Arrived) -> i32
     ensures code { result ≡ found_code answer }
@@ -36,7 +36,7 @@ pub(crate) fn found_code(answer: Result<Found, Refusal>, output: &mut Arrived) -
     }
 }
 
-/// The number of what a receive answers that has told of its message elsewhere.
+/// The number of a receive's answer, if the message was described elsewhere.
 #[inline(always)]
 pub(crate) fn peek_code(answer: Result<Peek, Refusal>) -> i32
     ensures { (output : Arrived) → result ≡ found_code (found_with answer output) }
@@ -49,7 +49,7 @@ pub(crate) fn peek_code(answer: Result<Peek, Refusal>) -> i32
     }
 }
 
-/// The number of what is done or refused.
+/// The number of a call that was done or refused.
 pub(crate) fn done_code(answer: Result<(), Refusal>) -> i32
     ensures { result ≡ done_code answer }
 {
@@ -59,7 +59,7 @@ pub(crate) fn done_code(answer: Result<(), Refusal>) -> i32
     }
 }
 
-/// The number of what is counted or refused, and the count.
+/// The number of a call that returned a count or was refused, and the count.
 pub(crate) fn count_code(answer: Result<usize, Refusal>, count: &mut usize) -> i32
     ensures code { result ≡ done_code answer }
     ensures count { count.new ≡ number_after count.old answer }
@@ -73,7 +73,7 @@ pub(crate) fn count_code(answer: Result<usize, Refusal>, count: &mut usize) -> i
     }
 }
 
-/// The number of what is sent or refused, and the first event.
+/// The number of a send that was made or refused, and its first event.
 pub(crate) fn first_code(answer: Result<u32, Refusal>, event: &mut u32) -> i32
     ensures code { result ≡ done_code answer }
     ensures event { event.new ≡ number_after event.old answer }
@@ -87,7 +87,7 @@ pub(crate) fn first_code(answer: Result<u32, Refusal>, event: &mut u32) -> i32
     }
 }
 
-/// What is told of an event, as C reads it.
+/// The description of an event, as C reads it.
 fn event_from(output: EventInfo) -> MscEvent
     ensures { result ≡ event_from output }
 {
@@ -99,7 +99,7 @@ fn event_from(output: EventInfo) -> MscEvent
     }
 }
 
-/// The number of what is told or refused, and what is told.
+/// The number of a call that described an event or was refused, and the description.
 pub(crate) fn event_code(answer: Result<EventInfo, Refusal>, event: &mut MscEvent) -> i32
     ensures code { result ≡ done_code answer }
     ensures event { event.new ≡ filled_event event.old answer }
@@ -113,7 +113,7 @@ pub(crate) fn event_code(answer: Result<EventInfo, Refusal>, event: &mut MscEven
     }
 }
 
-/// What is told of a report, as C reads it.
+/// The description of a report, as C reads it.
 fn report_from(reported: Reported) -> MscReport
     ensures { result ≡ report_from reported }
 {
@@ -124,7 +124,7 @@ fn report_from(reported: Reported) -> MscReport
     }
 }
 
-/// The number of what is told of a report or refused, and what is told.
+/// The number of a call that described a report or was refused, and the description.
 pub(crate) fn report_code(answer: Result<Reported, Refusal>, report: &mut MscReport) -> i32
     ensures code { result ≡ done_code answer }
     ensures report { report.new ≡ filled_report report.old answer }
@@ -138,7 +138,7 @@ pub(crate) fn report_code(answer: Result<Reported, Refusal>, report: &mut MscRep
     }
 }
 
-/// What is told of a message that waits, as C reads it.
+/// The description of a waiting message, as C reads it.
 fn left_from(waiting: Waiting) -> MscLeft
     ensures { result ≡ left_from waiting }
 {
@@ -148,7 +148,7 @@ fn left_from(waiting: Waiting) -> MscLeft
     }
 }
 
-/// The number of what is told of a message that waits, if there is one, or refused; and what is told.
+/// The number of a call that described a waiting message, found none, or was refused, and the description.
 pub(crate) fn waiting_code(answer: Result<Option<Waiting>, Refusal>, left: &mut MscLeft) -> i32
     ensures code { result ≡ waiting_code answer }
     ensures left { left.new ≡ filled_left left.old answer }

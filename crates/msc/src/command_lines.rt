@@ -1,4 +1,4 @@
-//! What `mscview` does for a command line whose files are in memory.
+//! The export that does what `mscview` does for a command line whose files are in memory.
 ghost use Rattle.msc.specs.Viewing.{ViewsTexts};
 
 use crate::performing::{MscLengths, performed_code};

@@ -1,6 +1,6 @@
 //! The runtime from C: an export for each call of `include/msc.h`, which says what it does.
 //!
-//! Each is the call of `c_board` or `c_board::boards` of its name, with its answer as a number
+//! Each export is the call with its name of `c_board`, `c_board::boards` or `c_commands`, with the answer as a number
 //! (`specs/Answers.antt`).
 #![tactic(auto)]
 

@@ -1,4 +1,4 @@
-//! The exports over the messages that came last.
+//! The exports for the messages that were received last.
 ghost use Rattle.std.specs.Prelude.{◌≡◌};
 ghost use Rattle.c_board.specs.Copying.{name_in, body_in};
 ghost use Rattle.c_board.specs.declared.came.Which.TheVariants.{Last, At};

@@ -1,4 +1,4 @@
-//! What `mscrun` does with the bytes of a file.
+//! The export that does what `mscrun` does with the bytes of a file.
 ghost use Rattle.std.specs.Prelude.{◌≡◌};
 ghost use Rattle.msc.specs.Performing.{PerformsTask, performed_code, lengths_after};
 
@@ -7,7 +7,7 @@ use c_board::Refusal;
 use c_commands::{Performed, perform_into};
 use std::alloc::Global;
 
-/// How long the texts are that a task wrote.
+/// The lengths of the texts that a task wrote, in bytes.
 #[repr(C)]
 #[derive(Clone, Copy)]
 pub struct MscLengths {
@@ -15,7 +15,7 @@ pub struct MscLengths {
     pub err: usize,
 }
 
-/// The exit status of what was done, or the number of a refusal, and how long its texts are.
+/// The exit status of a task, or the number of a refusal, and the lengths of the task's texts.
 pub(crate) fn performed_code(answer: Result<Performed, Refusal>, lengths: &mut MscLengths) -> i32
     ensures code { result ≡ performed_code answer }
     ensures lengths { lengths.new ≡ lengths_after lengths.old answer }

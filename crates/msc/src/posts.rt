@@ -1,4 +1,4 @@
-//! The exports over posts.
+//! The exports for posts.
 ghost use Rattle.std.specs.Prelude.{◌≡◌, None};
 ghost use Rattle.c_board.specs.Opening.{kept_by};
 ghost use Rattle.msc.specs.Answers.{Sends, Takes, TakesAny, Closes, OpensAll, OpensRegion};

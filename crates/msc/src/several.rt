@@ -1,4 +1,4 @@
-//! Answers of a receive of several messages, as numbers.
+//! The answers of a receive of several messages, as numbers.
 ghost use Rattle.std.specs.Prelude.{◌≡◌};
 ghost use Rattle.msc.specs.Several.{stop_code, many_code, many_of};
 
@@ -6,7 +6,7 @@ use crate::codes::code_of;
 use board::Stop;
 use c_board::{FoundMany, Refusal};
 
-/// The number of why no more messages were received.
+/// The number of the reason why no more messages were received.
 fn stop_code(stop: Stop) -> i32
     ensures { result ≡ stop_code stop }
 {
@@ -17,7 +17,7 @@ fn stop_code(stop: Stop) -> i32
     }
 }
 
-/// The number of why no more messages came, or none, and how many came.
+/// The number of the reason why no more messages were received, or none, and how many were received.
 pub(crate) fn many_code(answer: Result<FoundMany, Refusal>, many: &mut usize) -> i32
     ensures code { result ≡ many_code answer }
     ensures many { many.new ≡ many_of answer }

@@ -1,4 +1,4 @@
--- How a loop over a line's events writes their text. S is what is written to, sink what is known of it.
+-- How a loop over a line's events writes their text. The text is written to S, and sink is what is known of it.
 use Rattle.std.proofs.Common.{◌≡◌, ℕ, suc, ◌+◌, ◌<◌, ◌≤◌, length, get_or, drop, add-one, drop-cons, List, [], ◌∷◌, ◌++◌, Result, Ok, Err, true, sym, ap, ◌∙◌, subst, append_assoc}
 use Rattle.std.proofs.lemmas.List.{drop_all}
 use Rattle.std.specs.Result.{is_err}
@@ -10,7 +10,7 @@ use Rattle.texts.specs.Writing.{Buffers, Stops, Adds}
 use Rattle.texts.specs.declared.text_buffer.TextBuffer.{TextBuffer}
 use Rattle.texts.proofs.Writes.{buffers_nothing, buffers_then, stops_then, stops_early, adds_then}
 
--- some text was added, and with that of the events that are left, behind one in the coregion r, it is all of it
+-- some text was added, and with the text of the remaining events, after one in the coregion r, it is the whole text
 pub record HasCome {S : Type 0} (sink : S → Sink) (old new : TextBuffer S) (names : List (List ℕ)) (r : ℕ) (rest : List Event) (all : List ℕ) : Type 0 where
   pub front : List ℕ
   pub buffers : Buffers sink old new front
@@ -20,14 +20,14 @@ module _ {S : Type 0} {sink : S → Sink} {names : List (List ℕ)} {all : List 
   pub come_none : (a : TextBuffer S) (r : ℕ) (rest : List Event) → events_text names r rest ≡ all → HasCome sink a a names r rest all
   come_none a r rest whole = record { front = []; buffers = buffers_nothing a; whole = whole }
 
-  -- the next event is taken off
+  -- the next event is taken
   pub come_at : {a b : TextBuffer S} {r : ℕ} (xs : List Event) (k : ℕ) (m : Event) → k < length xs → m ≡ get_or xs k m → HasCome sink a b names r (drop k xs) all
       → HasCome sink a b names r (m ∷ drop (k + 1) xs) all
   come_at {a} {b} {r} xs k m below is come =
       let next : drop k xs ≡ m ∷ drop (k + 1) xs = rw (add-one, drop-cons xs k m) (ap (λ x. x ∷ drop (suc k) xs) (sym is)) in
       subst (λ rest. HasCome sink a b names r rest all) next come
 
-  -- none is left
+  -- no event remains
   pub come_all : {a b : TextBuffer S} {r : ℕ} (xs : List Event) (k : ℕ) → length xs ≤ k → HasCome sink a b names r (drop k xs) all → HasCome sink a b names r [] all
   come_all {a} {b} {r} xs k past come = subst (λ rest. HasCome sink a b names r rest all) (drop_all k xs past) come
 

@@ -1,4 +1,4 @@
--- The instances of a chart's receives have names, where there are as many names as lines.
+-- The instances of a chart's receives have names, if there are as many names as lines.
 use Rattle.std.proofs.Common.{◌≡◌, ℕ, ◌+◌, ◌<◌, ◌≤◌, List, [], ◌∷◌, length, map, get_or, sym, ap, ◌∙◌, subst, arith}
 use Rattle.std.specs.Prelude.{All}
 use Rattle.std.specs.List.{flat_map}
@@ -12,7 +12,7 @@ use Rattle.chart.specs.Reports.{ReportView, AreReports, receives_of}
 use Rattle.chart.proofs.ReportLists.{receives-within}
 use Rattle.msc_text.specs.RaceText.{AreNamed}
 
--- the receives of lines that are among n are so too
+-- if lines are among n instances, so are their receives
 receives-among : (n : ℕ) (lines : List LineView) → All (λ (l : LineView). l.instance ≤ n) lines → All (λ (e : EventNo). e.instance ≤ n) (flat_map receives_of lines)
 receives-among n [] among = All-nil (λ (e : EventNo). e.instance ≤ n)
 receives-among n (l ∷ lines) among =

@@ -1,4 +1,4 @@
--- The lines of a receive's races, by the line that is made once for them.
+-- The lines of a receive's races, by the line that is kept for them.
 use Rattle.std.proofs.Common.{◌≡◌, ℕ, ◌+◌, ◌/◌, ◌%◌, ◌^◌, ◌<◌, ◌==◌, false, if◌then◌else◌, inl, inr, List, [], ◌∷◌, ◌++◌, length, decimal, refl, sym, ap, ◌∙◌, arith, ne_eqb, append_assoc}
 use Rattle.std.specs.Prelude.{slice_set}
 use Rattle.std.proofs.lemmas.Bool.{cases_lt}
@@ -27,7 +27,7 @@ lines_of_ranges front end [] = refl
 lines_of_ranges front end (r ∷ ranges) =
     flat_map-append (race_line front end) (events_of r) (events_in ranges) ∙ ap (λ text. range_lines front end r ++ text) (lines_of_ranges front end ranges)
 
--- a number is its tens in decimal, where it has some, and then its last digit
+-- the decimal number is the tens in decimal, if there are any, and then the last digit
 abbrev tens_of : ℕ → List ℕ
 tens_of t = if t == 0 then [] else decimal t
 
@@ -43,7 +43,7 @@ last_digit n small =
           decimal_step n more small ∙ rw some refl
     ]
 
--- the line of another event whose number has the same tens has its last digit in place of the first one's
+-- the line of another event whose number has the same tens is this line with the other last digit
 pub line_with : (front end : List ℕ) (event other : EventNo) (place : ℕ) → event.index < 2 ^ 32 → other.index < 2 ^ 32 → event.index / 10 ≡ other.index / 10
     → place + 1 ≡ length front + length (decimal event.index) → slice_set (race_line front end event) place (48 + other.index % 10) ≡ race_line front end other
 unfolding race_line

@@ -11,12 +11,12 @@ use Rattle.chart.specs.Keywords.{spelled}
 use Rattle.chart.specs.declared.keyword.Keyword.{Keyword}
 use Rattle.chart.specs.declared.keyword.Keyword.TheVariants as keywords
 
--- the name of an event's message, where there is an event
+-- the name of an event's message, or nothing if there is no event
 abbrev pub message_at : Option Event → List ℕ
 message_at None = []
 message_at (Some m) = name_of m
 
--- a line of four words: in which direction goes the message, its name, and its partner behind a word of its own
+-- a line of four words: the direction of the message, its name, a word for the partner's side, and the partner
 unfoldable pub event_line : Keyword → Text → Keyword → Text → Text
 event_line direction message side partner =
     spelled direction
@@ -31,19 +31,19 @@ unfoldable pub event_text : List Name → Event → Text
 event_text names (Send to name) = event_line keywords.Out name keywords.To (name_at names to)
 event_text names (Receive from name region) = event_line keywords.In name keywords.From (name_at names from)
 
--- the line that ends the coregion r, where what comes next is in c
+-- the line that ends the coregion r, if the next event is in c
 unfoldable pub ending : ℕ → ℕ → Text
 ending r c = if r == c || r == 0 then [] else lone_line keywords.EndConcurrent
 
--- the line that begins the coregion c, where what came before was in r
+-- the line that begins the coregion c, if the event before is in r
 unfoldable pub beginning : ℕ → ℕ → Text
 beginning r c = if r == c || c == 0 then [] else lone_line keywords.Concurrent
 
--- an event behind one that is in the coregion r
+-- an event after one that is in the coregion r
 unfoldable pub event_lines_text : List Name → ℕ → Event → Text
 event_lines_text names r m = ending r (region_of m) ++ (beginning r (region_of m) ++ event_text names m)
 
--- the events of a line, of which those before are in the coregion r at last
+-- the events of a line, if the event before them is in the coregion r
 abbrev pub events_text : List Name → ℕ → List Event → Text
 events_text names r [] = ending r 0
 events_text names r (m ∷ line) = event_lines_text names r m ++ events_text names (region_of m) line

@@ -1,4 +1,4 @@
--- A race line that is kept, for the events whose numbers differ from its event's in the last digit alone.
+-- A race line that is kept for all events whose numbers differ from its event's only in the last digit.
 use Rattle.std.specs.Prelude.{◌≡◌, ◌+◌, ◌/◌, ◌^◌, ◌<◌, ◌≤◌, ◌⊎◌, length, decimal}
 use Rattle.chart.specs.Words.{Text}
 use Rattle.chart.specs.declared.instance.EventNo.{EventNo}
@@ -7,7 +7,7 @@ use Rattle.texts.specs.declared.held.TheConstants.{BUFFERED}
 use Rattle.msc_text.specs.declared.race_text.TheConstants.{NO_TENS}
 use Rattle.msc_text.specs.declared.race_text.MadeLine.{MadeLine}
 
--- it is the line of an event, with the last digit of the event's number at its place
+-- it is the line of an event, and the last digit of the event's number is at its place
 pub record IsLineOf (front end : Text) (made : MadeLine) : Type 0 where
   pub event : EventNo
   pub small : event.index < 2 ^ 32
@@ -17,6 +17,6 @@ pub record IsLineOf (front end : Text) (made : MadeLine) : Type 0 where
   pub within : made.place < length made.line
   pub short : length made.line ≤ BUFFERED
 
--- where a line is made, it is one
+-- no line is made, or it is the line of an event
 abbrev pub IsMade : Text → Text → MadeLine → Type 0
 IsMade front end made = (made.tens ≡ NO_TENS) ⊎ IsLineOf front end made

@@ -20,7 +20,7 @@ fn add_lone<W: Out>(text: &mut TextBuffer<'_, W>, word: Keyword) -> Result<(), W
     text.add_all(&[word.as_bytes(), b";\n"])
 }
 
-/// Adds the line that ends the coregion before, where there is one and what comes next isn't in it.
+/// Adds the line that ends the coregion `before`, if there is one and the next event isn't in it.
 #[tactic(auto, unfolding(crate::specs::ChartText::ending))]
 fn add_ending<W: Out>(
     text: &mut TextBuffer<'_, W>,
@@ -35,7 +35,7 @@ fn add_ending<W: Out>(
     add_lone(text, Keyword::EndConcurrent)
 }
 
-/// Adds the line that begins this coregion, where there is one and what came before isn't in it.
+/// Adds the line that begins the coregion `region`, if there is one and the event before isn't in it.
 #[tactic(auto, unfolding(crate::specs::ChartText::beginning))]
 fn add_beginning<W: Out>(
     text: &mut TextBuffer<'_, W>,
@@ -50,7 +50,7 @@ fn add_beginning<W: Out>(
     add_lone(text, Keyword::Concurrent)
 }
 
-/// Adds the line of a send: its words stand in it with their spaces, so that it has few pieces.
+/// Adds the line of a send. Each keyword is one literal with its spaces, so the line has few pieces.
 #[tactic(auto, unfolding(crate::specs::ChartText::event_line, chart::specs::Keywords::spelled))]
 fn add_send_line<W: Out>(
     text: &mut TextBuffer<'_, W>,
@@ -92,7 +92,8 @@ fn add_event<W: Out>(
     }
 }
 
-/// Adds an event behind one that is in the coregion `before`, with what ends that one or begins its own.
+/// Adds an event after one in the coregion `before`. The lines that end that coregion or begin the event's own come
+/// first.
 #[tactic(auto, using(texts::proofs::Writes::joining), unfolding(crate::specs::ChartText::event_lines_text))]
 fn add_event_lines<W: Out>(
     text: &mut TextBuffer<'_, W>,
@@ -109,7 +110,7 @@ fn add_event_lines<W: Out>(
     add_event(text, names, event)
 }
 
-/// Adds the events of a line.
+/// Adds the events of a line, with the lines that begin and end its coregions.
 fn add_events<W: Out>(
     text: &mut TextBuffer<'_, W>,
     names: &Names,
@@ -146,7 +147,7 @@ fn add_foot<W: Out>(text: &mut TextBuffer<'_, W>) -> Result<(), WriteError>
     add_lone(text, Keyword::EndInstance)
 }
 
-/// Adds an instance.
+/// Adds an instance: its first line, its events and its last line.
 #[tactic(auto, using(texts::proofs::Writes::joining), unfolding(crate::specs::ChartText::line_text))]
 fn add_line<W: Out>(
     text: &mut TextBuffer<'_, W>,
@@ -199,7 +200,7 @@ fn add_end<W: Out>(text: &mut TextBuffer<'_, W>) -> Result<(), WriteError>
     add_lone(text, Keyword::EndMsc)
 }
 
-/// Adds the chart's text to one that is being written. It takes no memory.
+/// Adds the chart's text to a text that is being written. It takes no memory.
 ///
 /// The chart has as many instances as there are names.
 #[tactic(auto, using(texts::proofs::Writes::joining), unfolding(crate::specs::ChartText::chart_text))]
@@ -216,8 +217,8 @@ pub fn add_chart<W: Out>(
     add_end(text)
 }
 
-/// Writes the chart's text and nothing else. It takes no memory. Where a put fails (F24), a beginning of the text was
-/// written, and no other put is tried.
+/// Writes the chart's text and nothing else. It takes no memory. If a put fails (F24), a beginning of the text was
+/// written, and no further put is tried.
 ///
 /// The chart has as many instances as there are names.
 #[tactic(auto, using(texts::proofs::Writes::joining))]

@@ -1,12 +1,12 @@
 //! Texts of charts, written and read (ITU-T Z.120 in this project's profile).
 //!
-//! What is promised:
+//! Promises:
 //!
-//! - [`write`] writes exactly the chart's text, over any [`Out`]. Where a put fails, a beginning of the text was
-//!   written, exactly one put failed, and none was tried after it.
-//! - [`reader`] reads exactly such texts, and answers the first fault of any other.
+//! - [`write`] writes exactly the chart's text, over any [`Out`]. If a put fails, a beginning of the text was written,
+//!   exactly one put failed, and none was tried after it.
+//! - [`reader`] reads exactly such texts. For any other text it returns the first fault.
 //!
-//! An [`Out`] and its two implementations are those of `texts`.
+//! `texts` defines [`Out`] and its two implementations.
 #![tactic(auto)]
 
 mod chart_text;

@@ -12,35 +12,35 @@ use chart::{EventNo, EventRange, Name, Names, Report};
 use itoa::Buffer;
 use texts::{Held, Out, TextBuffer, WriteError, named};
 
-/// The most bytes that stand around the number of an earlier event: a word and a space, a name and a space before it,
-/// and behind it a space, a number and the line's end.
+/// The most bytes around the number of an earlier event. Before the number are a word with a space, and a name with a
+/// space. After it are a space, a number and the line feed.
 const MOST_ENDS: usize = 80;
 
-/// The tens of no event's number.
+/// What `MadeLine::tens` holds before a line is made. No event's number has these tens.
 const NO_TENS: u32 = u32::MAX;
 
-/// A race line. Those of events whose numbers have all digits but the last in common differ in that digit alone, so
-/// that one line serves them all.
+/// A race line that is kept. The lines of events whose numbers differ only in the last digit differ only in that digit,
+/// so one kept line serves them all.
 #[derive(Drop)]
 struct MadeLine {
     line: Held,
-    /// The number of its earlier event without the last digit, or `NO_TENS` where no line is made yet.
+    /// The number of its earlier event without the last digit, or `NO_TENS` if no line is made yet.
     tens: u32,
-    /// Where the last digit stands.
+    /// The index of the last digit in the line, from 0.
     place: usize,
 }
 
-/// What is the same in all race lines of a receive.
+/// What all race lines of a receive have in common.
 #[derive(Drop)]
 struct LineEnds {
-    /// What stands before the number of the earlier event.
+    /// The bytes before the number of the earlier event.
     front: Held,
-    /// What stands behind it.
+    /// The bytes after it.
     end: Held,
 }
 
 impl LineEnds {
-    /// They are those of races of the instance of this name, and of its receive of this number.
+    /// Sets both parts for the races of the instance with this name, and of its receive with this number.
     #[tactic(auto, unfolding(crate::specs::RaceText::race_front, crate::specs::RaceText::race_end))]
     fn set(&mut self, name: Name, receive: u32)
         ensures front { self.new.front ≡ race_front name }
@@ -79,7 +79,7 @@ impl LineEnds {
         made.place = front.len() + index.len() - 1;
     }
 
-    /// Adds the line with the number of this earlier event: mostly the one that is made, with its last digit put in.
+    /// Adds the line with the number of this earlier event. Mostly the kept line is added, with another last digit.
     #[inline(always)]
     fn add<W: Out>(
         &self,
@@ -139,8 +139,8 @@ impl LineEnds {
     }
 }
 
-/// Writes the lines of races. What is the same in all lines of a receive is made once, so one value serves many
-/// receives.
+/// Writes race lines. The parts that all lines of a receive have in common are made once for each receive. One value
+/// serves many receives.
 #[derive(Drop)]
 pub struct RaceLines {
     ends: LineEnds,
@@ -148,7 +148,7 @@ pub struct RaceLines {
 }
 
 impl RaceLines {
-    /// It takes no memory.
+    /// Makes a value that holds no line yet. It takes no memory.
     pub fn new() -> RaceLines {
         RaceLines {
             ends: LineEnds {
@@ -163,8 +163,8 @@ impl RaceLines {
         }
     }
 
-    /// Adds a line for each race of a receive, whose instance has a name: for each event of these ranges. It takes no
-    /// memory.
+    /// Adds a line for each race of a receive: for each event of these ranges. The instance of the receive has a name.
+    /// It takes no memory.
     pub fn add_report<W: Out>(
         &mut self,
         text: &mut TextBuffer<'_, W>,
@@ -183,8 +183,8 @@ impl RaceLines {
     }
 }
 
-/// Adds a line for each race of these reports, whose instances have names, to a text that is being written. It takes no
-/// memory.
+/// Adds a line for each race of these reports to a text that is being written. The instances of the reports have names.
+/// It takes no memory.
 pub fn add_races<W: Out>(
     text: &mut TextBuffer<'_, W>,
     names: &Names,

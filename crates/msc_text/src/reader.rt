@@ -1,9 +1,11 @@
-//! Reads charts' texts.
+//! Reads the texts of charts.
 //!
-//! What is promised, unless an allocation is refused ([`read`]): names and chart are answered exactly where the
-//! bytes are their text within the limits. What is read is spelled so, what is spelled so is read, and for anything
-//! else the answer is the first fault, in the order of `docs/FORMATS.md`. No two pairs of names and chart have one
-//! text ([`laws`]).
+//! Promises of [`read`], unless an allocation is refused:
+//!
+//! - Names and a chart are returned exactly if the bytes are their text within the limits. The bytes that are read are
+//!   the text of what is returned, and each such text is read.
+//! - For any other bytes the first fault is returned, in the order of `docs/reference/charts.md`.
+//! - No two pairs of names and chart have the same text ([`laws`]).
 
 mod ahead;
 mod builder;

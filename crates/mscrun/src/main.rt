@@ -14,7 +14,7 @@ use std::rt::{Env, Files};
 use std::{env, fs, io};
 use texts::StreamOut;
 
-/// What is asked for.
+/// What a command line asks for.
 #[derive(Clone, Copy)]
 enum Asked {
     /// A task of the library.
@@ -23,7 +23,7 @@ enum Asked {
     Threads { turns: u32 },
 }
 
-/// What the system refused is F6 where memory ran out, and else the other refusal.
+/// The refusal for an error of the system: F6 if memory ran out, and otherwise `other`.
 fn cause(error: &io::Error, other: ProgramError) -> ProgramError {
     match error.kind() {
         io::ErrorKind::OutOfMemory => ProgramError::Memory,
@@ -42,7 +42,7 @@ fn refusal(error: CommandLineError) -> ProgramError
     }
 }
 
-/// What is asked for, and the file. G1: the seed isn't one, or the turns aren't.
+/// What a request asks for, and its file. G1: the seed or the number of turns isn't valid.
 fn asked_by(request: Request) -> Result<(Asked, &str), ProgramError> {
     match request {
         Request::Replay { file } => Ok((Asked::Task(Task::Replay), file)),
@@ -75,7 +75,7 @@ fn bytes_of<R: Files + AllocGlobal>(rt: &R, file: &str) -> Result<Vec<u8>, Progr
     fs::read(rt, file).map_err(|error| cause(&error, ProgramError::File))
 }
 
-/// What is asked for, and the bytes of the file.
+/// What the command line asks for, and the bytes of the file.
 fn read_request<R: Env + Files + AllocGlobal>(rt: &R) -> Result<(Asked, Vec<u8>), ProgramError> {
     let words = words_of(rt)?;
     let (asked, file) = asked_in(rt.alloc(), words.as_slice())?;

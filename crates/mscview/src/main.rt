@@ -11,7 +11,7 @@ use std::process::ExitCode;
 use std::rt::{Env, Files};
 use texts::{Out, StreamOut};
 
-/// Does what the words of the command line ask for, and answers the exit status.
+/// Does what the words of the command line ask for, and returns the exit status.
 fn view_words<R: Env + Files + Input + AllocGlobal, W: Out, V: Out>(
     rt: &R,
     out: &mut W,

@@ -6,7 +6,7 @@ use std::io::Read;
 use std::rt::{Env, Files};
 use std::{env, fs, io};
 
-/// What the system refused is F6 where memory ran out, and else the other refusal.
+/// The refusal for an error of the system: F6 if memory ran out, and otherwise `other`.
 fn cause(error: &io::Error, other: ProgramError) -> ProgramError {
     match error.kind() {
         io::ErrorKind::OutOfMemory => ProgramError::Memory,
@@ -20,7 +20,7 @@ pub fn words_of<R: Env + AllocGlobal>(rt: &R) -> Result<Vec<String>, ProgramErro
     words.collect(rt.alloc()).map_err(|_| ProgramError::Memory)
 }
 
-/// What gives the bytes of the system's files.
+/// Provides the bytes of the system's files.
 pub struct System<'a, R> {
     pub rt: &'a R,
 }
@@ -45,7 +45,7 @@ fn bytes_of_input<R: Input + AllocGlobal>(rt: &R) -> Result<Vec<u8>, ProgramErro
     }
 }
 
-/// The bytes of a file, or of standard input without one. No contract says what they are.
+/// The bytes of a file, or of standard input without a file. No contract states what they are.
 impl<R: Files + Input + AllocGlobal> Giver for System<'_, R> {
     ghost use Rattle.std.specs.Prelude.{ℕ};
 

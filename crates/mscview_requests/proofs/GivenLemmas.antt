@@ -1,4 +1,4 @@
--- Files that are given, one after another.
+-- Files that are read one after another.
 use Rattle.std.proofs.Common.{◌≡◌, ℕ, zero, suc, ◌+◌, ◌≤◌, List, [], ◌∷◌, ◌++◌, length, take, map, refl, sym, ap, subst, arith, inl, inr}
 use Rattle.std.proofs.lemmas.List.{take_all}
 use Rattle.std.specs.Prelude.{slice_get, Option, None, Some, Result, Ok, Err, IsErrAnd}
@@ -13,11 +13,11 @@ same e = cc
 never : {A : Type 0} {a : A} → None ≡ Some a → ⊥
 never e = cc
 
--- a file's bytes, as they were lent
+-- the bytes of a file, as a slice
 pub given_as : (gives : ℕ → Option (List ℕ) → Result (List ℕ) ProgramError → Type 0) (place : ℕ) (file : Option (List ℕ)) (text bytes : List ℕ) → text ≡ bytes → gives place file (Ok bytes) → gives place file (Ok text)
 given_as gives place file text bytes lent its = subst (λ t. gives place file (Ok t)) (sym lent) its
 
--- one more
+-- one more file
 given_on : {W : Type 0} (gives : ℕ → Option (List ℕ) → Result (List ℕ) ProgramError → Type 0) (f : W → Option (List ℕ)) (words : List W) (texts : List (List ℕ)) (k n : ℕ) (word : W) (text : List ℕ)
     → AreGiven gives k (map f (take n words)) texts → slice_get words n ≡ Some word → gives (k + n) (f word) (Ok text) → AreGiven gives k (map f (take (n + 1) words)) (texts ++ text ∷ [])
 given_on gives f [] texts k zero word text so_far at its = absurd (never at)
@@ -40,7 +40,7 @@ given_next gives f words texts more n word text so_far at its added =
     subst (λ ts. AreGiven gives 0 (map f (take (n + 1) words)) ts) (sym added)
     (given_on gives f words texts 0 n word text so_far at (subst (λ (m : ℕ). gives m (f word) (Ok text)) e its))
 
--- one that isn't
+-- a file that can't be read
 not_on : {W : Type 0} (gives : ℕ → Option (List ℕ) → Result (List ℕ) ProgramError → Type 0) (f : W → Option (List ℕ)) (words : List W) (texts : List (List ℕ)) (k n : ℕ) (word : W) (error : ProgramError)
     → AreGiven gives k (map f (take n words)) texts → slice_get words n ≡ Some word → gives (k + n) (f word) (Err error) → IsNotGiven gives k (map f words) error
 not_on gives f [] texts k zero word error so_far at its = absurd (never at)
@@ -59,7 +59,7 @@ not_given gives f words texts n word error so_far at its =
     let e : n ≡ 0 + n = omega arith in
     not_on gives f words texts 0 n word error so_far at (subst (λ (m : ℕ). gives m (f word) (Err error)) e its)
 
--- all of them
+-- all files
 pub given_all : {W : Type 0} (gives : ℕ → Option (List ℕ) → Result (List ℕ) ProgramError → Type 0) (f : W → Option (List ℕ)) (words : List W) (texts : List (List ℕ)) (n : ℕ) → length words ≤ n
     → AreGiven gives 0 (map f (take n words)) texts → AreGiven gives 0 (map f words) texts
 given_all gives f words texts n whole all = subst (λ ws. AreGiven gives 0 (map f ws) texts) (take_all n words whole) all
@@ -74,7 +74,7 @@ several {W = W} f (w ∷ v ∷ words) many = ap (λ fs. Some (f w) ∷ Some (f v
     each [] = refl
     each (w ∷ ws) = ap (λ fs. Some (f w) ∷ fs) (each ws)
 
--- by which they are told
+-- the names for diagnostics
 pub diagnostic_several : {W : Type 0} (f : W → List ℕ) (words : List W) → 2 ≤ length words → diagnostic_files (map f words) ≡ map f words
 diagnostic_several f [] many = absurd (omega (arith, many))
 diagnostic_several f (w ∷ []) many = absurd (omega (arith, many))
@@ -85,7 +85,7 @@ diagnostic_one f [] n is few = refl
 diagnostic_one f (w ∷ []) n is few = refl
 diagnostic_one f (w ∷ v ∷ words) n is few = absurd (omega (arith, is, few))
 
--- one file, or none
+-- no file, or one
 pub none_named : {W : Type 0} (f : W → List ℕ) (words : List W) → slice_get words 0 ≡ None → files_named (map f words) ≡ None ∷ []
 none_named f [] at = refl
 none_named f (w ∷ words) at = absurd (never (sym at))
@@ -95,7 +95,7 @@ one_named f [] word few at = absurd (never at)
 one_named f (w ∷ []) word few at = ap (λ x. named_so (f x) ∷ []) (same at)
 one_named f (w ∷ v ∷ words) word few at = absurd (omega (arith, few))
 
--- what isn't given is answered
+-- the refusal of a file that can't be read
 pub answered_so : (gives : ℕ → Option (List ℕ) → Result (List ℕ) ProgramError → Type 0) (files : List (Option (List ℕ))) (result : Result (Vec FileBytes) ProgramError) (error : ProgramError)
     → IsErrAnd result (λ e. e ≡ error) → IsNotGiven gives 0 files error → AreAnswered gives files result
 answered_so gives files (Ok texts) error its lacks = absurd its

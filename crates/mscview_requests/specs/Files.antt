@@ -1,13 +1,13 @@
--- How many files a command line reads (this project's profile).
+-- The number of files that a command line reads (this project's profile).
 use Rattle.std.specs.Prelude.{ℕ, length, max}
 use Rattle.cli.specs.declared.view.request.Request.{Request}
 use Rattle.cli.specs.declared.view.request.Request.TheVariants as requests
 
--- standard input, where none is named
+-- standard input counts as one, if no file is named
 abbrev pub at_least_one : ℕ → ℕ
 at_least_one many = max many 1
 
--- with standard input for one
+-- how many files a request reads; standard input counts as one
 abbrev pub files_read : Request → ℕ
 files_read (requests.Pair pair) = 1
 files_read (requests.Draw draw) = 1

@@ -1,4 +1,4 @@
--- What `why`, `witness` and `mend` are asked of a chart that is imported first, and what an import leaves for them (this
+-- The questions of `why`, `witness` and `mend` about an imported chart, and the results of the import for them (this
 -- project's own).
 use Rattle.std.specs.Prelude.{◌≡◌, ◌⊎◌, ℕ, true, false, List, Option, None, Some, option_map, Ok, Err}
 use Rattle.cli.specs.declared.view.request.LogQuestion.{LogQuestion}
@@ -27,14 +27,14 @@ use Rattle.mscview_requests.specs.declared.questions.ReadQuestion.{ReadQuestion}
 use Rattle.mscview_requests.specs.declared.questions.ReadQuestion.TheVariants as questions
 use Rattle.texts.specs.Outs.{Stored}
 
--- what `why` or `witness` asks about two events
+-- the question of `why` or `witness` about two events
 abbrev pub IsPairQuestion : pairs.Pair → ReadQuestion → Type 0
 IsPairQuestion pair (questions.Pair question events) =
     (question ≡ pair.question) × IsAsked pair.instance.now pair.earlier.now pair.receive.now events
 IsPairQuestion pair (questions.Mend wanted) = ⊥
 IsPairQuestion pair (questions.MendAll limit) = ⊥
 
--- what `mend` asks, of one race or of all
+-- the question of `mend` about one race, or about all
 abbrev pub IsMendQuestion : mend.Mend → ReadQuestion → Type 0
 IsMendQuestion (One name verbose file instance earlier receive) (questions.Mend wanted) =
     IsMend (option_map (λ word. word.now) name) verbose instance.now earlier.now receive.now wanted
@@ -44,29 +44,29 @@ IsMendQuestion (All limit file) (questions.Pair question events) = ⊥
 IsMendQuestion (All limit file) (questions.Mend wanted) = ⊥
 IsMendQuestion (All limit file) (questions.MendAll tries) = IsLimit (option_map (λ word. word.now) limit) tries
 
--- what one of the three asks, by its words
+-- the question of one of the three commands, by its words
 abbrev pub IsQuestion : RaceQuestion → ReadQuestion → Type 0
 IsQuestion (asked.Pair pair) = IsPairQuestion pair
 IsQuestion (asked.Mend wanted) = IsMendQuestion wanted
 
--- what is asked, and how the diagram is read of which it is asked
+-- a question, and the options for reading the diagram
 abbrev pub IsToolQuestion : ToolQuestion → ReadQuestion × (Option Tool × OptionsView) → Type 0
 IsToolQuestion wanted read = IsQuestion wanted.asked read.0 × IsReading wanted.import.reading read.1
 
--- what is asked, and how the log is
+-- a question, and the options for reading the log
 abbrev pub IsLogQuestion : LogQuestion → ReadQuestion × log_options.OptionsView → Type 0
 IsLogQuestion wanted read = IsQuestion wanted.asked read.0 × IsLog wanted.log read.1
 
--- What an import leaves that writes into memory, where it has all the memory that it needs: the text that it writes, or
--- none, with what it tells beside it. A diagram's:
+-- The result of an import into memory that has room for it: the text of the chart, if there is one, with the exit
+-- status and the warnings. This is the result for a diagram:
 abbrev pub LeavesDiagram : Option Tool → List ℕ → OptionsView → Option (List ℕ) → Exit → Type 0
 LeavesDiagram tool bytes options (Some text) exit = (left : Stored) × (told : diagram_told.Diagnostics)
     × diagrams.Imports memory none left (Ok told) tool bytes options × (text ≡ left.bytes) × (exit ≡ diagrams.imported_exit (Ok told))
 LeavesDiagram tool bytes options None exit = (error : ImportError)
     × diagrams.Imports memory none none (Err (Diagram error)) tool bytes options × (exit ≡ diagrams.imported_exit (Err (Diagram error)))
 
--- a log's, of files with these names where there are several. A log that has one end of each message shows no race, and is
--- refused:
+-- the result for a log, whose files have these names if there are several; a log with one end of each message shows no
+-- race, and is refused:
 abbrev pub LeavesLog : log_options.OptionsView → List (List ℕ) → List (List ℕ) → Option (List ℕ) → Exit → Type 0
 LeavesLog options texts files (Some text) exit = (left : Stored) × (told : log_told.Diagnostics)
     × logs.Imports memory none left (Ok told) options texts × (told.is_one_ended ≡ false) × (text ≡ left.bytes)

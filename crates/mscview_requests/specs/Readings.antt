@@ -1,4 +1,4 @@
--- What was read of the words of a command line, as a command's options.
+-- The options of a command, as read from the words of its command line.
 use Rattle.std.specs.Prelude.{List, map, Option}
 use Rattle.std.specs.Global.{Vec}
 use Rattle.diagram_import.specs.Importing as diagrams

@@ -1,4 +1,4 @@
--- What `mscview` does for each command line (this project's profile).
+-- The effect of each command line of `mscview` (this project's profile).
 use Rattle.std.specs.Prelude.{◌≡◌, ◌⊎◌, ℕ, Bool, true, false, List, [], ◌∷◌, map, Option, None, Some, option_map, Result, Ok, Err}
 use Rattle.cmd_compare.specs.Answers.{compare_exit}
 use Rattle.cmd_compare.specs.Comparisons.{ComparesFiles}
@@ -68,24 +68,26 @@ use Rattle.mscview_requests.specs.declared.questions.ReadQuestion.{ReadQuestion}
 use Rattle.mscview_requests.specs.declared.questions.ReadQuestion.TheVariants as questions
 use Rattle.mscview_requests.specs.Wanted.{IsAsked, IsMend, IsLimit, IsPicture, IsPictureOf, IsBeside, IsNameOf, titled_path, first_path, comparison_form, AreRaces, AreJudged, IsReading, IsLog}
 
--- What commands do, by what is known of standard output and of standard error, with what they were before and are afterwards.
+-- The effects of commands. Standard output is known by `sink` before (`old`) and after (`new`), and standard error by
+-- `diagnostics`.
 module _ {S V : Type 0} (sink : S → Sink) (old new : S) (diagnostics : V → Sink) (before after : V) where
-  -- what is told where a file was refused, with this status, or else what the command does, by what standard error was before
+  -- a file was refused with this status; or the command has this effect, from the state of standard error that is given
   abbrev pub DoesUnless : Option ℕ → (V → List ℕ → ℕ → Type 0) → V → List ℕ → ℕ → Type 0
   DoesUnless None Does between text status = Does between text status
   DoesUnless (Some refused) Does between text status = (status ≡ refused) × (after ≡ between) × (new ≡ old)
 
-  -- with `--strict` a file that it refuses was refused, and nothing was written; of any other the command does this
+  -- with `--strict`, a file that it refuses was refused, and nothing was written; for any other file the command has
+  -- this effect
   abbrev pub DoesStrictly : Bool → (V → List ℕ → ℕ → Type 0) → List ℕ → ℕ → Type 0
   DoesStrictly strict Does text status = (between : V) × (refused : Option ℕ) × Refuses strict text diagnostics before between refused
       × DoesUnless refused Does between text status
 
-  -- a pair of events was explained, or turned round
+  -- a pair of events was explained, or its witness was written
   abbrev pub DoesPair : question.Question → Asked → List ℕ → ℕ → Type 0
   DoesPair Witness asked text status = Answers (Witnesses sink old new text asked) witness_exit diagnostics before after status
   DoesPair Why asked text status = Answers (WhysFile sink old new text asked) why_file_exit diagnostics before after status
 
-  -- the races of a chart or of a schedule were shown; where luck is asked for, those that were luck
+  -- the races of a chart or of a schedule were shown, or only those that were luck if the words ask for these
   abbrev pub DoesRaces : Bool → Wanted → List ℕ → ℕ → Type 0
   DoesRaces true wanted text status = Answers (ShowsLuck sink old new wanted text) shown_exit diagnostics before after status
   DoesRaces false wanted text status = Answers (races.ShowsText sink old new wanted text) shown_exit diagnostics before after status
@@ -95,7 +97,7 @@ module _ {S V : Type 0} (sink : S → Sink) (old new : S) (diagnostics : V → S
   DoesToolRaces asked reading text status = (wanted : Wanted) × AreRaces asked.showing wanted
       × Answers (diagram_races.ShowsDrawing sink old new reading.0 text reading.1 wanted) diagram_races.races_exit diagnostics before after status
 
-  -- a log was read; of several files the lines are told by their names
+  -- a log was imported; diagnostics name the files, if there are several
   abbrev pub DoesLog : ImportLog → logs.OptionsView → List (List ℕ) → ℕ → Type 0
   DoesLog log options texts status = (names : List (List ℕ)) × (names ≡ diagnostic_files (map (λ word. word.now) log.files.items))
       × Answers (λ done. log_answers.Imports sink old new done options texts) (log_answers.imported_exit names) diagnostics before after status
@@ -110,79 +112,79 @@ module _ {S V : Type 0} (sink : S → Sink) (old new : S) (diagnostics : V → S
   abbrev pub DoesPicture : pictures.Wanted → List ℕ → ℕ → Type 0
   DoesPicture wanted text status = Answers (DrawsText sink old new wanted text) draw_exit diagnostics before after status
 
-  -- the page of a file was written, called so
+  -- the page of a file was written, with this title
   abbrev pub WritesPage : List ℕ → List ℕ → ℕ → Type 0
   WritesPage title text status = Answers (pages.ShowsFile sink old new (pages.titled title) text) page_exit diagnostics before after status
 
-  -- the page of another tool's text was written, called as a picture of the file is
+  -- the page of another tool's text was written, with the title that a picture of the file has
   abbrev pub DoesToolPage : Option (List ℕ) → Option Tool × diagrams.OptionsView → List ℕ → ℕ → Type 0
   DoesToolPage file reading text status = (title : List ℕ) × IsNameOf (titled_path file) title
       × Answers (diagram_pages.ShowsDrawing sink old new reading.0 text reading.1 title) diagram_pages.page_exit diagnostics before after status
 
-  -- the page of a log was written, called as a picture of its first file is
+  -- the page of a log was written, with the title that a picture of its first file has
   abbrev pub DoesLogPage : ImportLog → logs.OptionsView → List (List ℕ) → ℕ → Type 0
   DoesLogPage log options texts status = (title : List ℕ) × (names : List (List ℕ))
       × IsNameOf (titled_path (first_path (map (λ word. word.now) log.files.items))) title
       × (names ≡ diagnostic_files (map (λ word. word.now) log.files.items))
       × Answers (log_pages.ShowsLog sink old new options texts title) (log_pages.page_exit names) diagnostics before after status
 
-  -- a message was added by which a race goes
+  -- a message that removes a race was added
   abbrev pub DoesMend : mend_wanted.Wanted → List ℕ → ℕ → Type 0
   DoesMend wanted text status = Answers (mends.ShowsText sink old new wanted text) mend_exit diagnostics before after status
 
-  -- messages were added as long as each leaves fewer races, within so many pairs that are tried
+  -- messages were added, as long as each reduces the number of races, within the limit on the pairs that are tried
   abbrev pub DoesMendAll : Option ℕ → List ℕ → ℕ → Type 0
   DoesMendAll limit text status = Answers (mends.ShowsAllText sink limit old new text) mend_all_exit diagnostics before after status
 
-  -- what is asked about the races of a chart was answered
+  -- a question about the races of a chart was answered
   abbrev pub DoesQuestion : ReadQuestion → List ℕ → ℕ → Type 0
   DoesQuestion (questions.Pair question asked) text status = DoesPair question asked text status
   DoesQuestion (questions.Mend wanted) text status = DoesMend wanted text status
   DoesQuestion (questions.MendAll limit) text status = DoesMendAll limit text status
 
--- The same where the text is imported first.
+-- The same effects if the text is imported first.
 module _ {S V : Type 0} (sink : S → Sink) (old new : S) (diagnostics : V → Sink) (before after : V) where
-  -- by what an import leaves and tells: the command answered over the text, and what it tells comes behind what the import
-  -- does; or the import's refusal is told, and nothing was written
+  -- with the result of an import: its warnings were printed, and then the command answered for the text; or the
+  -- import's refusal was printed, and nothing was written
   abbrev pub DoesAfter : Option (List ℕ) → Exit → ReadQuestion → ℕ → Type 0
   DoesAfter (Some text) exit question status = (between : V) × Prints diagnostics before between exit.diagnostics
       × DoesQuestion sink old new diagnostics between after question text status
   DoesAfter None exit question status = (status ≡ exit.status) × Prints diagnostics before after exit.diagnostics × (new ≡ old)
 
-  -- of another tool's text
+  -- for another tool's text
   abbrev pub DoesOverDiagram : ReadQuestion × (Option Tool × diagrams.OptionsView) → List ℕ → ℕ → Type 0
   DoesOverDiagram asked bytes status = (text : Option (List ℕ)) × (exit : Exit) × LeavesDiagram asked.1.0 bytes asked.1.1 text exit
       × DoesAfter text exit asked.0 status
 
-  -- of a log; of several files the lines are told by these names
+  -- for a log; diagnostics have these names of its files, if there are several
   abbrev pub DoesOverLog : List (List ℕ) → ReadQuestion × logs.OptionsView → List (List ℕ) → ℕ → Type 0
   DoesOverLog names asked texts status = (text : Option (List ℕ)) × (exit : Exit) × LeavesLog asked.1 texts names text exit
       × DoesAfter text exit asked.0 status
 
--- Of the files of a command line these may be given, by their places and names; and what is known of standard output and of
--- standard error, with what they were before and are afterwards.
+-- `gives` has the possible results for the files of a command line, by their index and name. Standard output and
+-- standard error are known as above, before and after.
 module _ {S V : Type 0} (gives : ℕ → Option (List ℕ) → Result (List ℕ) ProgramError → Type 0) (sink : S → Sink) (old new : S) (diagnostics : V → Sink) (before after : V) where
   -- nothing was written
   abbrev pub IsSilent : Type 0
   IsSilent = (new ≡ old) × (after ≡ before)
 
-  -- What comes of a command that reads one file. The words are looked at first: they say what is wanted, or they are
-  -- refused. Then the file is given, and the command answers; or it can't be read. What is refused has written nothing.
+  -- The result of a command that reads one file. The words are read first: they are valid, or they are refused. Then
+  -- the file is read, and the command answers; or the file can't be read. A refusal has written nothing.
   abbrev pub OfFile : {A : Type 0} → (A → Type 0) → (ProgramError → Type 0) → Option (List ℕ) → (A → List ℕ → ℕ → Type 0) → Result ℕ ProgramError → Type 0
   OfFile {A = A} IsWanted IsRefused file Does (Ok status) = (wanted : A) × (text : List ℕ) × IsWanted wanted × gives 0 file (Ok text) × Does wanted text status
   OfFile {A = A} IsWanted IsRefused file Does (Err error) = IsSilent × (IsRefused error ⊎ ((wanted : A) × IsWanted wanted × gives 0 file (Err error)))
 
-  -- the same where the words say all
+  -- the same if no word has to be read
   abbrev pub OfFileAlone : Option (List ℕ) → (List ℕ → ℕ → Type 0) → Result ℕ ProgramError → Type 0
   OfFileAlone file Does (Ok status) = (text : List ℕ) × gives 0 file (Ok text) × Does text status
   OfFileAlone file Does (Err error) = IsSilent × gives 0 file (Err error)
 
-  -- the same where there may be several files, which are read one after another
+  -- the same for any number of files, which are read one after another
   abbrev pub OfFiles : {A : Type 0} → (A → Type 0) → List (Option (List ℕ)) → (A → List (List ℕ) → ℕ → Type 0) → Result ℕ ProgramError → Type 0
   OfFiles {A = A} IsWanted files Does (Ok status) = (wanted : A) × (texts : List (List ℕ)) × IsWanted wanted × AreGiven gives 0 files texts × Does wanted texts status
   OfFiles {A = A} IsWanted files Does (Err error) = IsSilent × (AreNotRead IsWanted error ⊎ ((wanted : A) × IsWanted wanted × IsNotGiven gives 0 files error))
 
-  -- a pair of events was explained, or turned round
+  -- a pair of events was explained, or its witness was written
   abbrev pub ViewsPair : Pair → Result ℕ ProgramError → Type 0
   ViewsPair pair = OfFile (IsAsked pair.instance.now pair.earlier.now pair.receive.now)
       (SayNothing (IsAsked pair.instance.now pair.earlier.now pair.receive.now)) (named_so pair.file.now)
@@ -205,7 +207,7 @@ module _ {S V : Type 0} (gives : ℕ → Option (List ℕ) → Result (List ℕ)
   ViewsWitnessPicture draw = OfFile (IsBeside draw) (SayNothing (IsBeside draw)) (file_named (option_map (λ word. word.now) draw.file))
       (λ wanted text status. Answers (DrawsWitnessText sink old new wanted.0 wanted.1 text) picture_exit diagnostics before after status)
 
-  -- by whether another tool's text is read
+  -- the same, whether or not the file is another tool's text
   abbrev pub ViewsPictureBy : Option Reading → Draw → Result ℕ ProgramError → Type 0
   ViewsPictureBy None draw result = ViewsFilePicture draw result
   ViewsPictureBy (Some reading) draw result = ViewsPictureOf draw reading result
@@ -219,12 +221,12 @@ module _ {S V : Type 0} (gives : ℕ → Option (List ℕ) → Result (List ℕ)
       (file_named (option_map (λ word. word.now) export.file))
       (λ target text status. Answers (ExportsText sink old new target text) export_exit diagnostics before after status)
 
-  -- another tool's text was read
+  -- another tool's text was imported
   abbrev pub ViewsImport : Import → Result ℕ ProgramError → Type 0
   ViewsImport wanted = OfFile (IsReading wanted.reading) (AreNotRead (IsReading wanted.reading)) (file_named (option_map (λ word. word.now) wanted.file))
       (λ reading text status. Answers (λ done. diagram_answers.Imports sink old new done reading.0 text reading.1) diagram_answers.imported_exit diagnostics before after status)
 
-  -- a log was read
+  -- a log was imported
   abbrev pub ViewsLog : ImportLog → Result ℕ ProgramError → Type 0
   ViewsLog log = OfFiles (IsLog log) (files_named (map (λ word. word.now) log.files.items)) (DoesLog sink old new diagnostics before after log)
 
@@ -241,7 +243,7 @@ module _ {S V : Type 0} (gives : ℕ → Option (List ℕ) → Result (List ℕ)
       (λ text status. (wanted : Wanted) × AreRaces asked.showing wanted × DoesStrictly sink old new diagnostics before after asked.strict
       (λ between. DoesRaces sink old new diagnostics between after asked.showing.luck wanted) text status)
 
-  -- the text wasn't given; or it was, and luck is asked for, of which such a text tells nothing (G1)
+  -- the text couldn't be read; or it was, but the words ask for luck, which such a text doesn't show (G1)
   abbrev pub HasNoLuck : Bool → Option (List ℕ) → ProgramError → Type 0
   HasNoLuck luck file error = gives 0 file (Err error) ⊎ ((text : List ℕ) × gives 0 file (Ok text) × (luck ≡ true) × (error ≡ Usage))
 
@@ -252,7 +254,7 @@ module _ {S V : Type 0} (gives : ℕ → Option (List ℕ) → Result (List ℕ)
       ⊎ ((wanted : Option Tool × diagrams.OptionsView) × IsReading reading wanted
       × HasNoLuck asked.showing.luck (file_named (option_map (λ word. word.now) asked.file)) error))
 
-  -- by whether another tool's text is read
+  -- the same, whether or not the file is another tool's text
   abbrev pub ViewsRacesBy : Option Reading → Races → Result ℕ ProgramError → Type 0
   ViewsRacesBy None asked result = ViewsFileRaces asked result
   ViewsRacesBy (Some reading) asked result = ViewsRacesOf asked reading result
@@ -264,7 +266,7 @@ module _ {S V : Type 0} (gives : ℕ → Option (List ℕ) → Result (List ℕ)
   abbrev pub ViewsLogRaces : LogRaces → Result ℕ ProgramError → Type 0
   ViewsLogRaces asked = OfFiles (IsLog asked.log) (files_named (map (λ word. word.now) asked.log.files.items)) (DoesLogRaces sink old new diagnostics before after asked)
 
-  -- a message was added by which a race goes, or all by which races become fewer
+  -- a message that removes a race was added; or messages were, as long as each reduces the number of races
   abbrev pub ViewsMend : mend.Mend → Result ℕ ProgramError → Type 0
   ViewsMend (One name verbose file instance earlier receive) result =
       OfFile (IsMend (option_map (λ word. word.now) name) verbose instance.now earlier.now receive.now)
@@ -274,7 +276,7 @@ module _ {S V : Type 0} (gives : ℕ → Option (List ℕ) → Result (List ℕ)
       OfFile (IsLimit (option_map (λ word. word.now) limit)) (SayNothing (IsLimit (option_map (λ word. word.now) limit)))
       (file_named (option_map (λ word. word.now) file)) (DoesMendAll sink old new diagnostics before after) result
 
-  -- the page of a file was written, called as a picture of it is
+  -- the page of a file was written, with the title that a picture of the file has
   abbrev pub ViewsPage : Page → Result ℕ ProgramError → Type 0
   ViewsPage page = OfFileAlone (file_named (option_map (λ word. word.now) page.file))
       (λ text status. (title : List ℕ) × IsNameOf (titled_path (option_map (λ word. word.now) page.file)) title
@@ -289,26 +291,26 @@ module _ {S V : Type 0} (gives : ℕ → Option (List ℕ) → Result (List ℕ)
   abbrev pub ViewsLogPage : ImportLog → Result ℕ ProgramError → Type 0
   ViewsLogPage log = OfFiles (IsLog log) (files_named (map (λ word. word.now) log.files.items)) (DoesLogPage sink old new diagnostics before after log)
 
-  -- what is asked of another tool's text was answered
+  -- a question about another tool's text was answered
   abbrev pub ViewsToolQuestion : ToolQuestion → Result ℕ ProgramError → Type 0
   ViewsToolQuestion wanted = OfFile (IsToolQuestion wanted) (AreNotRead (IsToolQuestion wanted))
       (file_named (option_map (λ word. word.now) wanted.import.file)) (DoesOverDiagram sink old new diagnostics before after)
 
-  -- what is asked of a log was answered
+  -- a question about a log was answered
   abbrev pub ViewsLogQuestion : LogQuestion → Result ℕ ProgramError → Type 0
   ViewsLogQuestion wanted = OfFiles (IsLogQuestion wanted) (files_named (map (λ word. word.now) wanted.log.files.items))
       (λ asked texts status. (names : List (List ℕ)) × (names ≡ diagnostic_files (map (λ word. word.now) wanted.log.files.items))
       × DoesOverLog sink old new diagnostics before after names asked texts status)
 
-  -- the exact text of what is typed in a file was written
+  -- the exact text of a typed file was written
   abbrev pub ViewsTidy : Option (List ℕ) → Result ℕ ProgramError → Type 0
   ViewsTidy file = OfFileAlone (file_named file) (λ text status. Answers (Tidies sink old new text) tidy_exit diagnostics before after status)
 
-  -- it was told what a file is
+  -- the report on a file was written
   abbrev pub ViewsExplanation : Option (List ℕ) → Result ℕ ProgramError → Type 0
   ViewsExplanation file = OfFileAlone (file_named file) (λ text status. Answers (Explains sink old new text) explained_exit diagnostics before after status)
 
-  -- what comes of each command line
+  -- the effect of each request
   abbrev pub Comes : Request → Result ℕ ProgramError → Type 0
   Comes (requests.Pair pair) result = ViewsPair pair result
   Comes (requests.Draw draw) result = ViewsPicture draw result
@@ -328,16 +330,16 @@ module _ {S V : Type 0} (gives : ℕ → Option (List ℕ) → Result (List ℕ)
   Comes (requests.Tidy file) result = ViewsTidy (option_map (λ word. word.now) file) result
   Comes (requests.Explain file) result = ViewsExplanation (option_map (λ word. word.now) file) result
 
--- a refusal's line was written to standard error, or a beginning of it where that failed, and the status is 2
+-- a refusal's line was written to standard error, or a beginning of it if that failed, and the status is 2
 abbrev pub IsRefusedBy : {V : Type 0} → ProgramError → (V → Sink) → V → V → ℕ → Type 0
 IsRefusedBy error diagnostics before after status = (status ≡ 2) × Tried diagnostics before after (refusal_text error)
 
--- the exit status of what came of a command line; a refusal is told
+-- the exit status of a request; a refusal is printed
 abbrev pub Ends : {V : Type 0} → Result ℕ ProgramError → (V → Sink) → V → V → ℕ → Type 0
 Ends (Ok status') diagnostics before after status = (status ≡ status') × (after ≡ before)
 Ends (Err error) diagnostics before after status = IsRefusedBy error diagnostics before after status
 
--- an output: what is known of it by its kind, with what it was before and is afterwards
+-- an output: its sink, which is known by its kind, before and after
 pub record Stream (S : Type 0) : Type 0 where
   pub sink : S → Sink
   pub old : S
@@ -346,12 +348,12 @@ pub record Stream (S : Type 0) : Type 0 where
 abbrev pub stream : {S : Type 0} → (S → Sink) → S → S → Stream S
 stream sink old new = record { sink = sink; old = old; new = new }
 
--- what the command line asks for was done, or it was refused, and the refusal is told
+-- the request was carried out, or it was refused, and the refusal is printed
 abbrev pub Views : {S V : Type 0} → (ℕ → Option (List ℕ) → Result (List ℕ) ProgramError → Type 0) → Stream S → Stream V → Request → ℕ → Type 0
 Views {V = V} gives out err request status = (result : Result ℕ ProgramError) × (between : V)
     × Comes gives out.sink out.old out.new err.sink err.old between request result × Ends result err.sink between err.new status
 
--- what some words ask for was done; or they ask for nothing, and that is told
+-- some request was carried out; or the words form none, and this is printed
 abbrev pub ViewsSome : {S V : Type 0} → (ℕ → Option (List ℕ) → Result (List ℕ) ProgramError → Type 0) → Stream S → Stream V → ℕ → Type 0
 ViewsSome gives out err status =
     ((request : Request) × Views gives out err request status)

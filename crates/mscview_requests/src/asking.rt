@@ -1,4 +1,4 @@
-//! What is asked about files: pairs of events, and what two files differ in.
+//! Questions about files: about a pair of events, and about the differences of two files.
 ghost use Rattle.std.specs.Prelude.{◌≡◌};
 ghost use Rattle.mscview_requests.specs.Words.Words.{Says};
 ghost use Rattle.mscview_requests.specs.Views.{DoesPair, DoesStrictly, ViewsPair, ViewsComparison};
@@ -13,7 +13,7 @@ use cmd_explain_race::{why, witness};
 use std::alloc::Global;
 use texts::Out;
 
-/// The number that a word says. G1: it says none.
+/// The number in a word. G1: the word isn't a number.
 pub(crate) fn number_by(word: &str) -> Result<u64, ProgramError>
     ensures { Says (IsNumberIn word.now) result }
 {
@@ -23,7 +23,7 @@ pub(crate) fn number_by(word: &str) -> Result<u64, ProgramError>
     }
 }
 
-/// The two events that are asked about. G1: a number isn't one.
+/// The two events that the words name. G1: a word isn't a number.
 pub(crate) fn asked_by<'a>(
     instance: &'a str,
     earlier: &str,
@@ -40,7 +40,7 @@ pub(crate) fn asked_by<'a>(
     })
 }
 
-/// Explains the pair of events, or turns it round.
+/// Explains the pair of events, or writes its witness.
 pub(crate) fn answer_pair<W: Out, V: Out>(
     alloc: Global,
     question: Question,
@@ -57,7 +57,7 @@ pub(crate) fn answer_pair<W: Out, V: Out>(
     }
 }
 
-/// Explains the pair of events, or turns it round, unless `--strict` refuses the file.
+/// Explains the pair of events, or writes its witness, unless `--strict` refuses the file.
 fn answer_strictly<W: Out, V: Out>(
     alloc: Global,
     pair: &Pair<'_>,
@@ -76,7 +76,7 @@ fn answer_strictly<W: Out, V: Out>(
     }
 }
 
-/// Explains a pair of events, or turns it round.
+/// Explains a pair of events, or writes its witness.
 pub(crate) fn view_pair<G: Giver, W: Out, V: Out>(
     alloc: Global,
     pair: &Pair<'_>,

@@ -1,4 +1,4 @@
-//! A chart beside its witness.
+//! Draws a chart beside its witness.
 ghost use Rattle.std.specs.Prelude.{◌≡◌};
 ghost use Rattle.mscview_requests.specs.Words.Words.{Says};
 ghost use Rattle.mscview_requests.specs.Views.{ViewsWitnessPicture};
@@ -14,7 +14,7 @@ use cmd_draw::witness::{Wanted, draw_witness};
 use std::alloc::Global;
 use texts::Out;
 
-/// The two events, and what is to be drawn. G1: a number isn't one.
+/// The two events and the options of the picture. G1: a word isn't a number.
 fn beside_by<'a>(draw: &DrawWitness<'a>) -> Result<(Asked<'a>, Wanted<'a>), ProgramError>
     ensures { Says (IsBeside draw.now) result }
 {

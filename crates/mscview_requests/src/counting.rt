@@ -1,17 +1,17 @@
-//! How many files a command line reads.
+//! The number of files that a command line reads.
 ghost use Rattle.std.specs.Prelude.{◌≡◌, length};
 ghost use Rattle.mscview_requests.specs.Files.{at_least_one, files_read};
 
 use cli::view::{ImportLog, Request};
 
-/// How many files a log is read of: standard input where none is named.
+/// How many files a log has. If no file is named, standard input counts as one.
 fn many_logs(log: &ImportLog<'_>) -> usize
     ensures { result ≡ at_least_one (length log.now.files.items) }
 {
     log.files.len().max(1)
 }
 
-/// How many files a request reads, with standard input for one.
+/// How many files a request reads. Standard input counts as one.
 pub fn many_files(request: &Request<'_>) -> usize
     ensures { result ≡ files_read request.now }
 {

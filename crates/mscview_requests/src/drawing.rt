@@ -16,7 +16,7 @@ use cmd_draw::{
 use std::alloc::Global;
 use texts::Out;
 
-/// The numbers that a word says, or all where there is none. G1: it says none.
+/// The range of numbers in a word. Without a word it has all numbers. G1: the word isn't such a range.
 fn numbers_by(word: Option<&str>) -> Result<Events, ProgramError>
     ensures { Says (AreDrawn (option_map (λ w. w.now) word.entry)) result }
 {
@@ -29,7 +29,7 @@ fn numbers_by(word: Option<&str>) -> Result<Events, ProgramError>
     }
 }
 
-/// The path that a title is taken from: standard input has none.
+/// The path for the title. Standard input has none.
 fn titled_path(file: Option<&str>) -> Option<&str>
     ensures { option_map (λ w. w.now) result ≡ titled_path (option_map (λ w. w.now) file.entry) }
 {
@@ -45,7 +45,7 @@ fn titled_path(file: Option<&str>) -> Option<&str>
     }
 }
 
-/// The title that a path gives: the name of the file alone.
+/// The title for a path: the name of the file, without its folder.
 fn name_by(path: Option<&str>) -> &[u8]
     ensures { IsNameOf (option_map (λ w. w.now) path.entry) result.now }
 {
@@ -55,14 +55,14 @@ fn name_by(path: Option<&str>) -> &[u8]
     }
 }
 
-/// The title that a file gives: its name alone, and of standard input none.
+/// The title for a file: its name without the folder. Standard input has an empty title.
 pub(crate) fn file_title(file: Option<&str>) -> &[u8]
     ensures { IsNameOf (titled_path (option_map (λ w. w.now) file.entry)) result.now }
 {
     name_by(titled_path(file))
 }
 
-/// The title of a picture: the words that are given, or the name of the file alone.
+/// The title of a picture: the given words, or the name of the file without its folder.
 pub(crate) fn title_of<'a>(title: Option<&'a str>, file: Option<&'a str>) -> &'a [u8]
     ensures { TitleBy (option_map (λ w. w.now) title.entry) (titled_path (option_map (λ w. w.now) file.entry)) result.now }
 {
@@ -72,7 +72,7 @@ pub(crate) fn title_of<'a>(title: Option<&'a str>, file: Option<&'a str>) -> &'a
     }
 }
 
-/// The rows that words say, or all. G1: they say none.
+/// The rows that the words choose, or all rows. G1: the words choose no rows.
 fn rows_by<'a>(words: &RowWords<'a>) -> Result<Rows<'a>, ProgramError>
     ensures { Says (AreRows words.now) result }
 {
@@ -86,7 +86,7 @@ fn rows_by<'a>(words: &RowWords<'a>) -> Result<Rows<'a>, ProgramError>
     }
 }
 
-/// What is to be drawn. G1: the word for the events or those for the rows say none.
+/// The options of a picture. G1: a word for the events or the rows isn't valid.
 pub(crate) fn picture_by<'a>(draw: &Draw<'a>) -> Result<Wanted<'a>, ProgramError>
     ensures { Says (IsPicture draw.now) result }
 {
@@ -148,7 +148,7 @@ pub(crate) fn view_picture<G: Giver, W: Out, V: Out>(
     }
 }
 
-/// What is to be exported to. G1: the word says none.
+/// The target of an export. G1: the word names no target.
 fn target_by(word: &str) -> Result<Target, ProgramError>
     ensures { Says (λ target. target_named word.now ≡ Some target) result }
 {
@@ -158,7 +158,7 @@ fn target_by(word: &str) -> Result<Target, ProgramError>
     }
 }
 
-/// Writes a file as another tool's text.
+/// Writes a file as a text for another tool.
 pub(crate) fn view_export<G: Giver, W: Out, V: Out>(
     alloc: Global,
     exported: &Export<'_>,

@@ -2,7 +2,7 @@
 ghost use Rattle.std.specs.Prelude.{◌≡◌};
 ghost use Rattle.mscview_requests.specs.FileBytes.{bytes_of};
 
-/// The bytes of a file: read of it, or lent by whoever has them.
+/// The bytes of a file: read from it, or lent by a program that has them in memory.
 #[derive(Drop)]
 pub enum FileBytes<'a> {
     Read(Vec<u8>),

@@ -1,4 +1,4 @@
-//! What gives the bytes of the files that a command line names.
+//! The providers of the bytes of files.
 ghost use Rattle.std.specs.Prelude.{◌≡◌, ℕ, List, Option, Result, option_map};
 ghost use Rattle.cmd_base.specs.declared.error.ProgramError.{ProgramError};
 ghost use Rattle.mscview_requests.specs.Given.{named_so, file_named, given_in};
@@ -7,14 +7,15 @@ use crate::file_bytes::FileBytes;
 use cmd_base::ProgramError;
 use std::alloc::Global;
 
-/// What gives the bytes of the files that a command line names: the system, or whoever has them in memory.
+/// Provides the bytes of the files that a command line names. It is the system, or a program that has the files in
+/// memory.
 pub trait Giver {
-    /// What may be given of the file that is read at a place of the command line, from 0, and has this name; without a
-    /// name it is standard input.
+    /// The results that may be returned for a file. The file has this index among those of the command line, from 0,
+    /// and this name. Without a name it is standard input.
     ghost gives: { Self → ℕ → Option (List ℕ) → Result (List ℕ) ProgramError → Type 0 };
 
-    /// The bytes of the file that is read at this place of the command line, from 0, and has this name; without a name
-    /// it is standard input.
+    /// The bytes of the file with this index among those of the command line, from 0, and this name. Without a name it
+    /// is standard input.
     fn bytes_in(
         &self,
         alloc: Global,
@@ -24,14 +25,14 @@ pub trait Giver {
         ensures { gives self.now place (option_map (λ w. w.now) file.entry) (given_in result) };
 }
 
-/// The name of the file that a word names: of standard input, `-`, none.
+/// The name of the file that a word names. `-` names standard input, which has no name.
 fn named_so(word: &str) -> Option<&str>
     ensures { option_map (λ w. w.now) result ≡ named_so word.now }
 {
     if word == "-" { None } else { Some(word) }
 }
 
-/// The same where there may be no word: then standard input is read.
+/// The same for a word that may be missing. Without a word, standard input is read.
 fn file_named(word: Option<&str>) -> Option<&str>
     ensures { option_map (λ w. w.now) result ≡ file_named (option_map (λ w. w.now) word.entry) }
 {
@@ -41,7 +42,8 @@ fn file_named(word: Option<&str>) -> Option<&str>
     }
 }
 
-/// The bytes of the first file of a command line, or of standard input where no word names one, or where it is `-`.
+/// The bytes of the first file of a command line. Without a word, or if it is `-`, these are the bytes of standard
+/// input.
 pub(crate) fn first_in<'a, G: Giver>(
     alloc: Global,
     giver: &'a G,

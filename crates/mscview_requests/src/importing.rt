@@ -1,4 +1,4 @@
-//! Texts of other tools: their charts, and the pictures, races and pages of these.
+//! Texts of other tools: their charts, and the pictures, races and pages of these charts.
 ghost use Rattle.std.specs.Prelude.{◌≡◌, map, option_map, MatchResult};
 ghost use Rattle.cmd_base.specs.declared.error.ProgramError.TheVariants.{Memory};
 ghost use Rattle.diagram_join.specs.Joins.{join_view};
@@ -26,7 +26,7 @@ use diagram_tool::Tool;
 use std::alloc::Global;
 use texts::Out;
 
-/// What the words say of how a text is read.
+/// How a text is read, by the words of a command line.
 #[derive(Drop)]
 pub(crate) struct Read {
     pub tool: Option<Tool>,
@@ -35,7 +35,7 @@ pub(crate) struct Read {
     pub is_strict: bool,
 }
 
-/// Which tool's text is read, if a word says so. G1: the word names none.
+/// The tool whose text is read, if a word names it. G1: the word names no tool.
 fn tool_by(word: Option<&str>) -> Result<Option<Tool>, ProgramError>
     ensures { Says (IsTool (option_map (λ w. w.now) word.entry)) result }
 {
@@ -48,7 +48,7 @@ fn tool_by(word: Option<&str>) -> Result<Option<Tool>, ProgramError>
     }
 }
 
-/// The lines that a word says to skip. G1: it says none.
+/// The lines to skip, by a word. G1: the word isn't a range of lines.
 fn skip_by(word: &str) -> Result<Skip, ProgramError>
     ensures { Says (IsSkip word.now) result }
 {
@@ -61,7 +61,7 @@ fn skip_by(word: &str) -> Result<Skip, ProgramError>
     })
 }
 
-/// The lines that are skipped. G1: a word says none.
+/// The lines to skip, by all words. G1: a word isn't a range of lines.
 fn skips_by(alloc: Global, words: &[&str]) -> Result<Vec<Skip>, ProgramError>
     ensures { Reads result skips_of (AreRead IsSkip (map (λ w. w.now) words.now)) }
 {
@@ -75,7 +75,7 @@ fn skips_by(alloc: Global, words: &[&str]) -> Result<Vec<Skip>, ProgramError>
     Ok(skips)
 }
 
-/// How a text is read. G1: a word says nothing.
+/// How a text is read. G1: a word isn't valid.
 fn read_by(alloc: Global, reading: &Reading<'_>) -> Result<Read, ProgramError>
     ensures { Reads result read_view (IsReading reading.now) }
 {
@@ -87,7 +87,7 @@ fn read_by(alloc: Global, reading: &Reading<'_>) -> Result<Read, ProgramError>
     })
 }
 
-/// The joins that words say.
+/// The joins in the words.
 fn joins_by<'a>(alloc: Global, read: &'a Read) -> Result<Vec<Join<'a>>, ProgramError>
     ensures { MatchResult result (λ joins. map join_view joins.items ≡ (read_view read.now).1.joins) (λ e. e ≡ Memory) }
 {
@@ -97,7 +97,7 @@ fn joins_by<'a>(alloc: Global, read: &'a Read) -> Result<Vec<Join<'a>>, ProgramE
     }
 }
 
-/// The options of reading a text.
+/// The options for reading a text.
 fn options_of<'a>(read: &'a Read, joins: &'a [Join<'a>]) -> Options<'a>
     requires { map join_view joins.now ≡ (read_view read.now).1.joins }
     ensures { options_view result ≡ (read_view read.now).1 }
@@ -154,7 +154,7 @@ pub(crate) fn view_picture_of<G: Giver, W: Out, V: Out>(
     ))
 }
 
-/// Writes the page of another tool's text, called as a picture of the file is.
+/// Writes the page of another tool's text, with the title that a picture of the file has.
 pub(crate) fn view_tool_page<G: Giver, W: Out, V: Out>(
     alloc: Global,
     wanted: &Import<'_>,
@@ -172,7 +172,7 @@ pub(crate) fn view_tool_page<G: Giver, W: Out, V: Out>(
     Ok(page_of_drawing(alloc, read.tool, bytes.as_slice(), options, title, out, err))
 }
 
-/// Answers what is asked of another tool's text, which is imported first.
+/// Imports another tool's text, and answers a question about its chart.
 pub(crate) fn view_tool_question<G: Giver, W: Out, V: Out>(
     alloc: Global,
     wanted: &ToolQuestion<'_>,
@@ -198,7 +198,8 @@ pub(crate) fn view_tool_question<G: Giver, W: Out, V: Out>(
     ))
 }
 
-/// Shows the races of another tool's text by name. G1: luck is asked for, of which such a text tells nothing.
+/// Shows the races of another tool's text by name. G1: the words ask for the luck of races, which such a text doesn't
+/// show.
 pub(crate) fn view_races_of<G: Giver, W: Out, V: Out>(
     alloc: Global,
     asked: &Races<'_>,

@@ -1,20 +1,21 @@
-//! All that `mscview` does with a command line, over what gives the bytes of files, and what is written to.
+//! All that `mscview` does with a command line, for any provider of files and any outputs.
 //!
-//! What is promised of [`view_request`], of what a command line asks for: the words and the bytes that are given of
-//! the files decide what is written. Each command does with the bytes what its own crate or module promises
-//! (`specs/Views`): it is the command that is asked for, with the options that the words say, over the files that
-//! they name, each in its place.
+//! What is promised of [`view_request`]: the request, which has the words of a command line, and the bytes of its files
+//! determine the output. Each command does with the bytes what its own crate or module promises (`specs/Views`). The
+//! command is the one of the request. It has the options in the request's words, and reads the files that they name, in
+//! order.
 //!
-//! - The words are looked at first. Where they say nothing that the command could do, they are refused (G1), and no
-//!   file is read.
-//! - Then the files are read, one after another, and the first that can't be given is refused as the giver says.
-//! - What is refused so has written nothing to the output, and its line to standard error, or a beginning of it
-//!   where that failed. The exit status is 2.
+//! - The words are checked first. If they aren't valid, they are refused (G1) before a file is read. Only `--luck` is
+//!   refused later, after the file is read, if the file doesn't show luck.
+//! - Then the files are read, one after another. The first file that can't be read is refused with the cause that the
+//!   [`Giver`] returns.
+//! - Such a refusal writes nothing to the output. It writes its line to standard error, or a beginning of it if that
+//!   fails. The exit status is 2.
 //!
-//! Of [`view`], of the words themselves: what some request asks for was done, or none was made of the words. Which
-//! request it is no contract says, since none says what `clap` reads.
+//! What is promised of [`view`]: it does what some request asks for, or the words form no request. No contract states
+//! which request it is, since none states how `clap` reads the words.
 //!
-//! [`words`] reads what the words behind some options say.
+//! [`words`] reads the values of some options.
 #![tactic(auto)]
 
 mod asking;

@@ -16,7 +16,7 @@ use log_lines::LineRange;
 use log_lines::names::Peer;
 use std::alloc::Global;
 
-/// What the words say of how a log is read.
+/// How a log is read, by the words of a command line.
 #[derive(Drop)]
 pub(crate) struct LogWords<'a> {
     pub form: Form<'a>,
@@ -25,7 +25,7 @@ pub(crate) struct LogWords<'a> {
     pub peers: Vec<PeerWord<'a>>,
 }
 
-/// How the lines of the log are written.
+/// The form of the log's lines.
 fn form_by<'a>(form: LogForm<'a>) -> Form<'a>
     ensures { form_view result ≡ form_of form.entry }
 {
@@ -36,7 +36,7 @@ fn form_by<'a>(form: LogForm<'a>) -> Form<'a>
     }
 }
 
-/// The number of a line, where a word says one. G1: it says none, or 0.
+/// The line number in a word, or the default without a word. G1: the word isn't a number, or is 0.
 fn line_by(word: Option<&str>, default: u64) -> Result<u64, ProgramError>
     ensures { Says (IsLine default (option_map (λ w. w.now) word.entry)) result }
 {
@@ -52,7 +52,7 @@ fn line_by(word: Option<&str>, default: u64) -> Result<u64, ProgramError>
     }
 }
 
-/// The lines that are read. G1: there are none.
+/// The range of lines that are read. G1: a word isn't the number of a line, or the range is empty.
 fn range_by(from: Option<&str>, to: Option<&str>) -> Result<LineRange, ProgramError>
     ensures { Says (AreLines (option_map (λ w. w.now) from.entry) (option_map (λ w. w.now) to.entry)) result }
 {
@@ -64,7 +64,7 @@ fn range_by(from: Option<&str>, to: Option<&str>) -> Result<LineRange, ProgramEr
     Ok(LineRange { first, last })
 }
 
-/// How a log is read. G1: a word says nothing.
+/// How a log is read. G1: a word isn't valid.
 pub(crate) fn log_words<'a>(
     alloc: Global,
     log: &ImportLog<'a>,
@@ -79,7 +79,7 @@ pub(crate) fn log_words<'a>(
     })
 }
 
-/// The hosts that the log calls by other words.
+/// The hosts for which the log has other names.
 pub(crate) fn peers_by<'a>(
     alloc: Global,
     words: &'a LogWords<'_>,
@@ -92,7 +92,7 @@ pub(crate) fn peers_by<'a>(
     }
 }
 
-/// The options of reading a log.
+/// The options for reading a log.
 pub(crate) fn options_of<'a>(words: &'a LogWords<'_>, peers: &'a [Peer<'a>]) -> Options<'a>
     requires { map peer_view peers.now ≡ (log_words_view words.now).peers }
     ensures { options_view result ≡ log_words_view words.now }

@@ -1,4 +1,4 @@
-//! Messages by which races go.
+//! Messages that remove races.
 ghost use Rattle.std.specs.Prelude.{◌≡◌, option_map};
 ghost use Rattle.mscview_requests.specs.Words.Words.{Says};
 ghost use Rattle.mscview_requests.specs.Views.{ViewsMend};
@@ -18,7 +18,7 @@ fn detail_of(verbose: bool) -> Detail
     if verbose { Detail::Full } else { Detail::Brief }
 }
 
-/// How many race pairs are tried, where a word says that. G1: it says no number.
+/// The number of race pairs to try, if a word gives it. G1: the word isn't a number.
 pub(crate) fn limit_by(word: Option<&str>) -> Result<Option<u64>, ProgramError>
     ensures { Says (IsLimit (option_map (λ w. w.now) word.entry)) result }
 {
@@ -31,7 +31,8 @@ pub(crate) fn limit_by(word: Option<&str>) -> Result<Option<u64>, ProgramError>
     }
 }
 
-/// The race that is to go, what the message is called by which it does, and how much is told. G1: a number isn't one.
+/// The race to remove, the name of the message that removes it, and the detail of the output. G1: a word isn't a
+/// number.
 pub(crate) fn wanted_by<'a>(
     name: Option<&'a str>,
     verbose: bool,
@@ -48,7 +49,7 @@ pub(crate) fn wanted_by<'a>(
     })
 }
 
-/// Adds a message by which a race of a file goes, or all by which races become fewer.
+/// Adds a message that removes a race of a file; or messages, as long as each reduces the number of races.
 pub(crate) fn view_mend<G: Giver, W: Out, V: Out>(
     alloc: Global,
     wanted: &Mend<'_>,

@@ -1,5 +1,5 @@
-//! What `why`, `witness` and `mend` are asked of a chart that is imported first: the import writes the chart's text
-//! into memory, and the command answers over that text.
+//! Questions of `why`, `witness` and `mend` about an imported chart. The import writes the chart's text into memory,
+//! and the command reads this text.
 ghost use Rattle.std.specs.Prelude.{◌≡◌, ◌≤◌, length, map, All, IfOk};
 ghost use Rattle.cmd_base.specs.Refusals.{Tried};
 ghost use Rattle.cmd_import_log.specs.Answers.Diagnostics.{diagnostics_text};
@@ -25,18 +25,18 @@ use diagram_tool::Tool;
 use std::alloc::{AllocError, Global};
 use texts::{MemoryOut, Out};
 
-/// What is asked about the races of a chart, with its words read.
+/// A question about the races of a chart, read from the words of a command line.
 #[derive(Drop)]
 pub(crate) enum ReadQuestion<'a> {
-    /// By `why` or `witness`.
+    /// The question of `why` or `witness`.
     Pair(Question, Asked<'a>),
-    /// By `mend`, of one race.
+    /// The question of `mend` about one race.
     Mend(Wanted<'a>),
-    /// By `mend --all`, with how many race pairs are tried, if the words say that.
+    /// The question of `mend --all`, with the number of race pairs to try, if the words give it.
     MendAll(Option<u64>),
 }
 
-/// What `why` or `witness` asks. G1: a number isn't one.
+/// The question of `why` or `witness`. G1: a word isn't a number.
 fn pair_by<'a>(pair: &Pair<'a>) -> Result<ReadQuestion<'a>, ProgramError>
     ensures { Says (IsPairQuestion pair.now) result }
 {
@@ -44,7 +44,7 @@ fn pair_by<'a>(pair: &Pair<'a>) -> Result<ReadQuestion<'a>, ProgramError>
     Ok(ReadQuestion::Pair(pair.question, asked))
 }
 
-/// What `mend` asks. G1: a number isn't one.
+/// The question of `mend`. G1: a word isn't a number.
 fn mend_by<'a>(mend: &Mend<'a>) -> Result<ReadQuestion<'a>, ProgramError>
     ensures { Says (IsMendQuestion mend.now) result }
 {
@@ -67,7 +67,7 @@ fn mend_by<'a>(mend: &Mend<'a>) -> Result<ReadQuestion<'a>, ProgramError>
     }
 }
 
-/// What is asked. G1: a number isn't one.
+/// The question of a command line. G1: a word isn't a number.
 pub(crate) fn question_by<'a>(asked: &RaceQuestion<'a>) -> Result<ReadQuestion<'a>, ProgramError>
     ensures { Says (IsQuestion asked.now) result }
 {
@@ -77,7 +77,7 @@ pub(crate) fn question_by<'a>(asked: &RaceQuestion<'a>) -> Result<ReadQuestion<'
     }
 }
 
-/// Answers what is asked of the text of a chart.
+/// Answers a question about the text of a chart.
 fn answer<W: Out, V: Out>(
     alloc: Global,
     question: &ReadQuestion<'_>,
@@ -106,7 +106,7 @@ fn text_of(alloc: Global, names: &Names, chart: &Chart) -> Result<Vec<u8>, Alloc
     }
 }
 
-/// Answers what is asked of the chart that an import writes of another tool's text, behind what the import tells.
+/// Answers a question about the chart of another tool's text, after the import has printed its warnings.
 pub(crate) fn answer_of_diagram<W: Out, V: Out>(
     alloc: Global,
     question: &ReadQuestion<'_>,
@@ -130,7 +130,7 @@ pub(crate) fn answer_of_diagram<W: Out, V: Out>(
     answer(alloc, question, &text, out, err)
 }
 
-/// Tells what an import tells of a log's chart.
+/// Prints the warnings of the import of a log.
 fn print_log_diagnostics<V: Out>(files: &[&[u8]], told: &Diagnostics, err: &mut V)
     requires { All (λ e. e.instance ≤ length told.now.names) told.now.invented.items }
     ensures { Tried V.sink err.old err.new (diagnostics_text (map (λ file. file.now) files.now) told.now) }
@@ -138,8 +138,8 @@ fn print_log_diagnostics<V: Out>(files: &[&[u8]], told: &Diagnostics, err: &mut 
     let _ = write_diagnostics(files, told, err);
 }
 
-/// Answers what is asked of the chart that an import writes of a log, behind what the import tells. F52: the log has
-/// one end of each message, so it shows no race.
+/// Answers a question about the chart of a log, after the import has printed its warnings. F52: the log has one end of
+/// each message, so it shows no race.
 pub(crate) fn answer_of_log<W: Out, V: Out>(
     alloc: Global,
     question: &ReadQuestion<'_>,

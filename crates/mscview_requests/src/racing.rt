@@ -19,7 +19,7 @@ fn form_of(json: bool) -> Form
     if json { Form::Json } else { Form::Plain }
 }
 
-/// Which races are to be shown, and how.
+/// The races to show, and their form.
 pub(crate) fn wanted_by<'a>(showing: &Showing<'a>) -> Wanted<'a>
     ensures { AreRaces showing.now result }
 {
@@ -31,8 +31,8 @@ pub(crate) fn wanted_by<'a>(showing: &Showing<'a>) -> Wanted<'a>
     }
 }
 
-/// Shows the races of a chart or of a schedule: where luck is asked for, those that were luck. G1: luck is asked for of
-/// a chart, which tells nothing of it.
+/// Shows the races of a chart or of a schedule, or only those that were luck if the words ask for these. G1: the words
+/// ask for the luck of a chart's races, which its text doesn't show.
 fn answer_races<W: Out, V: Out>(
     alloc: Global,
     luck: bool,
@@ -84,7 +84,7 @@ fn view_file_races<G: Giver, W: Out, V: Out>(
     Ok(answer_strictly(alloc, asked, bytes.as_slice(), &wanted, out, err))
 }
 
-/// Shows the races of a file by name, which may be another tool's text.
+/// Shows the races of a file by name. The file may be another tool's text.
 pub(crate) fn view_races<G: Giver, W: Out, V: Out>(
     alloc: Global,
     asked: &Races<'_>,

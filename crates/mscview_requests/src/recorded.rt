@@ -1,4 +1,4 @@
-//! Logs: the charts that they say, and the races and pages of these.
+//! Logs: their charts, and the races and pages of these charts.
 ghost use Rattle.std.specs.Prelude.{◌≡◌, ◌∷◌, [], map, option_map, IfOk, Some};
 ghost use Rattle.mscview_requests.specs.FileBytes.{bytes_of};
 ghost use Rattle.mscview_requests.specs.Given.{file_named, files_named, diagnostic_files, AreAnswered};
@@ -21,7 +21,7 @@ use cmd_races::logs::races_of_log;
 use std::alloc::{AllocError, Global};
 use texts::Out;
 
-/// The bytes of several files, one after another.
+/// The bytes of several files, in order.
 fn all_in<'a, G: Giver>(
     alloc: Global,
     giver: &'a G,
@@ -39,7 +39,7 @@ fn all_in<'a, G: Giver>(
     Ok(texts)
 }
 
-/// The bytes of one file, or of standard input where there is none or it is `-`.
+/// The bytes of one file. Without a file, or if it is `-`, these are the bytes of standard input.
 fn one_in<'a, G: Giver>(
     alloc: Global,
     giver: &'a G,
@@ -55,7 +55,7 @@ fn one_in<'a, G: Giver>(
     Ok(texts)
 }
 
-/// The bytes of the files: of one, or of standard input where there is none or it is `-`, or of several.
+/// The bytes of the files. Without a file, or if the only one is `-`, these are the bytes of standard input.
 fn texts_in<'a, G: Giver>(
     alloc: Global,
     giver: &'a G,
@@ -72,7 +72,7 @@ fn texts_in<'a, G: Giver>(
     }
 }
 
-/// The names of several files, by which their lines are told; of one none.
+/// The names that diagnostics print with the lines of several files. For one file the list is empty.
 fn diagnostic_files<'a>(alloc: Global, files: &[&'a str]) -> Result<Vec<&'a [u8]>, AllocError>
     ensures { IfOk result (λ names. map (λ w. w.now) names.items ≡ diagnostic_files (map (λ w. w.now) files.now)) }
 {
@@ -89,15 +89,15 @@ fn slices_of<'a>(alloc: Global, texts: &'a [FileBytes<'_>]) -> Result<Vec<&'a [u
     texts.iter().map(|text| text.as_slice()).collect(alloc)
 }
 
-/// A log that was opened: what the words say of how it is read, the bytes of its files, and the names by which the
-/// lines of several files are told.
+/// An opened log: how it is read, the bytes of its files, and the names that diagnostics print with the lines of
+/// several files.
 struct OpenLog<'a> {
     words: LogWords<'a>,
     texts: Vec<FileBytes<'a>>,
     names: Vec<&'a [u8]>,
 }
 
-// (by hand, so that each exit of a function that holds one calls this, and has no proof of its own for what lies within)
+// (written by hand: each exit of a function that holds an `OpenLog` calls this, and needs no proof for its fields)
 impl Drop for OpenLog<'_> {
     #[inline(never)]
     fn drop(self) {
@@ -148,7 +148,7 @@ pub(crate) fn view_log<G: Giver, W: Out, V: Out>(
     Ok(import(alloc, options, &slices, &log.names, out, err))
 }
 
-/// The title that a log gives: the name of its first file alone, and of standard input none.
+/// The title of a log: the name of its first file without the folder. Standard input has an empty title.
 fn log_title<'a>(files: &[&'a str]) -> &'a [u8]
     ensures { IsNameOf (titled_path (first_path (map (λ w. w.now) files.now))) result.now }
 {
@@ -158,7 +158,7 @@ fn log_title<'a>(files: &[&'a str]) -> &'a [u8]
     }
 }
 
-/// Writes the page of a log, called as a picture of its first file is.
+/// Writes the page of a log, with the title that a picture of its first file has.
 pub(crate) fn view_log_page<G: Giver, W: Out, V: Out>(
     alloc: Global,
     wanted: &ImportLog<'_>,
@@ -178,7 +178,7 @@ pub(crate) fn view_log_page<G: Giver, W: Out, V: Out>(
     Ok(page_of_log(alloc, options, &slices, &log.names, title, out, err))
 }
 
-/// Which races of a log are to be shown, and how.
+/// The races of a log to show, and their form.
 fn judged_by<'a>(showing: &Showing<'a>) -> LuckWanted<'a>
     ensures { AreJudged showing.now result }
 {
@@ -208,7 +208,7 @@ pub(crate) fn view_log_races<G: Giver, W: Out, V: Out>(
     Ok(races_of_log(alloc, options, &slices, &log.names, &wanted, out, err))
 }
 
-/// Answers what is asked of a log, which is imported first.
+/// Imports a log, and answers a question about its chart.
 pub(crate) fn view_log_question<G: Giver, W: Out, V: Out>(
     alloc: Global,
     wanted: &LogQuestion<'_>,

@@ -1,11 +1,11 @@
-//! What is refused of a command line.
+//! The refusals of a command line.
 ghost use Rattle.std.specs.Prelude.{◌≡◌};
 ghost use Rattle.mscview_requests.specs.Lines.{refusal_of, RefusesWords};
 
 use cli::CommandLineError;
 use cmd_base::ProgramError;
 
-/// The refusal of a command line, as one of the program.
+/// Converts the refusal of a command line to one of the program.
 pub fn refusal(error: CommandLineError) -> ProgramError
     ensures value { result ≡ refusal_of error }
     ensures words { RefusesWords result }

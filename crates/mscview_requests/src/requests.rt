@@ -1,4 +1,4 @@
-//! What comes of a command line.
+//! Runs the command of a request.
 ghost use Rattle.mscview_requests.specs.Views.{Comes, Views, ViewsSome, stream};
 
 use crate::asking::{view_comparison, view_pair};
@@ -17,7 +17,7 @@ use std::alloc::Global;
 use std::convert::AsStr;
 use texts::Out;
 
-/// Does what is asked for, and answers the exit status.
+/// Does what the request asks for, and returns the exit status.
 fn come<G: Giver, W: Out, V: Out>(
     alloc: Global,
     request: &Request<'_>,
@@ -48,9 +48,9 @@ fn come<G: Giver, W: Out, V: Out>(
     }
 }
 
-/// Does what a command line asks for, with the files that the giver gives, and answers the exit status: that of the
-/// command, or 2 where a word (G1) or a file is refused. Then nothing is written to `out`, and the refusal's line to
-/// `err`. A failed write to `err` changes nothing.
+/// Does what a request asks for, with the files that the giver provides. Returns the exit status: that of the command,
+/// or 2 if a word (G1) or a file is refused. Such a refusal writes nothing to `out`, and its line to `err`. A failed
+/// write to `err` changes nothing.
 pub fn view_request<G: Giver, W: Out, V: Out>(
     alloc: Global,
     request: &Request<'_>,
@@ -67,8 +67,8 @@ pub fn view_request<G: Giver, W: Out, V: Out>(
     }
 }
 
-/// Does what the words of a command line ask for, of which the first is the program's name, as [`view_request`] does
-/// it. G1: they ask for nothing. F6: memory ran out while they were read.
+/// Does what the words of a command line ask for, as [`view_request`] does. The first word is the program's name. G1:
+/// the words form no request. F6: memory ran out while they were read.
 pub fn view<S: AsStr, G: Giver, W: Out, V: Out>(
     alloc: Global,
     words: &[S],

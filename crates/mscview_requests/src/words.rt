@@ -1,8 +1,8 @@
-//! What the words behind some options of `mscview` say: names that commas join, the lines that are one instance,
-//! the hosts that a log calls by other words.
+//! The values of some options of `mscview`: names joined by commas, the lines of one instance, and a host's other names
+//! in the log.
 //!
-//! What is promised: what a word says is a definition of this word (`specs/Words/`), or it says nothing (G1), unless
-//! memory ran out (F6).
+//! What is promised: the meaning of a word is the one in the definitions (`specs/Words/`). A word without a meaning
+//! there is refused (G1). F6: memory ran out.
 
 mod hosts;
 mod joins;

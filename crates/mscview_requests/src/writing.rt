@@ -1,4 +1,4 @@
-//! Files of which there is nothing to say but what they are, what is typed in them, and what a page of them has.
+//! Commands for whole files: `explain`, `tidy` and `page`.
 ghost use Rattle.std.specs.Prelude.{option_map};
 ghost use Rattle.cmd_page.specs.Showing.{titled};
 ghost use Rattle.mscview_requests.specs.Views.{DoesStrictly, WritesPage, ViewsPage, ViewsTidy, ViewsExplanation};
@@ -13,7 +13,7 @@ use cmd_tidy::tidy;
 use std::alloc::Global;
 use texts::Out;
 
-/// Writes the page of a file, unless `--strict` refuses it.
+/// Writes the page of a file, unless `--strict` refuses the file.
 fn answer_strictly<W: Out, V: Out>(
     alloc: Global,
     is_strict: bool,
@@ -31,7 +31,7 @@ fn answer_strictly<W: Out, V: Out>(
     }
 }
 
-/// Writes the page of a file, called as a picture of it is.
+/// Writes the page of a file, with the title that a picture of the file has.
 pub(crate) fn view_page<G: Giver, W: Out, V: Out>(
     alloc: Global,
     page: &Page<'_>,
@@ -46,7 +46,7 @@ pub(crate) fn view_page<G: Giver, W: Out, V: Out>(
     Ok(answer_strictly(alloc, page.strict, bytes.as_slice(), title, out, err))
 }
 
-/// Writes what is typed in a file as an exact text.
+/// Writes the exact text of a typed file.
 pub(crate) fn view_tidy<G: Giver, W: Out, V: Out>(
     alloc: Global,
     file: Option<&str>,
@@ -61,7 +61,7 @@ pub(crate) fn view_tidy<G: Giver, W: Out, V: Out>(
     Ok(tidy(alloc, bytes.as_slice(), out, err))
 }
 
-/// Tells what a file is, and its first fault.
+/// Reports what a file is, and its first fault.
 pub(crate) fn view_explanation<G: Giver, W: Out, V: Out>(
     alloc: Global,
     file: Option<&str>,

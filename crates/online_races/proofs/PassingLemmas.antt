@@ -1,4 +1,4 @@
--- The races of a line that are found so far, one step further back.
+-- The races of a line found so far, one step further back.
 use Rattle.std.proofs.Common.{◌≡◌, ℕ, zero, suc, ◌-◌, ◌<◌, ◌≤◌, ◌⊎◌, inl, inr, not, ◌==◌, ◌+◌, Bool, true, false, List, [], ◌∷◌, ◌++◌, length, reverse, get_or, take, map, All, AllPairs, Contains, Some, refl, sym, ap, ◌∙◌, subst, arith}
 use Rattle.std.proofs.lemmas.Bool.{cases_lt, cases_eq, false≢true, false_from_ne_true, eqb-true, eq-eqb}
 use Rattle.std.proofs.lemmas.List.Elements.{Contains-get_or, All-cons, All-nil, All-append}
@@ -18,7 +18,7 @@ use Rattle.chart.specs.Order.{AreLineRaces}
 use Rattle.chart.proofs.Tally.{ith_within, ith-take, ith_from_take}
 use Rattle.online_races.specs.Passing.{IsCandidate, ArePassed, AreRaces, AreFound, HasFound}
 
--- a head that is below each of a rising list makes a rising list
+-- a head below each element of a rising list makes a rising list
 AllPairs-cons : (x : ℕ) (xs : List ℕ) → AllPairs (λ i j. i < j) xs → ((j : ℕ) → Contains xs j → x < j) → AllPairs (λ i j. i < j) (x ∷ xs)
 AllPairs-cons x xs rising below zero zero d less within = absurd (omega arith)
 AllPairs-cons x xs rising below zero (suc j) d less within = below (get_or xs j d) (Contains-get_or xs j d (omega arith))
@@ -30,7 +30,7 @@ Contains-cons_cases : (x : ℕ) (xs : List ℕ) (j : ℕ) → Contains (x ∷ xs
 Contains-cons_cases x xs j (zero, within, same) = inl same
 Contains-cons_cases x xs j (suc k, within, same) = inr (k, omega arith, same)
 
--- one of the rest is one of the whole
+-- an element of the rest is one of the whole list
 Contains-cons : (x : ℕ) (xs : List ℕ) (j : ℕ) → Contains xs j → Contains (x ∷ xs) j
 Contains-cons x xs j (k, within, same) = (suc k, omega arith, same)
 
@@ -41,7 +41,7 @@ AreFound-end line entry q region = record {
   exact = λ j. (λ here. absurd (omega (arith, here.1)), λ w. let v = ith_within line j w.2.0 w.2.1 in absurd (omega (arith, v.1)));
 }
 
--- what is passed adds nothing
+-- passed events add nothing
 pub AreFound-passed : (line : List Event) (start last entry q region : ℕ) (xs : List ℕ) → ArePassed line start last q region → AreFound line last entry q region xs → AreFound line start entry q region xs
 AreFound-passed line start last entry q region xs passed found = record {
   rising = found.rising;
@@ -57,7 +57,7 @@ AreFound-passed line start last entry q region xs passed found = record {
   );
 }
 
--- a race is the first of those that are found
+-- a race becomes the first of the found ones
 pub AreFound-race : (line : List Event) (index entry q region : ℕ) (xs : List ℕ) → entry < index → IsCandidate line q region index → AreFound line index entry q region xs → AreFound line (index - 1) entry q region (index ∷ xs)
 AreFound-race line index entry q region xs above race found = record {
   rising = AllPairs-cons index xs found.rising (λ j here. ((found.exact j).0 here).0);
@@ -73,7 +73,7 @@ AreFound-race line index entry q region xs above race found = record {
   );
 }
 
--- where all after the entry is passed, the races are found
+-- if all events after the entry were passed, all races are found
 pub AreLineRaces-found : (line : List Event) (start entry q region : ℕ) (xs : List ℕ) → start ≤ entry → AreFound line start entry q region xs → AreLineRaces line entry q region xs
 AreLineRaces-found line start entry q region xs done found = record {
   rising = found.rising;
@@ -93,7 +93,7 @@ HasFound-end line end entry q region within short = record {
   own = All-nil (λ other. other.instance ≡ line.instance);
 }
 
--- what holds of an event of the line holds of it among the first events
+-- what holds for an event of the line holds for it among the first events
 IsCandidate-front : (line : List Event) (end q region index : ℕ) → index ≤ end → IsCandidate line q region index → IsCandidate (take end line) q region index
 IsCandidate-front line end q region index within (m, is, other, outside) = (m, ith-take end line index within ∙ is, other, outside)
 
@@ -103,7 +103,7 @@ ArePassed-front line end start last q region passed = record {
   each = λ j m low high is. passed.each j m low high (ith_from_take end line j m is).1;
 }
 
--- it goes on ahead of what is passed
+-- the search goes on before the passed events
 pub HasFound-passed : (line : LineView) (end start index entry q region : ℕ) (found : List EventNo) → ArePassed line.events start index q region → HasFound line end index entry q region found → HasFound line end start entry q region found
 HasFound-passed line end start index entry q region found passed old = record {
   within = omega (arith, passed.less, old.within);
@@ -119,7 +119,7 @@ AreRaces-front line end start last q region within races = record {
   each = λ j low high. IsCandidate-front line end q region j (omega (arith, high, within)) (races.each j low high);
 }
 
--- some races are the first of those that are found
+-- some races become the first of the found ones
 AreFound-races : (line : List Event) (p entry q region n start : ℕ) (found : List EventNo) → entry ≤ start → ((j : ℕ) → start < j → j ≤ start + n → IsCandidate line q region j) → AreFound line (start + n) entry q region (map (λ race. race.index) found)
     → AreFound line start entry q region (map (λ race. race.index) (events_from p (start + 1) n ++ found))
 AreFound-races line p entry q region zero start found after races old =
@@ -137,7 +137,7 @@ All-events_from : (p i n : ℕ) → All (λ (e : EventNo). e.instance ≡ p) (ev
 All-events_from p i zero = All-nil (λ (e : EventNo). e.instance ≡ p)
 All-events_from p i (suc n) = All-cons (λ (e : EventNo). e.instance ≡ p) (record { instance = p; index = i }) (events_from p (i + 1) n) refl (All-events_from p (i + 1) n)
 
--- it goes on ahead of some races, which it keeps as far as they are later than the entry
+-- the search goes on before some races, and keeps those later than the entry
 pub HasFound-races : (line : LineView) (end start last earlier entry q region : ℕ) (found : List EventNo) → AreRaces line.events start last q region → start ≤ earlier → entry ≤ earlier → earlier < last → HasFound line end last entry q region found
     → HasFound line end earlier entry q region (events_from line.instance (earlier + 1) (last - earlier) ++ found)
 HasFound-races line end start last earlier entry q region found races low after less old =
@@ -152,14 +152,14 @@ HasFound-races line end start last earlier entry q region found races low after 
       own = All-append (λ (e : EventNo). e.instance ≡ line.instance) (events_from line.instance (earlier + 1) (last - earlier)) found (All-events_from line.instance (earlier + 1) (last - earlier)) old.own;
     }
 
--- what was read at a place counted from 0 stands at it
+-- the element read at a place counted from 0 is at this place
 pub ith_read : {X : Type 0} (xs : List X) (j : ℕ) (x : X) → 1 ≤ j → j ≤ length xs → x ≡ get_or xs (j - 1) x → ith xs j ≡ Some x
 ith_read xs zero x low high is = absurd (omega arith)
 ith_read xs (suc i) x low high is =
     let e : suc i - 1 ≡ i = omega arith in
     slice_get_read xs (length xs) i x refl (omega arith) (subst (λ k. x ≡ get_or xs k x) e is)
 
--- a run of receives from another one are all races of a receive that is in no coregion
+-- the receives of a run from another sender are all races of a receive in no coregion
 pub AreRaces-run : (line : List Event) (start last q from region : ℕ) → IsRun (is_receive_from from) line start last → last ≤ length line → (from ≡ q → ⊥) → region ≡ 0 → AreRaces line start last q region
 AreRaces-run line start last q from region run within other outside = record {
   less = run.begun;
@@ -189,13 +189,13 @@ AreRaces-receive line start index q region from c name m low within read is kept
     let same : n ≡ m = same_Some n m (sym at_n ∙ here) in
     AreRaces-run line start index q from region (kept.run from m here pass) within (λ e. false≢true (sym (subst (λ x. is_receive_from q x ≡ false) (same ∙ is) other) ∙ eq-eqb from q e)) none
 
--- an event that is asked for what it is
+-- an event whose kind is tested
 AreRaces-kind : (line : List Event) (start index q region : ℕ) (m : Event) → 1 ≤ index → index ≤ length line → m ≡ get_or line (index - 1) m → is_receive m ≡ true
     → IsStartOfRun is_receive_from line index start → IsCandidate line q region index → region ≡ 0 → AreRaces line start index q region
 AreRaces-kind line start index q region (Send to name) low within read is kept race none = absurd (false≢true is)
 AreRaces-kind line start index q region (Receive from name c) low within read is kept race none = AreRaces-receive line start index q region from c name (Receive from name c) low within read refl kept race none
 
--- the event at an index, whatever stands for none
+-- the event at an index, or any event if there is none
 pub at_index : (line : List Event) → ℕ → Event
 at_index line index = get_or line (index - 1) (send_event 0 [])
 
@@ -209,7 +209,7 @@ AreRaces-asked line start index q region b low within asked passing kept race no
     let read = index_read line index low within in
     AreRaces-kind line start index q region (at_index line index) low within read (sym (asked (at_index line index) read) ∙ passing) kept race none
 
--- an event that is asked whether it is in the region, and then whether it is from the sender
+-- an event that is tested for the region, and then for the sender
 pub ArePassed-in : (line : List Event) (start index q region : ℕ) (b : Bool) → 1 ≤ index → index ≤ length line → ((m : Event) → m ≡ get_or line (index - 1) m → b ≡ is_in region m) → b ≡ true
     → IsStartOfRun is_in line index start → ArePassed line start index q region
 ArePassed-in line start index q region b low within asked passing kept =
@@ -237,7 +237,7 @@ IsCandidate-asked line index q region b c low within in_it not_in from_it not_fr
 pub AreLineRaces-done : (line : LineView) (end index entry q region : ℕ) (found : List EventNo) → index ≤ entry → HasFound line end index entry q region found → AreLineRaces (take end line.events) entry q region (map (λ race. race.index) found)
 AreLineRaces-done line end index entry q region found done has = AreLineRaces-found (take end line.events) index entry q region _ done has.races
 
--- where there are no races, none are met
+-- if there are no races, none are found on the way
 pub none_met : (line : LineView) (end index entry q region : ℕ) (races : EventRange) (found : List EventNo) → AreLineRaces (take end line.events) entry q region [] → 0 < races.count → HasFound line end index entry q region (events_of races ++ found) → ⊥
 none_met line end index entry q region races found none some has = by races.first.instance races.first.index races.count some has
   where
@@ -247,12 +247,12 @@ none_met line end index entry q region races found none some has = by races.firs
         let race = (has.races.exact i).0 (0, omega arith, refl) in
         let here = (none.exact i).1 (race.1, race.2) in omega (arith, here.1)
 
--- there is one list of races where there are none
+-- only one list has the races if there are none
 pub none_found : (line : List Event) (entry q region : ℕ) (found : List EventNo) → AreLineRaces line entry q region [] → AreLineRaces line entry q region (map (λ race. race.index) found) → found ≡ []
 none_found line entry q region [] none races = refl
 none_found line entry q region (race ∷ found) none races =
     let here = (none.exact race.index).1 ((races.exact race.index).0 (0, omega arith, refl)) in absurd (omega (arith, here.1))
 
--- ranges that stand the other way round, the last range first, and one more
+-- ranges in the opposite order, the last range first, with one more
 pub events_in-pushed : (ranges now : List EventRange) (r : EventRange) → now ≡ ranges ++ r ∷ [] → events_in (reverse now) ≡ events_of r ++ events_in (reverse ranges)
 events_in-pushed ranges now r is = ap (λ xs. events_in (reverse xs)) is ∙ ap events_in (reverse-append ranges (r ∷ []))

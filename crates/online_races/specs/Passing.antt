@@ -1,5 +1,5 @@
--- How the events of a line are passed, from its end on back, in search of races (Alur, Holzmann and Peled 1996; which
--- events are no races is this project's profile).
+-- How the events of a line are passed, from its end backwards, in search of races (Alur, Holzmann and Peled 1996; which
+-- events are no races: this project's profile).
 use Rattle.std.specs.Prelude.{◌≡◌, ℕ, ◌<◌, ◌≤◌, ◌↔◌, ◌⊎◌, true, false, List, length, take, map, All, AllPairs, Contains, Some}
 use Rattle.chart.specs.Words.{Indices}
 use Rattle.chart.specs.declared.event.Event.{Event}
@@ -25,17 +25,17 @@ pub record AreRaces (line : List Event) (start last q region : ℕ) : Type 0 whe
   pub less : start < last
   pub each : (j : ℕ) → start < j → j ≤ last → IsCandidate line q region j
 
--- what is said of the neighbouring events that end at index
+-- the kind of the neighbouring events that end at index
 abbrev pub IsStretch : List Event → ℕ → ℕ → ℕ → Stretch → Type 0
 IsStretch line q region index (Passed start) = ArePassed line start index q region
 IsStretch line q region index (Races start) = AreRaces line start index q region
 
--- rising, the races later than the entry among the events after the first `start` ones
+-- the races later than the entry among the events after the first `start` ones, in rising order
 pub record AreFound (line : List Event) (start entry q region : ℕ) (races : Indices) : Type 0 where
   pub rising : AllPairs (λ i j. i < j) races
   pub exact : (j : ℕ) → Contains races j ↔ ((start < j) × (entry < j) × IsCandidate line q region j)
 
--- what the search among the first events of a line keeps: where it is, and what it found
+-- the state of the search among the first events of a line: where it is, and what it found
 pub record HasFound (line : LineView) (end index entry q region : ℕ) (found : List EventNo) : Type 0 where
   pub within : index ≤ end
   pub inside : end ≤ length line.events

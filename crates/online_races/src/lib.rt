@@ -1,8 +1,8 @@
 //! The races of a receive, found as it comes (the races of Alur, Holzmann, Peled 1996, in this project's profile).
 //!
-//! What is promised: the answer has exactly those events of the line that the receive's send doesn't know, but for
-//! receives from the same sender and receives of the receive's own coregion, in increasing order. Where there are
-//! none, the call isn't refused.
+//! The answer has exactly those events of the line that the receive's send doesn't know, in increasing order. Receives
+//! from the same sender, and receives of the receive's own coregion, are no races. If there are no races, the call
+//! isn't refused.
 #![tactic(auto)]
 
 ghost use Rattle.std.specs.Prelude.{◌≡◌, ℕ, ◌-◌, ◌<◌, ◌≤◌, List, [], ◌++◌, length, map, take, vec_capacity, All};
@@ -15,7 +15,7 @@ ghost use Rattle.online_races.specs.Passing.{IsCandidate, AreRaces, IsStretch, H
 use chart::{EventNo, EventRange, EventRanges, GrowingLine, InstanceNo, Line, RangesBuilder};
 use std::alloc::{AllocError, Global};
 
-/// Neighbouring events of a line that end with one event: all but the first so many, up to it.
+/// Neighbouring events of a line up to some event: those after the first `start` ones.
 enum Stretch {
     /// Receives of the coregion, or receives from the sender.
     Passed { start: usize },
@@ -23,8 +23,8 @@ enum Stretch {
     Races { start: usize },
 }
 
-/// How many events the line has ahead of a run of races that ends with this event: the neighbouring receives from its
-/// sender, where the receive that comes is in no coregion.
+/// How many events the line has before a run of races that ends with this event. If the new receive is in no coregion,
+/// the run has the neighbouring receives from the same sender.
 #[inline(always)]
 fn races_start(line: &GrowingLine, index: usize, region: u32) -> usize
     requires begun { 1 ≤ index }
@@ -40,7 +40,7 @@ fn races_start(line: &GrowingLine, index: usize, region: u32) -> usize
     index - 1
 }
 
-/// What the events are that end with the one of this index.
+/// The kind of the neighbouring events that end with the one at this index.
 #[inline(always)]
 fn stretch_to(line: &GrowingLine, index: usize, sender: InstanceNo, region: u32) -> Stretch
     requires begun { 1 ≤ index }
@@ -62,11 +62,10 @@ fn stretch_to(line: &GrowingLine, index: usize, sender: InstanceNo, region: u32)
     }
 }
 
-/// The last neighbouring races among the first events of the line, as many as `index` says, as far as they are later
-/// than the entry.
+/// The last neighbouring races among the first `index` events of the line, as far as they are later than the entry.
 ///
-/// A run of receives from the sender and the coregion are each passed in one step, and so is a run of receives from
-/// another one, unless the receive that comes is in a coregion.
+/// A run of receives from the sender is passed in one step, and so is the coregion. A run of receives from another
+/// sender is found in one step too, unless the new receive is in a coregion.
 #[inline(always)]
 fn last_races(
     line: &GrowingLine,
@@ -105,11 +104,11 @@ fn last_races(
     None
 }
 
-/// Of the first events of the line, as many as `end` says, those later than the entry that are neither receives from
-/// the sender nor, where the region isn't 0, receives of it: the races of a receive that comes next, from this sender
-/// and in this region, if the entry is what its send knows of the line. What comes later on the line doesn't matter.
+/// The races of a new receive from this sender and in this region, if the entry is what its send knows of the line.
+/// They are those of the first `end` events of the line that are later than the entry and aren't receives from the
+/// sender. If the region isn't 0, receives in it are no races either. Later events of the line don't matter.
 ///
-/// F6: it fails only where there is no memory, and where there are no races it needs none.
+/// F6: it fails only if there is no memory, and it needs none if there are no races.
 #[inline(always)]
 pub fn race_ranges(
     alloc: Global,
@@ -132,9 +131,9 @@ pub fn race_ranges(
     }
 }
 
-/// The races of which these are the last neighbours.
+/// All races, from their last neighbours.
 ///
-/// F6: it fails only where there is no memory.
+/// F6: it fails only if there is no memory.
 #[inline(always)]
 fn races_up_to(
     alloc: Global,
@@ -164,8 +163,8 @@ fn races_up_to(
     Ok(found.finish())
 }
 
-/// Puts the ranges of the same races in place of those in the list, the first of the line first. Neighbouring races may
-/// be in several ranges.
+/// Replaces the ranges in the list by those of the same races, in the order of the line. Neighbouring races may be in
+/// several ranges.
 ///
 /// The list has places for as many ranges as a line has events, so no memory is needed.
 pub fn find_races(
@@ -194,10 +193,11 @@ pub fn find_races(
     found.as_mut_slice().reverse();
 }
 
-/// The events of the line later than the entry that are neither receives from the sender nor, where the region isn't 0,
-/// receives of it: what [`race_ranges`] answers for the whole line, as it grows. They rise by their index.
+/// The events of the line that are later than the entry and aren't receives from the sender. If the region isn't 0,
+/// they aren't receives in it either. This is what [`race_ranges`] returns for the whole line, as it grows. The events
+/// rise by their index.
 ///
-/// F6: it fails only where there is no memory, and where there are no races it needs none.
+/// F6: it fails only if there is no memory, and it needs none if there are no races.
 #[inline(always)]
 pub fn next_races(
     alloc: Global,
@@ -216,7 +216,7 @@ pub fn next_races(
 
 /// The same events of a line, one by one.
 ///
-/// F6: it fails only where there is no memory, and where there are no races it needs none.
+/// F6: it fails only if there is no memory, and it needs none if there are no races.
 pub fn races(
     alloc: Global,
     line: &Line,

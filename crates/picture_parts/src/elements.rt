@@ -1,8 +1,8 @@
-//! The elements of a picture as SVG text: arrows, labels, lifelines, marks, what the marks mean, and what
-//! stands round them.
+//! The elements of a picture as SVG text: arrows, labels, lifelines, marks and their meanings, and the frame around
+//! them.
 //!
-//! What is promised: each call adds exactly the text that its contract gives; where a put fails (F24), a beginning
-//! of it was put. Nothing here takes memory.
+//! What is promised: each call adds exactly the text that its contract states. If a put fails (F24), a beginning of it
+//! was put. Nothing here takes memory.
 
 mod elements;
 mod frame;

@@ -1,4 +1,4 @@
-//! The parts of a picture: where its columns stand, and the elements of its text.
+//! The parts of a picture: the places of its columns, and the elements of its text.
 #![tactic(auto)]
 
 pub mod columns;

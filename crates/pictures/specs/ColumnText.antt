@@ -13,17 +13,17 @@ use Rattle.picture_parts.specs.Elements.Elements.{segment, head_box, name_lines,
 use Rattle.pictures.specs.Pictures.{PictureView, cell_of}
 use Rattle.pictures.specs.Spots.{height}
 
--- where a part of a lifeline ends before an event, below so many rows, that isn't in its coregion: above that event, or below the coregion's
--- last one
+-- where a part of a lifeline ends, before an event of another coregion with `place` rows above it: above that event, or
+-- below the last event of the lifeline's coregion
 abbrev pub cut : Life → ℕ → ℕ
 cut life place = if life.region == 0 then place * 24 + 72 else life.place * 24 + 96
 
--- the part of a lifeline that ends before an event of the coregion c, if the event is drawn and a part does
+-- the part of a lifeline that ends before an event of coregion c, if the event is drawn and a part ends there
 abbrev pub part : ℕ → Life → Option ℕ → ℕ → List ℕ
 part x life None c = []
 part x life (Some place) c = if c == life.region then [] else segment life.region x life.start (cut life place)
 
--- how far it is drawn then
+-- the state of the lifeline below the event
 abbrev pub next_life : Life → Option ℕ → ℕ → Life
 next_life life None c = life
 next_life life (Some place) c = record {
@@ -32,29 +32,29 @@ next_life life (Some place) c = record {
   place = place;
 }
 
--- the last part of a lifeline, down to this height
+-- the last part of a lifeline, down to `bottom`
 unfoldable pub life_end : ℕ → Life → ℕ → List ℕ
 life_end x life bottom =
     if life.region == 0
     then segment 0 x life.start bottom
     else (segment life.region x life.start (life.place * 24 + 96) ++ segment 0 x (life.place * 24 + 96) bottom)
 
--- how many rows are drawn above an event that is drawn
+-- the number of rows that are drawn above an event, if the event is drawn
 abbrev pub place_drawn : PictureView → EventNo → Option ℕ
 place_drawn v e = option_map (λ cell. cell.place) (cell_of v e)
 
--- the rest of the lifeline of p at x, with these events, the first of which is the i-th
+-- the rest of p's lifeline at x, with these events, the first of which is the i-th
 abbrev pub life_text : PictureView → ℕ → ℕ → ℕ → Life → List Event → List ℕ
 life_text v p x i life [] = life_end x life (height v.count)
 life_text v p x i life (m ∷ line) =
     part x life (place_drawn v (record { instance = p; index = i })) (region_of m)
     ++ life_text v p x (i + 1) (next_life life (place_drawn v (record { instance = p; index = i })) (region_of m)) line
 
--- the lifeline of p at x, with these events: dashed where a coregion is
+-- p's lifeline at x, with these events; it is dashed along a coregion
 abbrev pub lifeline : PictureView → ℕ → ℕ → List Event → List ℕ
 lifeline v p x line = life_text v p x 1 (record { region = 0; start = 52; place = 0 }) line
 
--- where the lower line of an instance's name is
+-- the y coordinate of the lower line of an instance's name, by the number of bytes on its upper line
 abbrev pub name_height : ℕ → ℕ
 name_height upper = if upper == 0 then 42 else 47
 

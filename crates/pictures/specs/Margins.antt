@@ -1,5 +1,5 @@
--- The margin of a picture: texts on the right of its columns, each at the row of the first message that is sent below it, or
--- below the last row, and dashed lines that part the rows (this project's profile).
+-- The margin of a picture (this project's profile): texts on the right of its columns, and dashed lines that divide the
+-- rows. Each text is at the row of the first message that is sent below it, or below the last row.
 use Rattle.std.specs.Prelude.{ℕ, ◌+◌, ◌-◌, ◌*◌, ◌/◌, ◌^◌, min, max, Bool, true, false, ◌==◌, List, [], ◌++◌, length, fold, codes, decimal, Option, None, Some, slice_get, if◌then◌else◌}
 use Rattle.chart.specs.declared.event.Event.{Event}
 use Rattle.chart.specs.declared.event.Event.TheVariants.{Send, Receive}
@@ -23,23 +23,23 @@ abbrev pub has_send : List LineView → Row → Bool
 has_send lines (variants.Message s r) = true
 has_send lines (variants.Event e) = is_send (chart_event (chart_lines lines) (place_of e))
 
--- so many characters in pixels, as of labels, of which 4,096 at most are counted
+-- the width in pixels of n characters, as in labels; at most 4,096 are counted
 abbrev pub text_width : ℕ → ℕ
 text_width n = (20 * min n 4096 + 2) / 3
 
--- how wide the widest text is
+-- the width of the widest text
 abbrev pub widest : List MarginNote → ℕ
 widest notes = fold (λ n note. max n (text_width (length note.text.items))) 0 notes
 
--- how wide the margin is: nothing where there is no text
+-- the width of the margin: 0 if there is no text
 abbrev pub margin_of : List MarginNote → ℕ
 margin_of notes = if length notes == 0 then 0 else min (widest notes + 16) (2 ^ 32 - 1)
 
--- how wide a picture of this width is with its margin; what is more than 32 bits hold isn't counted
+-- the width of a picture with its margin; widths of more than 32 bits are capped
 abbrev pub with_margin : ℕ → List MarginNote → ℕ
 with_margin width notes = min (width + margin_of notes) (2 ^ 32 - 1)
 
--- where its texts begin
+-- the x coordinate at which its texts begin
 abbrev pub margin_x : PictureView → ℕ
 margin_x v = v.width - margin_of v.notes
 
@@ -47,7 +47,7 @@ abbrev pub either : Option ℕ → Option ℕ → Option ℕ
 either None place = place
 either (Some place) other = Some place
 
--- how many rows are drawn above a row, if one of its events is drawn
+-- the number of rows that are drawn above a row, if one of its events is drawn
 abbrev pub row_place : PictureView → Row → Option ℕ
 row_place v (variants.Message s r) = either (place_drawn v s) (place_drawn v r)
 row_place v (variants.Event e) = place_drawn v e
@@ -65,18 +65,18 @@ abbrev pub place_at : PictureView → Option Row → Option ℕ
 place_at v None = end_place v (slice_get v.choice.rows (length v.choice.rows - 1))
 place_at v (Some row) = row_place v row
 
--- how many rows are drawn above a text, if it is drawn: it stands at the row of the first message that is sent below it,
--- or below the last row
+-- the number of rows that are drawn above a text, if the text is drawn; it is at the row of the first message that is
+-- sent below it, or below the last row
 abbrev pub note_place : PictureView → MarginNote → Option ℕ
 note_place v note = place_at v (slice_get v.sends note.above)
 
--- a text that begins at this spot, spelled as a title
+-- a text that begins at this spot, escaped like a title
 unfoldable pub note_at : Spot → List ℕ → List ℕ
 note_at a words =
     codes "<text class='s' x='" ++ (decimal a.x ++ (codes "' y='" ++ (decimal a.y ++ (codes "'>" ++ (escaped words
     ++ codes "</text>\n")))))
 
--- the same below so many rows
+-- the same with `place` rows above it
 abbrev pub note_drawn : ℕ → List ℕ → Option ℕ → List ℕ
 note_drawn x words None = []
 note_drawn x words (Some place) = note_at (record { x = x; y = place * 24 + 76 }) words
@@ -85,15 +85,15 @@ note_drawn x words (Some place) = note_at (record { x = x; y = place * 24 + 76 }
 abbrev pub note_text : PictureView → ℕ → MarginNote → List ℕ
 note_text v x note = note_drawn x note.text.items (note_place v note)
 
--- a line that parts the rows, up to this spot
+-- a line that divides the rows, up to this spot
 unfoldable pub line_at : Spot → List ℕ
 line_at end = codes "<path stroke-dasharray='2 4' d='M16 " ++ (decimal end.y ++ (codes "H" ++ (decimal end.x ++ codes "'/>\n")))
 
--- the same below so many rows, up to the margin
+-- the same with `place` rows above it, up to the margin
 abbrev pub line_drawn : ℕ → Option ℕ → List ℕ
 line_drawn x None = []
 line_drawn x (Some place) = line_at (record { x = x - 16; y = place * 24 + 72 })
 
--- the line of a text that parts the rows, if it is drawn
+-- the dividing line of a text, if it has one that is drawn
 abbrev pub dividing_line : PictureView → ℕ → MarginNote → List ℕ
 dividing_line v x note = if note.divides then line_drawn x (note_place v note) else []

@@ -1,5 +1,5 @@
--- The marks of races as text: a dot at each receive, and a bracket for each range of events that it may come before
--- (this project's profile).
+-- The marks of races as text (this project's profile): a dot at each receive, and a bracket for each range of earlier
+-- events that the receive may come before.
 use Rattle.std.specs.Prelude.{ℕ, ◌+◌, ◌-◌, ◌*◌, ◌%◌, ◌^◌, ◌==◌, Bool, false, nat_lt, nat_le, is_some, min, max, List, [], ◌∷◌, ◌++◌, length, Option, None, Some, slice_get, codes, if◌then◌else◌}
 use Rattle.std.specs.List.{flat_map}
 use Rattle.chart.specs.declared.instance.EventNo.{EventNo}
@@ -14,7 +14,7 @@ use Rattle.picture_parts.specs.Elements.Elements.{dot_start, dot_end, bracket_na
 use Rattle.pictures.specs.Pictures.{PictureView, column_of, row_at, cell_of, end_of}
 use Rattle.pictures.specs.Spots.{height, number_spot}
 
--- a column is on the left
+-- the other column is on the left of the column
 abbrev pub is_left : Option Column → Column → Bool
 is_left None column = false
 is_left (Some other) column = nat_lt other.x column.x
@@ -28,25 +28,25 @@ column_from v (Some e) = column_of v e.instance
 abbrev pub from_left : PictureView → EventNo → Column → Bool
 from_left v e column = is_left (column_from v (end_of v e)) column
 
--- where a receive's dot is: on the other side of the lifeline than the arrow's head
+-- the spot of a receive's dot: on the side of the lifeline that is opposite to the arrow's head
 abbrev pub dot_spot : Bool → Cell → Spot
 dot_spot left cell = record {
   x = if left then cell.column.x + 5 else cell.column.x - 5;
   y = height cell.place;
 }
 
--- the dot of a receive that may come before so many earlier events, in these ranges
+-- the dot of a receive that may come before n earlier events, in these ranges
 unfoldable pub dot : EventNo → Spot → ℕ → List EventRange → List ℕ
 dot e a n ranges = dot_start e.instance e.index a ++ (amount n ++ (ranges_text ranges ++ dot_end))
 
--- the number beside a dot, where the event hasn't its number anyway
+-- the number beside a dot, unless all events have their numbers
 abbrev pub race_class : Cell → List ℕ
 race_class cell = if cell.column.room.mirrored then codes "e k" else codes "n k"
 
 abbrev pub race_number : PictureView → EventNo → Cell → List ℕ
 race_number v e cell = if v.numbers then [] else number_text (race_class cell) (number_spot cell) e.index
 
--- how far a receive's brackets are from their lifeline: those of neighbouring receives are set off from each other
+-- the distance of a receive's brackets from their lifeline; neighbouring receives have different distances
 abbrev pub slot_offset : ℕ → ℕ → ℕ
 slot_offset step slot =
     if slot == 0 then 13 else
@@ -61,16 +61,18 @@ abbrev pub bracket_x : Column → ℕ → ℕ
 bracket_x column receive =
     if column.room.mirrored then column.x + offset column receive else column.x - offset column receive
 
--- how far its ends are
+-- the x coordinate of its ends
 abbrev pub inner_x : Column → ℕ → ℕ
 inner_x column receive =
     if column.room.mirrored then (column.x + offset column receive) - 3 else column.x - (offset column receive - 3)
 
--- where its upper corner is, below so many rows: not on the arrow, and in two steps, so that numbers stand apart
+-- the y coordinate of its upper corner, with `place` rows above it: not on the arrow, and at one of two heights, to
+-- keep numbers apart
 abbrev pub upper_y : ℕ → ℕ → ℕ
 upper_y receive place = height place - (7 * ((receive % 5) % 2) + 8)
 
--- the bracket of a range between two rows, below so many rows each, with the number of its receive at its top
+-- the bracket of a range between two rows, with the number of its receive at its top; `upper` and `lower` are how many
+-- rows are drawn above each
 unfoldable pub bracket_between : EventNo → EventRange → Column → ℕ → ℕ → List ℕ
 bracket_between e r c upper lower =
     bracket_name e.instance e.index r.first.index
@@ -78,25 +80,26 @@ bracket_between e r c upper lower =
     (inner_x c e.index) e.index ++ (amount r.count ++ (range_text r ++ (bracket_end
     ++ number_text (codes "k") (record { x = bracket_x c e.index; y = upper_y e.index upper - 3 }) e.index))))
 
--- the first event of a range that isn't before those that are drawn, and the last one that isn't behind them
+-- the first event of a range, or the first chosen event if that is later; and the last event of a range, or the last
+-- chosen event if that is earlier
 abbrev pub first_drawn : PictureView → EventRange → EventNo
 first_drawn v r = record { instance = r.first.instance; index = max r.first.index v.choice.first }
 
 abbrev pub last_drawn : PictureView → EventRange → EventNo
 last_drawn v r = record { instance = r.first.instance; index = min (r.first.index + (r.count - 1)) v.choice.last }
 
--- between these rows, if there are both
+-- the same, if both numbers of rows are known
 abbrev pub bracket_places : EventNo → EventRange → Column → Option ℕ → Option ℕ → List ℕ
 bracket_places e r c None lower = []
 bracket_places e r c (Some upper) None = []
 bracket_places e r c (Some upper) (Some lower) = bracket_between e r c upper lower
 
--- between rows of the layout
+-- the bracket between two rows of the layout
 abbrev pub bracket_rows : PictureView → EventNo → EventRange → Column → ℕ → ℕ → List ℕ
 bracket_rows v e r c upper lower =
     if nat_le upper lower then bracket_places e r c (slice_get v.places upper) (slice_get v.places lower) else []
 
--- the same as far as the rows are chosen
+-- the same, for the chosen rows only
 abbrev pub bracket_from : PictureView → EventNo → EventRange → Option Column → Option ℕ → Option ℕ → List ℕ
 bracket_from v e r None upper lower = []
 bracket_from v e r (Some c) None lower = []
@@ -104,12 +107,12 @@ bracket_from v e r (Some c) (Some upper) None = []
 bracket_from v e r (Some c) (Some upper) (Some lower) =
     bracket_rows v e r c (max upper v.choice.top) (min lower v.choice.bottom)
 
--- the bracket of a range of earlier events, as far as they are chosen
+-- the bracket of the chosen part of a range of earlier events
 abbrev pub bracket_text : PictureView → EventNo → EventRange → List ℕ
 bracket_text v e r =
     bracket_from v e r (column_of v r.first.instance) (row_at v (first_drawn v r)) (row_at v (last_drawn v r))
 
--- how many events they are; what is more than 64 bits hold isn't counted
+-- the number of events, at most the greatest number of 64 bits
 abbrev pub counted : List EventNo → ℕ
 counted events = min (length events) (2 ^ 64 - 1)
 

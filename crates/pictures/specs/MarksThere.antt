@@ -1,4 +1,4 @@
--- Which marks a picture has (this project's profile).
+-- The kinds of marks that a picture has (this project's profile).
 use Rattle.std.specs.Prelude.{Bool, false, not, ◌&&◌, ◌==◌, is_some, is_none, nat_lt, length, Option, None, Some}
 use Rattle.std.specs.List.{list_any}
 use Rattle.chart.specs.declared.event.Event.{Event}

@@ -1,4 +1,4 @@
--- What a picture is drawn from, and where its events are on it (this project's own).
+-- The values from which a picture is drawn, and the positions of its events (this project's own).
 use Rattle.std.specs.Prelude.{ℕ, Bool, List, Option, None, Some, option_map, slice_get, if◌then◌else◌}
 use Rattle.chart.specs.declared.event.Event.{Event}
 use Rattle.chart.specs.declared.instance.EventNo.{EventNo}
@@ -15,26 +15,26 @@ use Rattle.picture_parts.specs.declared.elements.spot.Spot.{Spot}
 use Rattle.pictures.specs.declared.spots.Cell.{Cell}
 use Rattle.pictures.specs.Spots.{on_line}
 
--- what a picture is drawn from
+-- the values from which a picture is drawn
 pub record PictureView : Type 0 where
-  -- what stands above it
+  -- the text above it
   pub title : List ℕ
   -- the names of the instances
   pub names : List (List ℕ)
   pub lines : List LineView
   pub reports : List ReportView
-  -- which events are drawn, and in which columns
+  -- the events that are drawn, and their columns
   pub choice : ChoiceView
-  -- for each row of the layout, how many rows are drawn above it
+  -- for each row of the layout, the number of rows that are drawn above it
   pub places : List ℕ
-  -- the rows in which messages are sent, and what stands in the margin
+  -- the rows in which messages are sent, and the texts of the margin
   pub sends : List Row
   pub notes : List MarginNote
-  -- whether events have their numbers beside them
+  -- whether each event has its number beside it
   pub numbers : Bool
-  -- how wide the picture is, in pixels
+  -- the width of the picture, in pixels
   pub width : ℕ
-  -- how many rows are drawn
+  -- the number of rows that are drawn
   pub count : ℕ
 
 -- the column of an instance, if it has one
@@ -45,22 +45,22 @@ column_of v p = choices.column_of v.choice p
 abbrev pub row_at : PictureView → EventNo → Option ℕ
 row_at v e = row_of v.choice.rows (place_of e)
 
--- how many rows are drawn above a row, if there is one
+-- the number of rows that are drawn above a row, if there is such a row
 abbrev pub place_from : PictureView → Option ℕ → Option ℕ
 place_from v None = None
 place_from v (Some row) = slice_get v.places row
 
--- both, if there are both
+-- the cell of a column and a place, if both are known
 abbrev pub cell_from : Option Column → Option ℕ → Option Cell
 cell_from None place = None
 cell_from (Some column) None = None
 cell_from (Some column) (Some place) = Some (record { column = column; place = place })
 
--- where an event is, if it is drawn
+-- the cell of an event, if the event is drawn
 abbrev pub cell_of : PictureView → EventNo → Option Cell
 cell_of v e = if is_shown v.choice e then cell_from (column_of v e.instance) (place_from v (row_at v e)) else None
 
--- where an event meets its lifeline, if it is drawn
+-- the spot at which an event meets its lifeline, if the event is drawn
 abbrev pub spot_of : PictureView → EventNo → Option Spot
 spot_of v e = option_map on_line (cell_of v e)
 
@@ -68,6 +68,6 @@ spot_of v e = option_map on_line (cell_of v e)
 abbrev pub end_of : PictureView → EventNo → Option EventNo
 end_of v e = choices.end_of v.choice e
 
--- the event of this number, if the chart has it
+-- the event with this number, if the chart has it
 abbrev pub event_of : PictureView → EventNo → Option Event
 event_of v e = chart_event (chart_lines v.lines) (at e.instance e.index)

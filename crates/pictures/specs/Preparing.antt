@@ -1,4 +1,4 @@
--- What a picture is made of (this project's profile).
+-- The preparation of a picture (this project's profile).
 use Rattle.std.specs.Prelude.{◌≡◌, Option, ℕ, Bool, List, length, filter}
 use Rattle.chart.specs.declared.instance.EventNo.{EventNo}
 use Rattle.chart.specs.Charts.{LineView}
@@ -10,9 +10,9 @@ use Rattle.chart_layout.specs.declared.margin.MarginNote.{MarginNote}
 use Rattle.pictures.specs.Margins.{has_send, with_margin}
 use Rattle.pictures.specs.Pictures.{PictureView}
 
--- what a picture is of: a chart with a title, names, a layout, and the reports of its receives
+-- the source of a picture: a chart with a title, names, a layout, and the reports of its receives
 pub record SourceView : Type 0 where
-  -- what stands above the picture
+  -- the text above the picture
   pub title : List ℕ
   -- the names of the instances
   pub names : List (List ℕ)
@@ -23,22 +23,22 @@ pub record SourceView : Type 0 where
   -- the other ends of the chart's messages
   pub ends : List (List (Option EventNo))
 
--- what of a chart is drawn
+-- the part of a chart that is drawn
 pub record PartView : Type 0 where
-  -- the instances that have a column, the leftmost first
+  -- the instances that have a column, from left to right
   pub drawn : List ℕ
-  -- the numbers of the first and of the last event of each line that is chosen
+  -- the numbers of the first and of the last event that are chosen on each line
   pub first : ℕ
   pub last : ℕ
   -- the numbers of the first and of the last row whose events are chosen, from 0
   pub top : ℕ
   pub bottom : ℕ
-  -- whether events have their numbers beside them
+  -- whether each event has its number beside it
   pub numbers : Bool
-  -- what stands in its margin
+  -- the texts of its margin
   pub notes : List MarginNote
 
--- what its columns are placed by
+-- the values by which its columns are placed
 abbrev pub plan_of : List (List ℕ) → List LineView → List ReportView → List ℕ → Bool → PlanView
 plan_of names lines reports drawn numbers = record {
   names = names;

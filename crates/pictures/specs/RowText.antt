@@ -18,7 +18,7 @@ use Rattle.picture_parts.specs.Elements.Elements.{arrow, ring, label, label_star
 use Rattle.pictures.specs.Pictures.{PictureView, column_of, cell_of, end_of, event_of}
 use Rattle.pictures.specs.Spots.{on_line, are_near, label_x, aside, cut_spot, height, number_spot}
 
--- the name of an event's message, where there is the event
+-- the name of an event's message, if there is such an event
 abbrev pub name_in : Option Event → List ℕ
 name_in None = []
 name_in (Some m) = name_of m
@@ -26,24 +26,24 @@ name_in (Some m) = name_of m
 abbrev pub message_name : PictureView → EventNo → List ℕ
 message_name v e = name_in (event_of v e)
 
--- what stands before the instance on the other side of a message that is cut
+-- the word before the name of the instance on the other side of a cut message
 unfoldable pub side_text : Side → List ℕ
 side_text Receiver = codes " to "
 side_text Sender = codes " from "
 
--- the classes of an event's number: it begins or ends at its spot
+-- the classes of an event's number: the number ends or begins at its spot
 abbrev pub number_class : Cell → List ℕ
 number_class cell = if cell.column.room.mirrored then codes "e" else codes "n"
 
--- the number of an event, where the picture has numbers
+-- the number of an event, if the picture has numbers
 abbrev pub number_at : PictureView → EventNo → Cell → List ℕ
 number_at v e cell = if v.numbers then number_text (number_class cell) (number_spot cell) e.index else []
 
--- an event's group
+-- the group of an event
 unfoldable pub point : PictureView → EventNo → Cell → List ℕ
 point v e cell = point_start e.instance e.index (on_line cell) ++ (number_at v e cell ++ group_end)
 
--- the label of a message of this name
+-- the label of a message with this name
 abbrev pub label_of : List ℕ → Bool → Cell → Column → List ℕ
 label_of name level from to =
     label (are_near from.column to) name (label_x level from.column to (name_width (are_near from.column to) name))
@@ -53,7 +53,8 @@ label_of name level from to =
 abbrev pub event_label : PictureView → EventNo → Bool → Cell → Column → List ℕ
 event_label v e level from to = label_of (message_name v e) level from to
 
--- the label of a message that is cut, with the instance on its other side
+-- the label of a cut message, with the name of the instance on its other side; a message is cut if this instance has no
+-- column
 unfoldable pub cut_label : PictureView → EventNo → Side → ℕ → Spot → List ℕ
 cut_label v e side other a = label_start a ++ (message_name v e ++ (side_text side ++ (name_at v.names other
     ++ label_end)))
@@ -70,7 +71,8 @@ coming v e from cell = arrow (aside cell) (on_line cell) ++ (cut_label v e Sende
 unfoldable pub message : PictureView → EventNo → Cell → Cell → List ℕ
 message v e a b = arrow (on_line a) (on_line b) ++ event_label v e (a.place == b.place) a b.column
 
--- where the tip of the arrow of a message that waits is, and the circle beside it: on this side of the column's room
+-- the spots of the arrow's tip of a waiting message, and of the circle beside it, on the sender's side of the column's
+-- room
 abbrev pub waiting_ends : Cell → Column → Spot × Spot
 waiting_ends cell column =
     if nat_lt cell.column.x column.x
@@ -94,7 +96,7 @@ waiting v e cell column = toward cell column ++ (event_label v e true cell colum
 unfoldable pub both : PictureView → EventNo → EventNo → Cell → Cell → List ℕ
 both v s r a b = message v s a b ++ (point v s a ++ point v r b)
 
--- a message that is drawn level, or the end of it that is drawn
+-- a message with a level arrow, or the end of it that is drawn
 abbrev pub level : PictureView → EventNo → EventNo → Option Cell → Option Cell → List ℕ
 level v s r None None = []
 level v s r None (Some b) = coming v r s.instance b
@@ -105,22 +107,22 @@ level v s r (Some a) (Some b) = both v s r a b
 unfoldable pub slanted : PictureView → EventNo → Cell → Cell → List ℕ
 slanted v e a b = message v e a b ++ point v e a
 
--- a send to an instance, of a message that is received there
+-- a send to an instance, whose message is received there
 abbrev pub sent_to : PictureView → EventNo → ℕ → Cell → Option Cell → List ℕ
 sent_to v e to a None = leaving v e to a
 sent_to v e to a (Some b) = slanted v e a b
 
--- a send to an instance, of a message that waits
+-- a send to an instance, whose message waits
 abbrev pub sent_off : PictureView → EventNo → ℕ → Cell → Option Column → List ℕ
 sent_off v e to a None = leaving v e to a
 sent_off v e to a (Some column) = waiting v e a column
 
--- a send alone
+-- a send that is alone in its row
 abbrev pub sent : PictureView → EventNo → ℕ → Cell → Option EventNo → List ℕ
 sent v e to a None = sent_off v e to a (column_of v to)
 sent v e to a (Some r) = sent_to v e to a (cell_of v r)
 
--- the event of the other end is drawn
+-- the other end is an event that is drawn
 abbrev pub is_drawn_end : PictureView → Option EventNo → Bool
 is_drawn_end v None = false
 is_drawn_end v (Some e) = is_some (cell_of v e)
@@ -128,11 +130,11 @@ is_drawn_end v (Some e) = is_some (cell_of v e)
 abbrev pub has_end : PictureView → EventNo → Bool
 has_end v e = is_drawn_end v (end_of v e)
 
--- a receive alone: its arrow, if it isn't cut, is drawn from its send on
+-- a receive that is alone in its row; its arrow, if it isn't cut, was drawn with its send
 abbrev pub received : PictureView → EventNo → ℕ → Cell → List ℕ
 received v e from b = if has_end v e then point v e b else coming v e from b
 
--- an event that stands alone in its row
+-- an event that is alone in its row
 abbrev pub alone : PictureView → EventNo → Option Cell → Option Event → List ℕ
 alone v e None m = []
 alone v e (Some cell) None = []

@@ -16,18 +16,18 @@ use picture_parts::columns::{Column, line_break, name_width};
 use picture_parts::elements::{Spot, add_foot, add_head_box, add_name_lines, add_segment};
 use texts::{Out, TextBuffer, WriteError, named};
 
-/// How far a lifeline is drawn.
+/// The state of a lifeline that is drawn from the top down.
 #[derive(Clone, Copy)]
 pub(crate) struct Life {
     /// The coregion of the last event, or 0.
     pub(crate) region: u32,
-    /// Where the part begins that is drawn next.
+    /// The y coordinate at which the next part begins.
     pub(crate) start: u64,
-    /// How many rows are drawn above the last event.
+    /// The number of rows that are drawn above the last event.
     pub(crate) place: u32,
 }
 
-/// Where a part of a lifeline ends, before an event that isn't in its coregion.
+/// The y coordinate at which a part of a lifeline ends, before an event that isn't in its coregion.
 fn cut(life: Life, place: u32) -> u64
     ensures { result ≡ cut life place }
 {
@@ -57,7 +57,7 @@ fn add_part<W: Out>(
     add_segment(text, life.region, x, life.start, cut(life, place))
 }
 
-/// How far it is drawn then.
+/// The state of the lifeline below the event.
 fn next_life(life: Life, place: Option<u32>, region: u32) -> Life
     ensures { result ≡ next_life life place region }
 {
@@ -76,7 +76,7 @@ fn next_life(life: Life, place: Option<u32>, region: u32) -> Life
     }
 }
 
-/// Adds the last part of a lifeline, down to this height.
+/// Adds the last part of a lifeline, down to `bottom`.
 #[tactic(auto, using(texts::proofs::Writes::joining), unfolding(crate::specs::ColumnText::life_end))]
 fn add_life_end<W: Out>(
     text: &mut TextBuffer<'_, W>,
@@ -94,7 +94,7 @@ fn add_life_end<W: Out>(
     add_segment(text, 0, x, end, bottom)
 }
 
-/// How many rows are drawn above an event that is drawn.
+/// The number of rows that are drawn above an event, if the event is drawn.
 pub(crate) fn place_drawn(picture: &Picture<'_>, event: &EventNo) -> Option<u32>
     ensures { result ≡ place_drawn picture.now event.now }
 {
@@ -130,7 +130,7 @@ fn add_lifeline<W: Out>(
     add_life_end(text, x, life, height(picture.count()))
 }
 
-/// Where the lower line of an instance's name is, so much of which is its upper line.
+/// The y coordinate of the lower line of an instance's name. `upper` is the number of bytes on its upper line.
 fn name_height(upper: usize) -> u64
     ensures { result ≡ name_height upper }
 {

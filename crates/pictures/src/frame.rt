@@ -1,4 +1,4 @@
-//! What stands round the columns and rows of a picture.
+//! The parts of a picture around its columns and rows.
 ghost use Rattle.std.specs.Prelude.{◌≡◌};
 ghost use Rattle.texts.specs.Writing.{Wrote, Adds};
 ghost use Rattle.pictures.specs.PictureText.{top, ground, remarks, bottom, picture_text};
@@ -15,7 +15,7 @@ use picture_parts::elements::{
 };
 use texts::{Out, TextBuffer, WriteError};
 
-/// Adds what stands above the columns.
+/// Adds the parts above the columns.
 #[tactic(auto, using(texts::proofs::Writes::joining), unfolding(crate::specs::PictureText::top))]
 fn add_top<W: Out>(text: &mut TextBuffer<'_, W>, picture: &Picture<'_>) -> Result<(), WriteError>
     ensures { Adds W.sink text.old text.new result (top picture.now) }
@@ -27,7 +27,7 @@ fn add_top<W: Out>(text: &mut TextBuffer<'_, W>, picture: &Picture<'_>) -> Resul
     add_heading(text, picture.title())
 }
 
-/// Adds the columns, and beneath them the lines that part the rows.
+/// Adds the dividing lines of the margin's texts, and on top of them the columns.
 #[tactic(auto, using(texts::proofs::Writes::joining), unfolding(crate::specs::PictureText::ground))]
 fn add_ground<W: Out>(text: &mut TextBuffer<'_, W>, picture: &Picture<'_>) -> Result<(), WriteError>
     ensures { Adds W.sink text.old text.new result (ground picture.now) }
@@ -48,7 +48,7 @@ fn add_remarks<W: Out>(
     add_margin(text, picture)
 }
 
-/// Adds what stands below the columns.
+/// Adds the parts below the columns.
 #[tactic(auto, using(texts::proofs::Writes::joining), unfolding(crate::specs::PictureText::bottom))]
 fn add_bottom<W: Out>(text: &mut TextBuffer<'_, W>, picture: &Picture<'_>) -> Result<(), WriteError>
     ensures { Adds W.sink text.old text.new result (bottom picture.now) }
@@ -73,7 +73,7 @@ pub fn add_picture<W: Out>(
     add_bottom(text, picture)
 }
 
-/// Writes the picture's text and nothing else. It takes no memory. Where a put fails (F24), a beginning of the text was
+/// Writes the picture's text and nothing else. It takes no memory. If a put fails (F24), a beginning of the text was
 /// written, and no other put is tried.
 #[tactic(auto, using(texts::proofs::Writes::joining))]
 pub fn write_picture<W: Out>(picture: &Picture<'_>, out: &mut W) -> Result<(), WriteError>

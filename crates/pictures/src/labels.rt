@@ -13,7 +13,7 @@ use picture_parts::elements::{
 };
 use texts::{Out, TextBuffer, WriteError, named};
 
-/// On which side of a message the instance is that has no column.
+/// The side of a message on which the instance without a column is.
 #[derive(Clone, Copy)]
 pub(crate) enum Side {
     Receiver,
@@ -30,7 +30,7 @@ fn word_of(side: &Side) -> &[u8]
     }
 }
 
-/// Adds the name of the event's message, or nothing where there is no such event.
+/// Adds the name of the event's message, or nothing if there is no such event.
 fn add_message_name<W: Out>(
     text: &mut TextBuffer<'_, W>,
     picture: &Picture<'_>,
@@ -64,7 +64,7 @@ fn add_instance_name<W: Out>(
     }
 }
 
-/// Adds the number of an event, where the picture has numbers.
+/// Adds the number of an event, if the picture has numbers.
 fn add_number_at<W: Out>(
     text: &mut TextBuffer<'_, W>,
     picture: &Picture<'_>,
@@ -84,7 +84,7 @@ fn add_number_at<W: Out>(
     }
 }
 
-/// Adds an event's group.
+/// Adds the group of an event.
 #[tactic(auto, using(texts::proofs::Writes::joining), unfolding(crate::specs::RowText::point))]
 pub(crate) fn add_point<W: Out>(
     text: &mut TextBuffer<'_, W>,
@@ -100,7 +100,7 @@ pub(crate) fn add_point<W: Out>(
     add_group_end(text)
 }
 
-/// Adds the label of a message of this name, from the cell to a column.
+/// Adds the label of a message with this name, from the cell to a column.
 fn add_label_of<W: Out>(
     text: &mut TextBuffer<'_, W>,
     name: &[u8],
@@ -135,7 +135,8 @@ pub(crate) fn add_event_label<W: Out>(
     }
 }
 
-/// Adds the label of a message that is cut, with the instance on its other side.
+/// Adds the label of a message that is cut, with the name of the instance on its other side. A message is cut if this
+/// instance has no column.
 #[tactic(auto, using(texts::proofs::Writes::joining), unfolding(crate::specs::RowText::cut_label))]
 pub(crate) fn add_cut_label<W: Out>(
     text: &mut TextBuffer<'_, W>,

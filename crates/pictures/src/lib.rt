@@ -3,18 +3,18 @@
 //!
 //! What is promised:
 //!
-//! - [`write_picture`] writes the text of the picture and nothing else. A contract gives each byte of it
-//!   (`specs/PictureText`): where each line, label and mark is, what it says, and in which order they come. Bytes
-//!   of the title that XML keeps for itself, or that are no printable ASCII characters, are spelled so that none of
-//!   them is taken for an element.
-//! - Texts that are given with it stand in a margin on its right, each at the row of the first message that is sent
-//!   below it, and spelled as the title (`specs/Margins`).
-//! - A picture tells how large it is, and where an event is on it ([`Picture::width`], [`Picture::tall`],
-//!   [`Picture::spot_of`]). [`add_picture`] adds its text to another one.
-//! - What it is drawn from is what the caller gave ([`Picture::of`]): the chart, its layout, the ends of its
-//!   messages, the reports of its receives, and the part of it that is to be drawn.
-//! - F24: where a put fails, a beginning of the text was written, and no other put is tried. F6: only [`Picture::of`]
-//!   takes memory, and it fails only where there is none.
+//! - [`write_picture`] writes the text of the picture and nothing else. The contract determines each byte of it
+//!   (`specs/PictureText`): the position, the text and the order of all lines, labels and marks. Bytes of the title
+//!   that have a meaning in XML are escaped, and bytes that aren't printable ASCII are replaced. So no element can
+//!   begin in it.
+//! - The texts of a margin are on the right of the picture. Each is at the row of the first message that is sent below
+//!   it, and escaped like the title (`specs/Margins`).
+//! - A picture has its size, and the spot of an event on it ([`Picture::width`], [`Picture::tall`],
+//!   [`Picture::spot_of`]). [`add_picture`] adds its text to another text.
+//! - The picture is drawn from the values that its caller gave ([`Picture::of`]). These are the chart, its layout, the
+//!   ends of its messages, the reports of its receives, and the part to draw.
+//! - F24: if a put fails, a beginning of the text was written, and no other put is tried. F6: only [`Picture::of`]
+//!   takes memory, and it fails only if there is none.
 #![tactic(auto)]
 
 mod columns;

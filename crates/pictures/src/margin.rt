@@ -1,4 +1,4 @@
-//! The margin of a picture: texts beside its rows, and lines that part them.
+//! The margin of a picture: texts beside its rows, and lines that divide the rows.
 ghost use Rattle.std.specs.Prelude.{◌≡◌, ◌≤◌, length, filter, IfOk};
 ghost use Rattle.std.specs.List.{flat_map};
 ghost use Rattle.texts.specs.Writing.{Adds};
@@ -38,7 +38,7 @@ pub(crate) fn sends_in(alloc: Global, lines: &[Line], rows: &[Row]) -> Result<Ve
         .collect(alloc)
 }
 
-/// So many characters in pixels. What is more than 4,096 characters isn't counted.
+/// The width of a text in pixels, by its number of characters. At most 4,096 characters are counted.
 fn text_width(characters: usize) -> u32
     ensures value { result ≡ text_width characters }
     ensures limit { result ≤ 27307 }
@@ -46,7 +46,7 @@ fn text_width(characters: usize) -> u32
     (20 * characters.min(4096) as u32 + 2) / 3
 }
 
-/// How wide the widest of these texts is.
+/// The width of the widest of these texts.
 fn widest(notes: &[MarginNote]) -> u32
     ensures { result ≡ widest notes.now }
 {
@@ -55,7 +55,7 @@ fn widest(notes: &[MarginNote]) -> u32
         .fold(0, |wide: u32, note| wide.max(text_width(note.text.len())))
 }
 
-/// How wide the margin is.
+/// The width of the margin.
 fn margin_of(notes: &[MarginNote]) -> u32
     ensures { result ≡ margin_of notes.now }
 {
@@ -66,21 +66,21 @@ fn margin_of(notes: &[MarginNote]) -> u32
     }
 }
 
-/// How wide a picture of this width is with its margin.
+/// The width of a picture with its margin, by its width without the margin.
 pub(crate) fn with_margin(width: u32, notes: &[MarginNote]) -> u32
     ensures { result ≡ with_margin width notes.now }
 {
     width.saturating_add(margin_of(notes))
 }
 
-/// Where the texts of the margin begin.
+/// The x coordinate at which the texts of the margin begin.
 fn margin_x(picture: &Picture<'_>) -> u64
     ensures { result ≡ margin_x picture.now }
 {
     u64::from(picture.width().saturating_sub(margin_of(picture.notes())))
 }
 
-/// How many rows are drawn above a row, if the row is.
+/// The number of rows that are drawn above a row, if the row is drawn.
 fn row_place(picture: &Picture<'_>, row: &Row) -> Option<u32>
     ensures { result ≡ row_place picture.now row.now }
 {
@@ -93,7 +93,7 @@ fn row_place(picture: &Picture<'_>, row: &Row) -> Option<u32>
     }
 }
 
-/// How many rows are drawn above a text of the margin, if it is drawn.
+/// The number of rows that are drawn above a text of the margin, if the text is drawn.
 fn note_place(picture: &Picture<'_>, note: &MarginNote) -> Option<u32>
     ensures { result ≡ note_place picture.now note.now }
 {
@@ -153,7 +153,7 @@ fn add_note<W: Out>(
     }
 }
 
-/// Adds a line that parts the rows, up to this spot.
+/// Adds a line that divides the rows, up to this spot.
 #[tactic(auto, unfolding(crate::specs::Margins::line_at))]
 fn add_line_at<W: Out>(text: &mut TextBuffer<'_, W>, end: Spot) -> Result<(), WriteError>
     ensures { Adds W.sink text.old text.new result (line_at end) }
@@ -170,7 +170,7 @@ fn add_line_at<W: Out>(text: &mut TextBuffer<'_, W>, end: Spot) -> Result<(), Wr
     )
 }
 
-/// Adds the line of a text that parts the rows, if it is drawn.
+/// Adds the dividing line of a text, if it has one that is drawn.
 fn add_dividing_line<W: Out>(
     text: &mut TextBuffer<'_, W>,
     picture: &Picture<'_>,
@@ -232,7 +232,7 @@ pub(crate) fn add_margin<W: Out>(
     add_notes(text, picture, margin_x(picture), picture.notes())
 }
 
-/// Adds the lines that part the rows.
+/// Adds the dividing lines.
 pub(crate) fn add_dividing_lines<W: Out>(
     text: &mut TextBuffer<'_, W>,
     picture: &Picture<'_>,

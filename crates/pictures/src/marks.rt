@@ -1,4 +1,5 @@
-//! The marks of races: a dot at each receive, and a bracket for each range of events that it may come before.
+//! The marks of races: a dot at each receive, and a bracket for each range of earlier events that the receive may come
+//! before.
 ghost use Rattle.std.specs.Prelude.{◌≡◌, ◌≤◌, All};
 ghost use Rattle.std.specs.List.{flat_map};
 ghost use Rattle.chart.specs.Ranges.{IsRange, ranges_of};
@@ -32,7 +33,7 @@ fn from_left(picture: &Picture<'_>, receive: &EventNo, column: &Column) -> bool
     }
 }
 
-/// Where a receive's dot is: on the other side of the lifeline than the arrow's head.
+/// The spot of a receive's dot: on the side of the lifeline that is opposite to the arrow's head.
 fn dot_spot(left: bool, cell: &Cell) -> Spot
     ensures { result ≡ dot_spot left cell.now }
 {
@@ -48,7 +49,7 @@ fn dot_spot(left: bool, cell: &Cell) -> Spot
     }
 }
 
-/// Adds the dot of a receive, which says the earlier events.
+/// Adds the dot of a receive, with its earlier events as a title.
 #[tactic(auto, using(texts::proofs::Writes::joining), unfolding(crate::specs::MarkText::dot))]
 fn add_dot<W: Out>(
     text: &mut TextBuffer<'_, W>,
@@ -67,7 +68,7 @@ fn add_dot<W: Out>(
     add_dot_end(text)
 }
 
-/// Adds the number beside a dot, where the event hasn't its number anyway.
+/// Adds the number beside a dot, unless all events have their numbers.
 fn add_race_number<W: Out>(
     text: &mut TextBuffer<'_, W>,
     picture: &Picture<'_>,
@@ -87,7 +88,7 @@ fn add_race_number<W: Out>(
     }
 }
 
-/// How far a receive's brackets are from their lifeline.
+/// The distance of a receive's brackets from their lifeline.
 fn offset(column: &Column, receive: u32) -> u64
     ensures value { result ≡ offset column.now receive }
     ensures far { 13 ≤ result }
@@ -108,7 +109,7 @@ fn offset(column: &Column, receive: u32) -> u64
     }
 }
 
-/// Where a receive's brackets are.
+/// The x coordinate of a receive's brackets.
 fn bracket_x(column: &Column, receive: u32) -> u64
     ensures { result ≡ bracket_x column.now receive }
 {
@@ -120,7 +121,7 @@ fn bracket_x(column: &Column, receive: u32) -> u64
     }
 }
 
-/// How far their ends are.
+/// The x coordinate of the brackets' ends.
 fn inner_x(column: &Column, receive: u32) -> u64
     ensures { result ≡ inner_x column.now receive }
 {
@@ -132,14 +133,15 @@ fn inner_x(column: &Column, receive: u32) -> u64
     }
 }
 
-/// Where their upper corner is, below so many rows.
+/// The y coordinate of the brackets' upper corner, with `place` rows above it.
 fn upper_y(receive: u32, place: u32) -> u64
     ensures { result ≡ upper_y receive place }
 {
     height(place).saturating_sub(7 * u64::from(receive % 5 % 2) + 8)
 }
 
-/// Adds the bracket of a range below so many rows, with the number of its receive at its top.
+/// Adds the bracket of a range between two rows, with the number of its receive at its top. `upper` and `lower` are how
+/// many rows are drawn above each.
 #[tactic(auto, using(texts::proofs::Writes::joining), unfolding(crate::specs::MarkText::bracket_between))]
 fn add_bracket_between<W: Out>(
     text: &mut TextBuffer<'_, W>,
@@ -170,7 +172,7 @@ fn add_bracket_between<W: Out>(
     add_number(text, b"k", above, number)
 }
 
-/// The first event of a range that isn't before those that are drawn.
+/// The first event of a range, or the first chosen event if that is later.
 fn first_drawn(picture: &Picture<'_>, range: &EventRange) -> EventNo
     ensures { result ≡ first_drawn picture.now range.now }
 {
@@ -180,7 +182,7 @@ fn first_drawn(picture: &Picture<'_>, range: &EventRange) -> EventNo
     }
 }
 
-/// The last event of a range that isn't behind those that are drawn.
+/// The last event of a range, or the last chosen event if that is earlier.
 fn last_drawn(picture: &Picture<'_>, range: &EventRange) -> EventNo
     requires { IsRange range.now }
     ensures { result ≡ last_drawn picture.now range.now }
@@ -192,7 +194,7 @@ fn last_drawn(picture: &Picture<'_>, range: &EventRange) -> EventNo
     }
 }
 
-/// Adds the bracket of a range below so many rows, if they are known.
+/// Adds the bracket of a range between two rows, if the numbers of rows above both are known.
 fn add_bracket_places<W: Out>(
     text: &mut TextBuffer<'_, W>,
     receive: &EventNo,
@@ -213,7 +215,7 @@ fn add_bracket_places<W: Out>(
     }
 }
 
-/// Adds the bracket of a range between rows of the layout.
+/// Adds the bracket of a range between two rows of the layout.
 fn add_bracket_rows<W: Out>(
     text: &mut TextBuffer<'_, W>,
     picture: &Picture<'_>,
@@ -236,7 +238,7 @@ fn add_bracket_rows<W: Out>(
     }
 }
 
-/// Adds the bracket of a range of earlier events, as far as they are chosen.
+/// Adds the bracket of the chosen part of a range of earlier events.
 fn add_bracket<W: Out>(
     text: &mut TextBuffer<'_, W>,
     picture: &Picture<'_>,
@@ -276,7 +278,7 @@ fn add_brackets<W: Out>(
     Ok(())
 }
 
-/// Adds the marks of a receive with races, which is drawn.
+/// Adds the marks of a receive that has races and is drawn.
 #[tactic(auto, using(texts::proofs::Writes::joining), unfolding(crate::specs::MarkText::marked))]
 fn add_marked<W: Out>(
     text: &mut TextBuffer<'_, W>,

@@ -1,4 +1,4 @@
-//! How large a picture is, and where an event is on it: for whoever puts it beside something.
+//! The size of a picture, and the spots of its events, for programs that place other things beside it.
 ghost use Rattle.std.specs.Prelude.{◌≡◌, ◌≤◌};
 ghost use Rattle.pictures.specs.Pictures.{spot_of};
 ghost use Rattle.pictures.specs.PictureText.{tall_of};
@@ -10,14 +10,14 @@ use chart::EventNo;
 use picture_parts::elements::{Spot, legend_tall};
 
 impl<'a> Picture<'a> {
-    /// How wide the picture is, in pixels.
+    /// The width of the picture, in pixels.
     pub fn width(&self) -> u32
         ensures { result ≡ self.now.width }
     {
         self.width
     }
 
-    /// How tall the picture is, in pixels.
+    /// The height of the picture, in pixels.
     pub fn tall(&self) -> u64
         ensures value { result ≡ tall_of self.now }
         ensures limit { result ≤ 200000000000 }
@@ -26,7 +26,7 @@ impl<'a> Picture<'a> {
         height(self.count()) + legend_tall(&marks) + 20
     }
 
-    /// Where an event meets its lifeline, if it is drawn.
+    /// The spot at which an event meets its lifeline, if the event is drawn.
     pub fn spot_of(&self, event: &EventNo) -> Option<Spot>
         ensures { result ≡ spot_of self.now event.now }
     {

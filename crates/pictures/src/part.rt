@@ -1,13 +1,13 @@
-//! What is drawn, and what of it.
+//! The source of a picture, and the part of it that is drawn.
 use chart::{InstanceNo, Names, Report};
 use chart_layout::margin::MarginNote;
 use chart_layout::{Ends, Layout};
 use closure::Closure;
 
-/// What a picture is of: a chart with its names, a title, its layout and the reports of its receives.
+/// The source of a picture: a chart with its names, a title, its layout and the reports of its receives.
 #[derive(Clone, Copy)]
 pub struct Source<'a> {
-    /// What stands above the picture, of any bytes.
+    /// The text above the picture, of any bytes.
     pub title: &'a [u8],
     pub names: &'a Names,
     /// The chart.
@@ -18,19 +18,19 @@ pub struct Source<'a> {
     pub reports: &'a [Report],
 }
 
-/// What of a chart is drawn: the events that are chosen, and the other ends of their messages.
+/// The part of a chart that is drawn: the chosen events, and the other ends of their messages.
 #[derive(Clone, Copy)]
 pub struct Part<'a> {
-    /// The instances that have a column, the leftmost first.
+    /// The instances that have a column, from left to right.
     pub drawn: &'a [InstanceNo],
-    /// The number of the first event of each line that is chosen, from 1, and of the last one.
+    /// The numbers of the first and of the last event that are chosen on each line, from 1.
     pub first: u32,
     pub last: u32,
-    /// The number of the first row of the layout whose events are chosen, from 0, and of the last one.
+    /// The numbers of the first and of the last row of the layout whose events are chosen, from 0.
     pub top: usize,
     pub bottom: usize,
     /// Whether each event has its number beside it.
     pub numbers: bool,
-    /// What stands beside its rows.
+    /// The texts of the margin.
     pub notes: &'a [MarginNote],
 }

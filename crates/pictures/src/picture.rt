@@ -1,4 +1,4 @@
-//! What a picture is drawn from.
+//! The values from which a picture is drawn.
 ghost use Rattle.std.specs.Prelude.{◌≡◌, ◌≤◌, ◌-◌, length, slice_get};
 ghost use Rattle.chart.specs.Charts.{chart_lines};
 ghost use Rattle.chart.specs.declared.line.TheConstants.{MAX_EVENTS};
@@ -11,7 +11,7 @@ use chart_layout::{Row, event_in};
 use picture_parts::columns::{Choice, Column};
 use std::marker::Model;
 
-/// A picture of a chart: what is drawn of it, and where.
+/// A picture of a chart: the part that is drawn, and its positions.
 #[derive(Drop)]
 pub struct Picture<'a> {
     pub(crate) title: &'a [u8],
@@ -21,15 +21,15 @@ pub struct Picture<'a> {
     pub(crate) choice: Choice<'a>,
     /// Whether each event has its number beside it.
     pub(crate) numbers: bool,
-    /// How wide the picture is, in pixels.
+    /// The width of the picture, in pixels.
     pub(crate) width: u32,
-    /// How many rows are drawn.
+    /// The number of rows that are drawn.
     pub(crate) count: u32,
-    /// How many rows are drawn above each row.
+    /// For each row of the layout, the number of rows that are drawn above it.
     pub(crate) places: Vec<u32>,
     /// The rows in which messages are sent.
     pub(crate) sends: Vec<Row>,
-    /// What stands in the margin.
+    /// The texts of the margin.
     pub(crate) notes: &'a [MarginNote],
 }
 
@@ -128,14 +128,14 @@ impl<'a> Picture<'a> {
         self.choice.layout.row_of(event)
     }
 
-    /// How many rows are drawn above a row.
+    /// The number of rows that are drawn above a row.
     pub(crate) fn place_at(&self, row: usize) -> Option<u32>
         ensures { result ≡ slice_get self.now.places row }
     {
         self.places.get(row).copied()
     }
 
-    /// The row in which the message is sent that has so many above it.
+    /// The row of the send that has `above` sends above it.
     pub(crate) fn send_row(&self, above: usize) -> Option<Row>
         ensures { result ≡ slice_get self.now.sends above }
     {
@@ -155,7 +155,7 @@ impl<'a> Picture<'a> {
         self.notes
     }
 
-    /// Where an event is drawn.
+    /// The cell of an event, if it is drawn.
     pub(crate) fn cell_of(&self, event: &EventNo) -> Option<Cell>
         ensures { result ≡ cell_of self.now event.now }
     {
@@ -186,7 +186,7 @@ impl<'a> Picture<'a> {
         }
     }
 
-    /// The event of this number.
+    /// The event with this number.
     pub(crate) fn event_of(&self, event: &EventNo) -> Option<Event>
         ensures { result ≡ event_of self.now event.now }
     {

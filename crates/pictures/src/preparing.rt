@@ -1,4 +1,4 @@
-//! What a picture is made of.
+//! Prepares a picture.
 ghost use Rattle.std.specs.Prelude.{◌≡◌, IfOk};
 ghost use Rattle.pictures.specs.Preparing.{plan_of, IsPictureOf};
 
@@ -8,7 +8,7 @@ use crate::picture::Picture;
 use picture_parts::columns::{Choice, Column, Plan, columns_of, places_of, width_of};
 use std::alloc::{AllocError, Global};
 
-/// What the columns of a part are placed by.
+/// The values by which the columns of a part are placed.
 fn plan_of<'a>(source: &Source<'a>, part: &Part<'a>) -> Plan<'a>
     ensures { result ≡ plan_of source.now.names.now source.now.closure.now source.now.reports.now part.now.drawn.now part.now.numbers }
 {
@@ -21,7 +21,7 @@ fn plan_of<'a>(source: &Source<'a>, part: &Part<'a>) -> Plan<'a>
     }
 }
 
-/// Which events are drawn of a part in these columns.
+/// The events of a part that are drawn in these columns.
 fn choice_of<'a>(source: &Source<'a>, part: &Part<'a>, columns: Vec<Column>) -> Choice<'a>
     ensures { result ≡ record {
       rows = source.now.layout.now;
@@ -47,7 +47,7 @@ fn choice_of<'a>(source: &Source<'a>, part: &Part<'a>, columns: Vec<Column>) -> 
 impl<'a> Picture<'a> {
     /// The picture of a part of a chart.
     ///
-    /// F6: it fails only where there is no memory.
+    /// F6: it fails only if there is no memory.
     pub fn of(alloc: Global, source: Source<'a>, part: Part<'a>) -> Result<Picture<'a>, AllocError>
         ensures { IfOk result (IsPictureOf (record {
           title = source.entry.title.now;

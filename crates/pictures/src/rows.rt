@@ -63,7 +63,7 @@ fn add_message<W: Out>(
     add_event_label(text, picture, event, level, from, &to.column)
 }
 
-/// Where the tip of the arrow of a message that waits is, and the circle beside it.
+/// The spots of the arrow's tip of a waiting message, and of the circle beside it.
 fn waiting_ends(cell: &Cell, column: &Column) -> (Spot, Spot)
     ensures { result ≡ waiting_ends cell.now column.now }
 {
@@ -79,7 +79,7 @@ fn waiting_ends(cell: &Cell, column: &Column) -> (Spot, Spot)
     (Spot { x: end + 8, y }, Spot { x: end + 4, y })
 }
 
-/// Adds the arrow of a message that waits and the open circle at its end, beside the room of the column's line.
+/// Adds the arrow of a waiting message, and the open circle at its end, beside the room of the column's lifeline.
 #[tactic(auto, using(texts::proofs::Writes::joining), unfolding(crate::specs::RowText::toward))]
 fn add_toward<W: Out>(
     text: &mut TextBuffer<'_, W>,
@@ -126,7 +126,7 @@ fn add_both<W: Out>(
     add_point(text, picture, receive, to)
 }
 
-/// Adds a message that is drawn level, or the end of it that is drawn.
+/// Adds a message with a level arrow, or the end of it that is drawn.
 fn add_level<W: Out>(
     text: &mut TextBuffer<'_, W>,
     picture: &Picture<'_>,
@@ -159,7 +159,7 @@ fn add_slanted<W: Out>(
     add_point(text, picture, event, from)
 }
 
-/// Adds a send alone.
+/// Adds a send that is alone in its row.
 fn add_sent<W: Out>(
     text: &mut TextBuffer<'_, W>,
     picture: &Picture<'_>,
@@ -192,7 +192,7 @@ fn has_end(picture: &Picture<'_>, event: &EventNo) -> bool
     }
 }
 
-/// Adds a receive alone.
+/// Adds a receive that is alone in its row.
 fn add_received<W: Out>(
     text: &mut TextBuffer<'_, W>,
     picture: &Picture<'_>,
@@ -209,7 +209,7 @@ fn add_received<W: Out>(
     }
 }
 
-/// Adds an event that stands alone in its row.
+/// Adds an event that is alone in its row.
 fn add_alone<W: Out>(
     text: &mut TextBuffer<'_, W>,
     picture: &Picture<'_>,

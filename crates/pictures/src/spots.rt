@@ -1,4 +1,4 @@
-//! Where things are on a picture, in pixels from its upper left corner.
+//! The positions on a picture, in pixels from its upper left corner.
 ghost use Rattle.std.specs.Prelude.{◌≡◌, ◌+◌, ◌*◌};
 ghost use Rattle.pictures.specs.Spots.{height, on_line, are_near, amid, between, beside, label_x, number_spot, aside};
 ghost use Rattle.pictures.specs.Spots.{cut_spot};
@@ -7,11 +7,11 @@ use chart::InstanceNo;
 use picture_parts::columns::Column;
 use picture_parts::elements::Spot;
 
-/// Where an event stands.
+/// The position of an event.
 #[derive(Clone, Copy)]
 pub(crate) struct Cell {
     pub(crate) column: Column,
-    /// How many rows are drawn above it.
+    /// The number of rows that are drawn above it.
     pub(crate) place: u32,
 }
 
@@ -22,14 +22,14 @@ pub(crate) fn number_of(instance: InstanceNo) -> u64
     instance.number() as u64
 }
 
-/// Where the arrows of a row are that has so many rows above it.
+/// The y coordinate of the arrows of a row, with `place` rows above it.
 pub(crate) fn height(place: u32) -> u64
     ensures { result ≡ height place }
 {
     u64::from(place) * 24 + 84
 }
 
-/// Where the cell's event meets its lifeline.
+/// The spot at which the cell's event meets its lifeline.
 pub(crate) fn on_line(cell: &Cell) -> Spot
     ensures { result ≡ on_line cell.now }
 {
@@ -47,7 +47,7 @@ pub(crate) fn are_near(first: &Column, second: &Column) -> bool
         || second.number.saturating_sub(first.number) == 1
 }
 
-/// The middle between the rooms of two lines.
+/// The middle between the rooms of two lifelines.
 fn amid(left: &Column, right: &Column) -> u64
     ensures { result ≡ amid left.now right.now }
 {
@@ -65,7 +65,7 @@ fn between(first: &Column, second: &Column) -> u64
     }
 }
 
-/// The middle of a label of this width that stands beside the room of a line, on the side of another.
+/// The middle of a label of this width beside the room of a lifeline, on the side of another one.
 fn beside(line: &Column, other: &Column, width: u32) -> u64
     ensures { result ≡ beside line.now other.now width }
 {
@@ -89,7 +89,7 @@ pub(crate) fn label_x(level: bool, from: &Column, to: &Column, width: u32) -> u6
     }
 }
 
-/// Where the number of the cell's event is.
+/// The spot of the number of the cell's event.
 pub(crate) fn number_spot(cell: &Cell) -> Spot
     ensures { result ≡ number_spot cell.now }
 {
@@ -105,7 +105,7 @@ pub(crate) fn number_spot(cell: &Cell) -> Spot
     }
 }
 
-/// Where the outer end of the arrow of a message is that is cut.
+/// The spot of the outer end of a cut message's arrow.
 pub(crate) fn aside(cell: &Cell) -> Spot
     ensures { result ≡ aside cell.now }
 {
@@ -115,14 +115,14 @@ pub(crate) fn aside(cell: &Cell) -> Spot
     }
 }
 
-/// Where the lower line of a label is in a row that has so many rows above it.
+/// The y coordinate of the lower line of a label, in a row with `place` rows above it.
 fn label_height(place: u32) -> u64
     ensures { result ≡ place * 24 + 80 }
 {
     u64::from(place) * 24 + 80
 }
 
-/// Where the label of a message begins that is cut.
+/// The spot at which the label of a cut message begins.
 pub(crate) fn cut_spot(cell: &Cell) -> Spot
     ensures { result ≡ cut_spot cell.now }
 {

@@ -1,4 +1,4 @@
-//! Which marks a picture has.
+//! The kinds of marks that a picture has.
 ghost use Rattle.std.specs.Prelude.{◌≡◌};
 ghost use Rattle.std.specs.List.{list_any};
 ghost use Rattle.pictures.specs.MarksThere.{is_marked, has_marks, is_waiting, has_waiting, is_in_region, has_region};
@@ -24,7 +24,7 @@ fn has_marks(picture: &Picture<'_>) -> bool
         .any(|report| is_marked(picture, report))
 }
 
-/// Whether the event is a send that is drawn, and whose message waits for an instance with a column.
+/// Whether the event is a send that is drawn, and its message waits for an instance with a column.
 fn is_waiting(picture: &Picture<'_>, event: &EventNo) -> bool
     ensures { result ≡ is_waiting picture.now event.now }
 {
@@ -85,7 +85,7 @@ fn is_any_in_region(picture: &Picture<'_>) -> bool
     picture.rows().iter().any(|row| has_region(picture, row))
 }
 
-/// Which marks a picture has.
+/// The kinds of marks that a picture has.
 pub(crate) fn marks_in(picture: &Picture<'_>) -> Marks
     ensures races { result.races ≡ has_marks picture.now }
     ensures waits { result.waits ≡ list_any (has_waiting picture.now) picture.now.choice.rows }

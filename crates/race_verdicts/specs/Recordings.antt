@@ -1,4 +1,4 @@
--- What a recording tells beside its chart, as contracts see it (this project's profile of logs).
+-- What a recording shows besides its chart, as contracts see it (this project's profile of logs).
 use Rattle.std.specs.Prelude.{ℕ, List, map}
 use Rattle.log_chart.specs.declared.item.Item.{Item}
 use Rattle.log_chart.specs.declared.matching.LogLine.{LogLine}

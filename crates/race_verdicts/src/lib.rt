@@ -1,7 +1,7 @@
-//! What a recording tells beside its chart: what each receive would have taken, which messages had arrived when,
-//! and for each race whether it was luck.
+//! What a recording shows besides its chart: what each receive would have taken, when messages arrived, and for each
+//! race whether it was luck.
 //!
-//! The types here are lent by whoever read the recording. [`luck`] says what they mean, and gives each race its
+//! The reader of a recording lends the values of these types. [`luck`] defines their meaning, and gives each race its
 //! verdict.
 #![tactic(auto)]
 

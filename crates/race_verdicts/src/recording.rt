@@ -1,15 +1,16 @@
-//! Recordings, as they are lent.
+//! Recordings, as their reader lends them.
 use log_chart::{HostLine, LogLine};
 
-/// A sender and names of messages, each as the log writes them. `*` is any sender. Names are one name, or `*` for any,
-/// or all that begin with what stands before a `*` at the end.
+/// A sender and names of messages, as the log writes them. `*` stands for any sender. The names are one name, or `*`
+/// for any name, or `PREFIX*` for all names with this prefix.
 #[derive(Clone, Copy, Debug)]
 pub struct Pattern<'a> {
     pub peer: &'a [u8],
     pub names: &'a [u8],
 }
 
-/// What the receive of a line would have taken. A receive may have several, and would have taken what fits one of them.
+/// A pattern of messages that the receive of a line would have taken. A receive may have several patterns. It would
+/// have taken a message that fits one of them.
 #[derive(Clone, Copy, Debug)]
 pub struct Taken<'a> {
     /// The number of the line, from 0.
@@ -25,26 +26,26 @@ pub struct LineWords<'a> {
     pub name: &'a [u8],
 }
 
-/// That a message reached its receiver.
+/// The arrival of a message at its receiver.
 #[derive(Clone, Copy, Debug, PartialEq, Eq)]
 pub struct Arrival {
-    /// What the message has in common with its lines: see [`log_chart::Entry`].
+    /// The stream, which the message shares with its lines: see [`log_chart::Entry`].
     pub stream: usize,
-    /// So many lines of the log stand before it.
+    /// How many lines of the log are before it.
     pub at: usize,
 }
 
-/// A log, with what it tells beside its messages.
+/// A log, with its observations besides messages.
 #[derive(Clone, Copy)]
 pub struct Recording<'a> {
-    /// Its lines, each receive with the send that it takes. The line with number n is the n-th, from 0.
+    /// Its lines, each receive with the send that it takes. The line with number n is at index n.
     pub lines: &'a [LogLine],
-    /// The events of each host, as the chart has them.
+    /// The events of each host, as in the chart.
     pub hosts: &'a [HostLine],
     /// The words of each line.
     pub words: &'a [LineWords<'a>],
-    /// What receives would have taken, by their lines. A receive of which nothing stands here may have taken anything.
+    /// The patterns of receives, in the order of their lines. A receive without a pattern may have taken any message.
     pub taken: &'a [Taken<'a>],
-    /// What arrived, in the order of the log.
+    /// The arrivals, in the order of the log.
     pub arrivals: &'a [Arrival],
 }

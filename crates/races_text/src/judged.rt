@@ -1,12 +1,13 @@
-//! The races of a recording with the word of each: whether it was luck, and else why not. In words, a line for each
-//! range of earlier events that have one word, or as JSON, an object for each receive.
+//! Writes the races of a recording, each with a word: luck, or the reason why it isn't luck. The form is words, with a
+//! line for each range of earlier events that have one word. Or it is JSON, with an object for each receive.
 //!
-//! What is promised of [`write_luck`], by what is known of each race's verdict ([`Verdicts`]): exactly the ranges
-//! of the chart's reports were written, of the instances that are asked for and of the earlier events that are
-//! shown, each range with the one verdict of its events and as long as it can be; or of these the ranges of luck
-//! alone. The summary ([`RaceSummary`]) says whether one is shown, whether there is a race that is asked for, and
-//! whether one isn't begun in the middle. Or a beginning of this text was written, where a put failed (F24). Nothing
-//! here takes memory.
+//! [`Verdicts`] gives each race its verdict. [`write_luck`] writes exactly the ranges of the chart's reports, for the
+//! instances of the query and the earlier events that it shows. The events of a range have one verdict, and each range
+//! is as long as possible. With `luck` only the ranges of luck are written. If a put fails (F24), a beginning of this
+//! text was written. Nothing here takes memory.
+//!
+//! The summary ([`RaceSummary`]) states whether a race of the query is shown, whether there is one, and whether one
+//! isn't begun in the middle.
 
 mod json;
 mod listing;

@@ -1,11 +1,11 @@
-//! The races of a chart, told by the names of their messages: in words, a line for each range of earlier events, or
-//! as JSON, an object for each receive.
+//! Writes the races of a chart by the names of their messages. The form is words, with a line for each range of earlier
+//! events, or JSON, with an object for each receive.
 //!
-//! What is promised of [`write_races`]: exactly the ranges of the chart's reports were written, of the instances that
-//! are asked for and of the earlier events that are shown, each range as long as it can be and with the names of its
-//! messages; or a beginning of this text, where a put failed (F24). Nothing here takes memory.
+//! [`write_races`] writes exactly the ranges of the chart's reports, for the instances of the query and the earlier
+//! events that it shows. Each range is as long as possible, and has the names of its messages. If a put fails (F24), a
+//! beginning of this text was written. Nothing here takes memory.
 //!
-//! The parts of its texts are public for those who tell more of each range.
+//! The parts of these texts are public, for crates that write more about each range.
 
 mod json;
 mod kept;

@@ -1,4 +1,5 @@
-//! What comes before what in a chart whose instances finish what a message makes them do before they receive again.
+//! The order of a chart's events if each instance finishes what a message makes it do before it receives again (run to
+//! completion).
 
 mod completion;
 mod last_sends;

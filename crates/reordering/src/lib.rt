@@ -1,5 +1,5 @@
-//! Other runs of a chart's events: in which a pair stands the other way round, one such run as a list of steps, and
-//! which pairs stay as they are where more is enforced.
+//! Other runs of a chart's events: those that reverse a pair, one such run as a list of steps, and the pairs that keep
+//! their order if instances run to completion.
 #![tactic(auto)]
 
 pub mod completion;

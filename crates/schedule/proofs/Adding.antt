@@ -27,28 +27,28 @@ pub are_words_by : (line : List ℕ) (b : Bool) → list_all is_word (words_of l
 unfolding are_words
 are_words_by line b e = ap (λ some. some && list_all is_word (words_of line)) (cons_is_some (words_of line) (words_cons line)) ∙ e
 
--- an empty word in front is none
+-- if the first word is empty, not all are words
 pub empty_first : {X : Type 0} (f : X → List (List ℕ)) (o : Option X) (words : List (List ℕ)) (word : List ℕ) → MatchOption o (words ≡ word ∷ []) (λ more. words ≡ word ∷ f more) → eqb (length word) 0 ≡ true → list_all is_word words ≡ false
 empty_first f None words word are empty = ap (list_all is_word) are ∙ ap (λ b. not b && true) empty
 empty_first f (Some x) words word are empty = ap (list_all is_word) are ∙ ap (λ b. not b && list_all is_word (f x)) empty
 
--- a word in front leaves it to the others
+-- if the first word isn't empty, the others decide
 pub word_first : (words others : List (List ℕ)) (word : List ℕ) → words ≡ word ∷ others → eqb (length word) 0 ≡ false → list_all is_word words ≡ list_all is_word others
 word_first words others word are some = ap (list_all is_word) are ∙ ap (λ b. not b && list_all is_word others) some
 
--- line 1 has a name at least
+-- line 1 has at least one name
 pub lone_keyword : (line keyword : List ℕ) → words_of line ≡ keyword ∷ [] → names_of line ≡ Err Syntax
 unfolding names_of are_words
 lone_keyword line keyword are = ap instances_by are ∙ cond-false (is_written keywords.Instances keyword && are_words []) (instances_of []) (Err Syntax) (and_right (is_written keywords.Instances keyword) (are_words []) refl)
 
 -- ---- one name
 
--- the name of a word, and what becomes of it
+-- the name of a word, and the result of adding it
 pub with_word-by : (names : List (List ℕ)) (word name : List ℕ) (r : Result (List (List ℕ)) Cause) → in_line 1 (name_or_cause word) ≡ Ok name → with_name names name ≡ r → with_word names word ≡ r
 unfolding with_word
 with_word-by names word name r e f = bind_at _ (with_name names) name (in_line_ok 1 _ name e) ∙ f
 
--- ---- one word after the other
+-- ---- one word after another
 
 -- the last word
 pub words_end : (names new : List (List ℕ)) (word : List ℕ) → in_line 1 (with_word names word) ≡ Ok new → with_words names (word ∷ []) ≡ Ok new
@@ -60,7 +60,7 @@ pub words_go_on : (names new : List (List ℕ)) (word : List ℕ) (words : List 
 unfolding with_words
 words_go_on names new word words e = bind_at _ (λ more. with_words more words) new (in_line_ok 1 _ new e)
 
--- a word that names no next instance decides
+-- a word that cannot name the next instance decides
 pub words_stop : {X : Type 0} (f : X → List (List ℕ)) (error : TextError) (names : List (List ℕ)) (o : Option X) (words : List (List ℕ)) (word : List ℕ) (total : Result (List (List ℕ)) Cause)
     → MatchOption o (words ≡ word ∷ []) (λ more. words ≡ word ∷ f more) → with_words names words ≡ total → Fails error (in_line 1 (with_word names word)) → Fails error (in_line 1 total)
 unfolding with_words

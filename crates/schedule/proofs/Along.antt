@@ -1,4 +1,4 @@
--- Along a schedule's commands: where one more leads.
+-- Along a schedule's commands: the state after one more.
 use Rattle.std.proofs.Common.{◌≡◌, ℕ, ◌+◌, ◌<◌, List, length, take, get_or, sym, ap, ◌∙◌}
 use Rattle.std.proofs.lemmas.List.Sums.{fold_more}
 use Rattle.schedule.specs.declared.command.Command.{Command}

@@ -1,4 +1,4 @@
--- Line 2, the capacity: what is read is spelled so, and what is spelled so is read. Laws about lists alone.
+-- Line 2, the capacity: a capacity that is read has this line, and such a line is read. Laws only about lists.
 use Rattle.std.proofs.Common.{◌≡◌, ℕ, ◌+◌, ◌-◌, ◌*◌, ◌/◌, ◌%◌, ◌≤◌, ◌<◌, true, false, not, ◌&&◌, ◌||◌, leb, eqb, List, [], ◌∷◌, ◌++◌, Ok, Err, refl, sym, ap, ◌∙◌, subst, arith, inl, inr}
 use Rattle.std.specs.Prelude.{decimal}
 use Rattle.std.proofs.lemmas.Bool.{and_parts, and_from, le-leb, leb-true, ne_eqb, cond-true, cases_lt}
@@ -31,7 +31,7 @@ slots_are n k e =
     let both = and_parts (leb 1 n) (leb n MAX_CAPACITY) a.0 in
     (ok_is n k a.1, leb-true 1 n both.0, leb-true n MAX_CAPACITY both.1)
 
--- the digits say so many slots
+-- the digits name k slots
 record SaySlots (digits : List ℕ) (k : ℕ) : Type 0 where
   pub first : 1 ≤ k
   pub last : k ≤ MAX_CAPACITY
@@ -59,7 +59,7 @@ say_two a b k low high low' high' e =
     same_digits : {x y z w : ℕ} → x ≡ z → y ≡ w → x ∷ y ∷ [] ≡ z ∷ w ∷ []
     same_digits p q = cc
 
--- a number that is read is spelled in decimal
+-- a number that is read is in decimal
 slots_sound : (digits : List ℕ) (k : ℕ) → is_number digits ≡ true → slots_of digits ≡ Ok k → SaySlots digits k
 unfolding is_number slots_of
 slots_sound [] k number e = absurd cc
@@ -76,7 +76,7 @@ slots_sound (a ∷ b ∷ []) k number e =
     say_two a b k low first.1 second.0 second.1 e
 slots_sound (a ∷ b ∷ c ∷ ds) k number e = absurd (let long = long_number (a ∷ b ∷ c ∷ ds) number (omega arith) in cc)
 
--- ---- a number that is spelled in decimal is read
+-- ---- a decimal number is read
 
 is_digit_again : (a : ℕ) → 48 ≤ a → a ≤ 57 → is_ascii_digit a ≡ true
 is_digit_again a low high = and_from (leb 48 a) (leb a 57) (le-leb 48 a low) (le-leb a 57 high)
@@ -84,7 +84,7 @@ is_digit_again a low high = and_from (leb 48 a) (leb a 57) (le-leb 48 a low) (le
 slots_again : (n : ℕ) → 1 ≤ n → n ≤ MAX_CAPACITY → slots n ≡ Ok n
 slots_again n first last = cond-true (leb 1 n && leb n MAX_CAPACITY) (Ok n) (Err Capacity) (and_from (leb 1 n) (leb n MAX_CAPACITY) (le-leb 1 n first) (le-leb n MAX_CAPACITY last))
 
--- the bytes are a number, which says so many slots, and are plain
+-- the bytes are a number, which names k slots, and are plain
 record AreDigits (digits : List ℕ) (k : ℕ) : Type 0 where
   pub number : is_number digits ≡ true
   pub says : slots_of digits ≡ Ok k
@@ -130,7 +130,7 @@ digits_again k first last = elim (cases_lt k 10) [
 
 -- ---- the line
 
--- line 2 says so many slots
+-- line 2 names k slots
 pub record IsCapacityLine (line : List ℕ) (k : ℕ) : Type 0 where
   pub first : 1 ≤ k
   pub last : k ≤ MAX_CAPACITY
@@ -148,7 +148,7 @@ capacity_by-sound line (keyword ∷ digits ∷ []) k is e =
     record { first = say.first; last = say.last; is = is ∙ ap (λ w. spaced (w ∷ digits ∷ [])) same ∙ ap (λ w. spaced (written keywords.Capacity ∷ w ∷ [])) say.are }
 capacity_by-sound line (keyword ∷ digits ∷ word ∷ words) k is e = absurd cc
 
--- what is read
+-- a line that is read
 pub capacity_sound : (line : List ℕ) (k : ℕ) → capacity_of line ≡ Ok k → IsCapacityLine line k
 unfolding capacity_of
 capacity_sound line k e = capacity_by-sound line (words_of line) k (is_spaced line) e
@@ -162,7 +162,7 @@ capacity_by-again k first last =
     let again = digits_again k first last in
     cond-true (is_written keywords.Capacity (written keywords.Capacity) && is_number (decimal k)) (slots_of (decimal k)) (Err Syntax) (and_from (is_written keywords.Capacity (written keywords.Capacity)) (is_number (decimal k)) refl again.number) ∙ again.says
 
--- the capacity of a line 2 that is spelled so
+-- the capacity of its own line 2
 pub capacity_again : (k : ℕ) → 1 ≤ k → k ≤ MAX_CAPACITY → capacity_of (capacity_line k) ≡ Ok k
 unfolding capacity_of
 capacity_again k first last = ap capacity_by (spaced_again (written keywords.Capacity) (decimal k ∷ []) (plain_line k first last)) ∙ capacity_by-again k first last

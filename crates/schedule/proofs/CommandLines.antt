@@ -1,4 +1,4 @@
--- A command's line: what is read is spelled so, and what is spelled so is read. Laws about lists alone.
+-- A command's line: a command that is read has this line, and such a line is read. Laws only about lists.
 use Rattle.std.proofs.Common.{◌≡◌, ◌≢◌, ℕ, ◌+◌, ◌≤◌, Bool, true, false, cond, eqb, List, [], ◌∷◌, length, map, Option, Some, None, Result, Ok, Err, refl, sym, ap, ◌∙◌, subst, inl, inr, not, ◌||◌}
 use Rattle.std.specs.Prelude.{bytes_eq}
 use Rattle.std.specs.List.{AllByRecursion}
@@ -22,9 +22,9 @@ use Rattle.schedule.specs.declared.command.Action.TheVariants.{Send, Receive, An
 use Rattle.schedule.specs.declared.command.Command.{Command}
 use Rattle.texts.proofs.Spacing.{is_spaced}
 
--- ---- what is read is spelled so
+-- ---- a command that is read has this line
 
--- the words say the acting, which is one of the instances' and can be spelled
+-- the words are those of the actor and its action, and the actor is one of the instances and can be spelled
 record Says (names words : List (List ℕ)) (acting : ActorAction) : Type 0 where
   pub among : (acting.0 ≤ length names) × HasPartner (length names) acting.0 acting.1
   pub spelled : (1 ≤ acting.0) × CanBeNamed acting.1
@@ -54,7 +54,7 @@ pair_of-partners names x y pair e =
     subst (ArePartners names x y) (ok_is (a.0, b.0) pair g.1)
     (record { actor = known_of-named names x a.0 a.1; partner = known_of-named names y b.0 b.1; other = eqb-false a.0 b.0 g.0 })
 
--- the same where the names are read from words
+-- the same if the names are read from words
 partners-read : (names : List (List ℕ)) (x y a b : List ℕ) (pair : ℕ × ℕ) → name_or_cause x ≡ Ok a → name_or_cause y ≡ Ok b → pair_of names a b ≡ Ok pair → ArePartners names x y pair
 partners-read names x y a b pair p q e =
     subst (λ v. ArePartners names v y pair) (name_is x a p).0 (subst (λ v. ArePartners names a v pair) (name_is y b q).0 (pair_of-partners names a b pair e))
@@ -144,7 +144,7 @@ by_two-says names x k acting e =
     keyword : (word : List ℕ) → bytes_eq k word ≡ true → Says names (x ∷ word ∷ []) acting → Says names (x ∷ k ∷ []) acting
     keyword word same says = subst (λ w. Says names (x ∷ w ∷ []) acting) (sym (same_bytes k word same)) says
 
--- of three
+-- a line of three words
 by_three-says : (names : List (List ℕ)) (x k y : List ℕ) (acting : ActorAction) → by_three names x k y ≡ Ok acting → Says names (x ∷ k ∷ y ∷ []) acting
 unfolding by_three is_written
 by_three-says names x k y acting e =
@@ -163,7 +163,7 @@ last_test false false true w e = cc
 last_test false false false true e = refl
 last_test false false false false e = cc
 
--- of four
+-- a line of four words
 by_four-says : (names : List (List ℕ)) (x k y m : List ℕ) (acting : ActorAction) → action_by names (x ∷ k ∷ y ∷ m ∷ []) ≡ Ok acting → Says names (x ∷ k ∷ y ∷ m ∷ []) acting
 unfolding is_written
 by_four-says names x k y m acting e =
@@ -171,7 +171,7 @@ by_four-says names x k y m acting e =
     let same = same_bytes k (written keywords.Send) (last_test (eqb (length x) 0) (eqb (length y) 0) (eqb (length m) 0) (is_written keywords.Send k) g.0) in
     subst (λ w. Says names (x ∷ w ∷ y ∷ m ∷ []) acting) (sym same) (send_of-says names x y m acting g.1)
 
--- of any number
+-- a line of any number of words
 action_by-says : (names words : List (List ℕ)) (acting : ActorAction) → action_by names words ≡ Ok acting → Says names words acting
 action_by-says names [] acting e = absurd cc
 action_by-says names (x ∷ []) acting e = absurd cc
@@ -180,7 +180,7 @@ action_by-says names (x ∷ k ∷ y ∷ []) acting e = by_three-says names x k y
 action_by-says names (x ∷ k ∷ y ∷ m ∷ []) acting e = by_four-says names x k y m acting e
 action_by-says names (x ∷ k ∷ y ∷ m ∷ z ∷ words) acting e = absurd cc
 
--- the commands are of the instances, can be spelled, and are numbered from n, and the lines say them
+-- the commands are of the instances, can be spelled, are numbered from n, and have these lines
 pub record AreCommandLines (names : List (List ℕ)) (n : ℕ) (lines : List (List ℕ)) (commands : List Command) : Type 0 where
   pub among : AllByRecursion (IsAmong (length names)) commands
   pub spelled : AllByRecursion CanBeSpelled commands
@@ -202,7 +202,7 @@ command_at-sound names n line command e =
     subst (IsCommandLine names n line) (ok_is (record { line = n; actor = a.0.0; action = a.0.1 }) command a.2)
     (record { among = says.among; spelled = says.spelled; numbered = refl; is = is_spaced line ∙ ap spaced says.are })
 
--- line after line
+-- one line after another
 pub commands_from-sound : (names : List (List ℕ)) (n : ℕ) (lines : List (List ℕ)) (commands : List Command) → commands_from names n lines ≡ Ok commands → AreCommandLines names n lines commands
 unfolding commands_from
 commands_from-sound names n [] commands e = subst (AreCommandLines names n []) (ok_is [] commands e) (record { among = tt; spelled = tt; numbered = tt; are = refl })

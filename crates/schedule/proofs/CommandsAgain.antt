@@ -1,4 +1,4 @@
--- Commands whose lines are spelled are read again: laws about lists alone.
+-- Commands are read again from their lines: laws only about lists.
 use Rattle.std.proofs.Common.{◌≡◌, ◌≢◌, ℕ, ◌+◌, ◌≤◌, Bool, true, false, cond, eqb, List, [], ◌∷◌, length, map, Ok, Err, All, refl, sym, ap, ◌∙◌, not, ◌||◌}
 use Rattle.std.specs.List.{AllByRecursion}
 use Rattle.std.proofs.lemmas.Bool.{ne_eqb, cond-false}
@@ -119,7 +119,7 @@ module _ (names : List (List ℕ)) (are : AreNames names) (named : All IsName na
   two_again p k action by first last =
       cond-false (eqb (length (name_at names p)) 0) (Err Syntax) (by_two names (name_at names p) k) (some p first last) ∙ by ∙ alone_again p action first last
 
-  -- of three
+  -- a line of three words
   three_again : (p q : ℕ) (k : List ℕ) (action : Action) → by_three names (name_at names p) k (name_at names q) ≡ Ok (p, action) → 1 ≤ p → p ≤ length names → 1 ≤ q → q ≤ length names
       → action_by names (name_at names p ∷ k ∷ name_at names q ∷ []) ≡ Ok (p, action)
   three_again p q k action by first last first' last' =
@@ -127,7 +127,7 @@ module _ (names : List (List ℕ)) (are : AreNames names) (named : All IsName na
       let y : List ℕ = name_at names q in
       cond-false (eqb (length x) 0 || eqb (length y) 0) (Err Syntax) (by_three names x k y) (not_empty_three (eqb (length x) 0) (eqb (length y) 0) (some p first last) (some q first' last')) ∙ by
 
-  -- of any number
+  -- a line of any number of words
   action_again : (p : ℕ) (action : Action) → 1 ≤ p → p ≤ length names → HasPartner (length names) p action → CanBeNamed action → action_by names (name_at names p ∷ action_words names action) ≡ Ok (p, action)
   action_again p (Send q m) first last has can =
       let x : List ℕ = name_at names p in
@@ -169,7 +169,7 @@ module _ (names : List (List ℕ)) (are : AreNames names) (named : All IsName na
       bind_at (in_line n (action_of names (command_line names command))) (λ acting. Ok (record { line = n; actor = acting.0; action = acting.1 })) (command.actor, command.action) (ap (in_line n) (action_line_again command among can))
       ∙ ap (λ m. Ok (record { line = m; actor = command.actor; action = command.action })) (sym numbered)
 
-  -- one after the other
+  -- one line after another
   pub commands_again : (n : ℕ) (commands : List Command) → AllByRecursion (IsAmong (length names)) commands → AllByRecursion CanBeSpelled commands → AreNumbered n commands
       → commands_from names n (map (command_line names) commands) ≡ Ok commands
   unfolding commands_from
@@ -178,7 +178,7 @@ module _ (names : List (List ℕ)) (are : AreNames names) (named : All IsName na
       bind_at (command_at names n (command_line names command)) (λ first. commands_from names (n + 1) (map (command_line names) commands) >>= λ others. Ok (first ∷ others)) command (command_again n command among.0 can.0 numbered.0)
       ∙ bind_at (commands_from names (n + 1) (map (command_line names) commands)) (λ others. Ok (command ∷ others)) commands (commands_again (n + 1) commands among.1 can.1 numbered.1)
 
-  -- no line of theirs has a line feed
+  -- none of their lines has a line feed
   pub commands_lack : (commands : List Command) → AllByRecursion (IsAmong (length names)) commands → AllByRecursion CanBeSpelled commands → AllByRecursion (Lacks 10) (map (command_line names) commands)
   commands_lack [] among can = tt
   commands_lack (command ∷ commands) among can =

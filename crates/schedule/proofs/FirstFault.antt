@@ -1,4 +1,4 @@
--- The first faulty line decides: what follows it changes nothing. A law about lists alone.
+-- The first faulty line decides: nothing that follows it changes the answer. A law only about lists.
 use Rattle.std.proofs.Common.{◌≡◌, ℕ, ◌+◌, Bool, true, false, cond, eqb, List, [], ◌∷◌, ◌++◌, length, Ok, Err, ap, ◌∙◌, inl, inr}
 use Rattle.texts.proofs.Parts.{lines_onto}
 use Rattle.texts.proofs.Results.{bind_err, bind_at, stops}
@@ -23,7 +23,7 @@ commands_stop names m (line ∷ lines) more n c e =
           ]
     ]
 
--- the end of a text is no line
+-- the end of a text is no fault of a line
 no_line : {A : Type 0} (b : Bool) (read : A) (n : ℕ) (c : Cause) → cond b (Ok read) (Err Unfinished) ≡ Err (Line n c) → ⊥
 no_line true read n c e = absurd cc
 no_line false read n c e = absurd cc

@@ -1,4 +1,4 @@
--- Line 1, the instances' names: what is read is spelled so, and what is spelled so is read. Laws about lists alone.
+-- Line 1, the instances' names: names that are read have this line, and such a line is read. Laws only about lists.
 use Rattle.std.proofs.Common.{◌≡◌, ℕ, ◌≤◌, ◌<◌, true, not, ◌&&◌, eqb, ltb, List, [], ◌∷◌, ◌++◌, length, Some, Ok, Err, All, Contains, refl, sym, ap, ◌∙◌, subst, arith, append_assoc, append-nil}
 use Rattle.std.specs.Prelude.{slice_get}
 use Rattle.std.specs.List.{AllByRecursion, list_all}
@@ -24,19 +24,19 @@ use Rattle.schedule.specs.ScheduleText.{instances_line, spaced}
 use Rattle.texts.proofs.NewNames.{with_name-ok, with_name-names}
 use Rattle.texts.proofs.Spacing.{ArePlain, plain_names, spaced_again, spaced_lacks, is_spaced}
 
--- ---- what is read is spelled so
+-- ---- names that are read have this line
 
--- no names are names
+-- an empty list is a list of names
 no_names : AreNames []
 no_names = record { limit = omega arith; distinct = λ i j w here there. absurd cc }
 
--- the words went behind the names before them, and are names
+-- the words were added after the earlier names, and are names
 record AreGiven (names words new : List (List ℕ)) : Type 0 where
   pub are : AreNames new
   pub named : AllByRecursion IsName words
   pub behind : new ≡ names ++ words
 
--- a new name by its word
+-- a new name, from its word
 with_word-given : (names : List (List ℕ)) (word : List ℕ) (new : List (List ℕ)) → AreNames names → with_word names word ≡ Ok new → AreNames new × IsName word × (new ≡ names ++ word ∷ [])
 unfolding with_word
 with_word-given names word new old e =
@@ -45,7 +45,7 @@ with_word-given names word new old e =
     let given = with_name-names names a.0 new old a.2 in
     (given.0, name.1, given.1 ∙ ap (λ w. names ++ w ∷ []) name.0)
 
--- and by many
+-- new names, from many words
 with_words-given : (names words new : List (List ℕ)) → AreNames names → with_words names words ≡ Ok new → AreGiven names words new
 unfolding with_words
 with_words-given names [] new old e =
@@ -57,7 +57,7 @@ with_words-given names (word ∷ words) new old e =
     let more = with_words-given a.0 words new one.0 a.2 in
     record { are = more.are; named = (one.1, more.named); behind = more.behind ∙ ap (λ l. l ++ words) one.2 ∙ append_assoc names (word ∷ []) words }
 
--- line 1 says these names
+-- line 1 has these names
 pub record AreInstances (line : List ℕ) (names : List (List ℕ)) : Type 0 where
   pub several : 2 ≤ length names
   pub are : AreNames names
@@ -87,14 +87,14 @@ instances_by-sound line (keyword ∷ words) names is e =
       is = is ∙ ap (λ w. spaced (w ∷ words)) same ∙ ap (λ l. spaced (written keywords.Instances ∷ l)) (sym behind);
     }
 
--- the same by the line
+-- the same from the line
 pub names_sound : (line : List ℕ) (names : List (List ℕ)) → names_of line ≡ Ok names → AreInstances line names
 unfolding names_of
 names_sound line names e = instances_by-sound line (words_of line) names (is_spaced line) e
 
--- ---- what is spelled so is read
+-- ---- the line of names is read
 
--- a name that stands behind others is not among them
+-- a name that follows others is not among them
 behind_others : (names : List (List ℕ)) (name : List ℕ) (others : List (List ℕ)) → AreNames (names ++ name ∷ others) → Contains names name → ⊥
 behind_others names name others are there =
     let i : ℕ = there.0 in
@@ -136,7 +136,7 @@ instances_again names some are named =
 plain_line : (names : List (List ℕ)) → All IsName names → ArePlain (written keywords.Instances ∷ names)
 plain_line names named = (plain_written keywords.Instances, plain_names names named)
 
--- the names of a line 1 that is spelled so
+-- the names of their own line 1
 pub names_again : (names : List (List ℕ)) → 2 ≤ length names → AreNames names → All IsName names → names_of (instances_line names) ≡ Ok names
 unfolding names_of
 names_again names some are named =

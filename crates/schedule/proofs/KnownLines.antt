@@ -1,4 +1,4 @@
--- Commands whose names were found are what their lines say: laws about lists alone.
+-- Commands whose names were found are those of their lines: laws only about lists.
 use Rattle.std.proofs.Common.{◌≡◌, ◌≢◌, ℕ, true, false, cond, eqb, List, [], ◌∷◌, length, Result, Ok, Err, refl, sym, ap, ◌∙◌, ◌||◌, not}
 use Rattle.std.proofs.lemmas.Bool.{ne_eqb, cond-false}
 use Rattle.chart.specs.Names.{IsName}
@@ -26,7 +26,7 @@ is_instance names word (Ok (Ok q)) p h e =
 is_instance names word (Ok (Err cause)) p h e = cc
 is_instance names word (Err cause) p h e = cc
 
--- what stands behind a word and its space are the other words
+-- the text after a word and its space has the other words
 pub behind_send : (rest : List ℕ) → words_of (115 ∷ 101 ∷ 110 ∷ 100 ∷ 32 ∷ rest) ≡ written keywords.Send ∷ words_of rest
 unfolding words_of written
 behind_send rest = refl
@@ -35,7 +35,7 @@ pub behind_receive : (rest : List ℕ) → words_of (114 ∷ 101 ∷ 99 ∷ 101 
 unfolding words_of written
 behind_receive rest = refl
 
--- what a line says, by its first word and the others
+-- what a line means, from its first word and the others
 pub action_is : (names : List (List ℕ)) (line actor rest : List ℕ) → words_of line ≡ actor ∷ words_of rest → action_of names line ≡ action_by names (actor ∷ words_of rest)
 unfolding action_of
 action_is names line actor rest e = ap (action_by names) e

@@ -1,4 +1,4 @@
--- What a schedule means is legal.
+-- The meaning of a schedule is legal.
 use Rattle.std.proofs.Common.{◌≡◌, ◌≢◌, ℕ, ◌+◌, ◌<◌, ◌≤◌, ◌==◌, inl, inr, Bool, true, false, cond, List, [], ◌∷◌, length, Option, None, Some, refl, sym, subst, arith}
 use Rattle.std.specs.Prelude.{fold, nat_lt, nat_le, Result, Ok, Err, All}
 use Rattle.std.proofs.lemmas.Bool.{eqb-true, eqb-false, ltb-true, ltb-false, leb-false}
@@ -21,18 +21,18 @@ use Rattle.schedule.specs.Meaning.{Run, State, LegalLaw, changed, has_waiting, i
 use Rattle.schedule.specs.Plans.{HasPartner, HasNumber, IsAmong, IsNumbered}
 use Rattle.schedule.proofs.Scanning.{first-other}
 
--- the history is legal, the scans begin at instances, and each open coregion may be gone on with
+-- the history is legal, the scans begin at instances, and each open coregion may be continued
 pub record IsSound (n k : ℕ) (r : Run) : Type 0 where
   pub legal : IsLegal n k r.history
   pub last : (p : ℕ) → r.last p ≤ n
   pub region : (p : ℕ) → MayHaveRegion (chart_of r.history p) (r.region p)
 
--- the schedule went on soundly, or left a note
+-- the schedule went on to a sound run, or left a note
 abbrev pub GoesOn : ℕ → ℕ → Result Run Word → Type 0
 GoesOn n k (Ok r) = IsSound n k r
 GoesOn n k (Err word) = Unit {0}
 
--- a changed function keeps what holds of each value, and of the new one
+-- a fact that holds of each value and of the new one holds of the changed function
 changed-each : (P : ℕ → ℕ → Type 0) (f : ℕ → ℕ) (p v : ℕ) → P p v → ((q : ℕ) → q ≢ p → P q (f q)) → (q : ℕ) → P q (changed f p v q)
 changed-each P f p v here there q = go (q == p) refl
   where
@@ -40,7 +40,7 @@ changed-each P f p v here there q = go (q == p) refl
     go true e = subst (λ x. P x v) (sym (eqb-true q p e)) here
     go false e = there q (eqb-false q p e)
 
--- by one event of p, coregions go on: p's own by what is known of it, and the others' as their lines stay
+-- with one occurrence coregions can be continued: the actor's own by assumption, and the others' since their lines stay
 regions-after : (h : List Occurrence) (e : Occurrence) (region : ℕ → ℕ) → MayHaveRegion (chart_of (e ∷ h) (by e)) (region (by e)) → ((q : ℕ) → MayHaveRegion (chart_of h q) (region q)) → (q : ℕ) → MayHaveRegion (chart_of (e ∷ h) q) (region q)
 regions-after h e region own before q = go (by e == q) refl
   where
@@ -97,7 +97,7 @@ module _ (n k : ℕ) (r : Run) (sound : IsSound n k r) (p : ℕ) where
             region = regions-after r.history e r.region (subst (λ l. MayHaveRegion l (r.region p)) (sym line) (may-again (chart_of r.history p) (receive_event q first.0.name (r.region p)) (sound.region p))) sound.region;
           }
 
-  -- an answer of a receive that takes nothing
+  -- the answer of a receive that takes nothing
   nothing-on : (closed : Bool) → GoesOn n k (cond closed (Err words.Ended) (Err words.Nothing))
   nothing-on true = tt
   nothing-on false = tt
@@ -166,7 +166,7 @@ acted-on n k r command sound among numbered = go command.action among.1 numbered
     go Open partner one = opened-on n k r sound p
     go Shut partner one = shut-on n k r sound p
 
--- what a command leaves is as sound as what it found
+-- a command leaves a sound run sound
 stepped-on : (n k : ℕ) (s : State) (command : Command) → IsSound n k s.run → IsAmong n command → IsNumbered command → IsSound n k (step n k s command).run
 stepped-on n k s command sound among numbered = go (acts n k s.run command.actor command.action) (acted-on n k s.run command sound among numbered)
   where
@@ -174,7 +174,7 @@ stepped-on n k s command sound among numbered = go (acts n k s.run command.actor
     go (Ok r) on = on
     go (Err word) on = sound
 
--- and so on
+-- several commands leave a sound run sound
 pub sound_after : (n k : ℕ) (commands : List Command) (s : State) → IsSound n k s.run → All (IsAmong n) commands → All IsNumbered commands → IsSound n k (fold (step n k) s commands).run
 sound_after n k [] s sound among numbered = sound
 sound_after n k (command ∷ commands) s sound among numbered =

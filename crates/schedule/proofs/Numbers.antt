@@ -1,4 +1,4 @@
--- Numbers in decimal that are too long for a capacity.
+-- Decimal numbers that are too long for a capacity.
 use Rattle.std.proofs.Common.{◌≡◌, ℕ, ◌+◌, ◌-◌, ◌*◌, ◌≤◌, ◌<◌, Bool, true, not, leb, eqb, List, [], ◌∷◌, length, Ok, Err, refl, sym, arith, ◌∙◌, ◌&&◌, ◌||◌, inl, inr}
 use Rattle.std.specs.List.{list_all}
 use Rattle.std.proofs.lemmas.Bool.{and_parts, or_cases, eqb-true, eqb-false, leb-true, lt-leb, and_right, not-true, cond-false}

@@ -1,4 +1,5 @@
--- A whole text: what is read is spelled so, what is spelled so is read, and the first faulty line decides. Laws about lists alone.
+-- A whole text: a schedule that is read has this text, such a text is read, and the first faulty line decides. Laws
+-- only about lists.
 use Rattle.std.proofs.Common.{◌≡◌, ℕ, eqb, List, [], ◌∷◌, ◌++◌, length, Result, Ok, refl, sym, ap, subst, ◌∙◌, arith, append-nil}
 use Rattle.std.specs.List.{AllByRecursion, flat_map}
 use Rattle.std.proofs.lemmas.Bool.{eqb-true}
@@ -22,7 +23,7 @@ use Rattle.schedule.proofs.InstanceLine.{names_sound, names_again, instances_lac
 
 -- ---- the lines that a plan is read from
 
--- what is left to read: from line 2's capacity on, from line 2 on, and from line 1 on
+-- what remains to be read: from line 2's capacity on, from line 2 on, and from line 1 on
 abbrev pub after_second : List (List ℕ) → List ℕ → List (List ℕ) → List ℕ → Result Plan Fault
 after_second names second lines rest = in_line 2 (capacity_of second) >>= λ capacity. commands_of names lines rest >>= λ commands. Ok (record { names = names; capacity = capacity; commands = commands })
 
@@ -88,7 +89,7 @@ unfolding schedule_of commands_of
 read_so bytes plan from =
     rw (from.lines, from.whole, from.names, from.capacity, from.commands) refl
 
--- ---- what is read is spelled so
+-- ---- a schedule that is read has this text
 
 pub read_spelled : (bytes : List ℕ) (plan : Plan) → schedule_of bytes ≡ Ok plan → HasText plan × (bytes ≡ schedule_text plan)
 unfolding schedule_text
@@ -111,7 +112,7 @@ read_spelled bytes plan e =
     same_three : {a b c d : List ℕ} {others others' : List (List ℕ)} → a ≡ b → c ≡ d → others ≡ others' → a ∷ c ∷ others ≡ b ∷ d ∷ others'
     same_three p q r = cc
 
--- ---- what is spelled so is read
+-- ---- the text of a schedule is read
 
 plan_lines-lack : (plan : Plan) → HasText plan → AllByRecursion (Lacks 10) (plan_lines plan)
 plan_lines-lack plan text =
@@ -136,10 +137,10 @@ spelled_read plan text =
       commands = commands_again plan.names text.keeps.names text.named 3 plan.commands among spelled text.numbered;
     })
 
--- so no two plans have one text
+-- so no two plans have the same text
 pub one_text : (p q : Plan) → HasText p → HasText q → schedule_text p ≡ schedule_text q → p ≡ q
 one_text p q has has' same = ok_is p q (sym (spelled_read p has) ∙ ap schedule_of same ∙ spelled_read q has')
 
--- a text that is spelled so has no fault
+-- the text of a plan has no fault
 pub no_fault : (error : TextError) (bytes : List ℕ) (plan : Plan) → HasText plan → bytes ≡ schedule_text plan → Fails error (schedule_of bytes) → Fails error (Ok plan)
 no_fault error bytes plan text is h = subst (Fails error) (ap schedule_of is ∙ spelled_read plan text) h

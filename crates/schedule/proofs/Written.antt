@@ -1,4 +1,4 @@
--- That a schedule's text as it is written is its lines, with one space between words.
+-- A schedule's text as it is written is its lines, with one space between words.
 use Rattle.std.proofs.Common.{◌≡◌, ℕ, List, [], ◌∷◌, ◌++◌, refl, sym, ap, ◌∙◌, append_assoc, append-nil, map, decimal, codes}
 use Rattle.std.specs.List.{flat_map}
 use Rattle.texts.specs.Instances.{name_at}
@@ -10,7 +10,7 @@ use Rattle.schedule.specs.Plans.{Plan}
 use Rattle.schedule.specs.ScheduleText.{spaced, instances_line, capacity_line, action_words, command_line, schedule_text}
 use Rattle.schedule.specs.WrittenLines.{behind_space, line_end, line_of, capacity_text, command_text, plan_text}
 
--- a word, and the others behind a space each
+-- a word, and the others after a space each
 spaced-is : (first : List ℕ) (words : List (List ℕ)) → spaced (first ∷ words) ≡ first ++ flat_map behind_space words
 unfolding behind_space
 spaced-is first [] = sym (append-nil first)

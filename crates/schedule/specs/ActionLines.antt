@@ -1,4 +1,4 @@
--- The commands of a schedule's text: who acts, and what it does (this project's profile).
+-- The commands of a schedule's text: the acting instance, and its action (this project's profile).
 use Rattle.std.specs.Prelude.{ℕ, not, ◌||◌, ◌==◌, List, [], ◌∷◌, length, Result, Ok, Err, if◌then◌else◌}
 use Rattle.texts.specs.Faults.{◌>>=◌}
 use Rattle.texts.specs.Instances.{known_of}
@@ -25,7 +25,7 @@ both_of actor partner = do
 unfoldable pub pair_of : List (List ℕ) → List ℕ → List ℕ → Result (ℕ × ℕ) Cause
 pair_of names a b = both_of (known_of names a) (known_of names b)
 
--- actor and partner, where nothing else of the line is a name
+-- actor and partner of a line that has no other name
 unfoldable pub partners_of : List (List ℕ) → List ℕ → List ℕ → Result (ℕ × ℕ) Cause
 partners_of names a b = do
   actor ← name_or_cause a
@@ -60,20 +60,20 @@ alone_of names a action = do
   by ← known_of names actor
   Ok (by, action)
 
--- a line of two words, the first of which has a byte at least
+-- a line of two words, the first of which has at least one byte
 unfoldable pub by_two : List (List ℕ) → List ℕ → List ℕ → Result ActorAction Cause
 by_two names a k =
     if is_written keywords.Any k then alone_of names a Any else (
     if is_written keywords.Concurrent k then alone_of names a Open else (
     if is_written keywords.EndConcurrent k then alone_of names a Shut else Err Syntax))
 
--- of three words, the first and the last of which do
+-- a line of three words, the first and the last of which have
 unfoldable pub by_three : List (List ℕ) → List ℕ → List ℕ → List ℕ → Result ActorAction Cause
 by_three names a k b =
     if is_written keywords.Receive k then receive_of names a b else (
     if is_written keywords.Close k then close_of names a b else Err Syntax)
 
--- by the words of the line: none is empty
+-- the action of the line's words; none of them is empty
 abbrev pub action_by : List (List ℕ) → List (List ℕ) → Result ActorAction Cause
 action_by names (a ∷ k ∷ []) = if length a == 0 then Err Syntax else by_two names a k
 action_by names (a ∷ k ∷ b ∷ []) = if length a == 0 || length b == 0 then Err Syntax else by_three names a k b
@@ -81,6 +81,6 @@ action_by names (a ∷ k ∷ b ∷ m ∷ []) = if length a == 0 || length b == 0
     || not (is_written keywords.Send k) then Err Syntax else send_of names a b m
 action_by names _ = Err Syntax
 
--- what the line says
+-- what the line means
 unfoldable pub action_of : List (List ℕ) → List ℕ → Result ActorAction Cause
 action_of names line = action_by names (words_of line)

@@ -11,24 +11,24 @@ use Rattle.schedule.specs.Keywords.{is_written}
 use Rattle.schedule.specs.declared.keyword.ScheduleWord.TheVariants as keywords
 use Rattle.chart.specs.declared.history.TheConstants.{MAX_CAPACITY}
 
--- there is a word, and each has a byte at least
+-- there is a word, and each has at least one byte
 unfoldable pub are_words : List (List ℕ) → Bool
 are_words words = not (length words == 0) && list_all is_word words
 
--- the word names the next instance
+-- the names with the word as the name of the next instance
 unfoldable pub with_word : List (List ℕ) → List ℕ → Result (List (List ℕ)) Cause
 with_word names word = do
   name ← name_or_cause word
   with_name names name
 
--- each word names the next instance
+-- the names with each word as the name of the next instance
 unfoldable pub with_words : List (List ℕ) → List (List ℕ) → Result (List (List ℕ)) Cause
 with_words names [] = Ok names
 with_words names (word ∷ words) = do
   more ← with_word names word
   with_words more words
 
--- two names at least
+-- at least two names
 abbrev pub several : List (List ℕ) → Result (List (List ℕ)) Cause
 several names = if nat_lt (length names) 2 then Err Instances else Ok names
 
@@ -48,21 +48,21 @@ instances_by (keyword ∷ words) = if is_written keywords.Instances keyword
 unfoldable pub names_of : List ℕ → Result (List (List ℕ)) Cause
 names_of line = instances_by (words_of line)
 
--- a number in decimal: digits, of which the first is 0 only where it is alone
+-- a decimal number: digits, of which the first is 0 only if it is the only one
 unfoldable pub is_number : List ℕ → Bool
 is_number [] = false
 is_number (b ∷ bs) = is_ascii_digit b && list_all is_ascii_digit bs && (length bs == 0 || not (b == 48))
 
--- the number that digits go on with
+-- the number n, continued by digits
 abbrev pub number_from : ℕ → List ℕ → ℕ
 number_from n [] = n
 number_from n (b ∷ bs) = number_from (10 * n + (b - 48)) bs
 
--- so many slots, if a lane may have them
+-- n slots, if a lane may have them
 abbrev pub slots : ℕ → Result ℕ Cause
 slots n = if nat_le 1 n && nat_le n MAX_CAPACITY then Ok n else Err Capacity
 
--- the slots that the digits say
+-- the slots that the digits name
 unfoldable pub slots_of : List ℕ → Result ℕ Cause
 slots_of digits = slots (number_from 0 digits)
 

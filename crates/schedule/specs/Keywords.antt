@@ -1,5 +1,5 @@
--- The words that a schedule's text has of its own: they begin its first two lines, or stand behind an actor's name
--- (this project's profile; those of coregions are the chart text's).
+-- The keywords of a schedule's text: they begin its first two lines, or follow an actor's name (this project's profile;
+-- those of coregions are the chart text's).
 use Rattle.std.specs.Prelude.{ℕ, Bool, List, codes, bytes_eq}
 use Rattle.chart.specs.Keywords.{spelled}
 use Rattle.chart.specs.declared.keyword.Keyword.TheVariants as chart_words

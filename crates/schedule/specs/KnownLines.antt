@@ -1,4 +1,4 @@
--- A command's line whose names were all found.
+-- A command line whose names were all found.
 use Rattle.std.specs.Prelude.{◌≡◌, ℕ, List, Ok}
 use Rattle.texts.specs.Instances.{known_of}
 use Rattle.texts.specs.Lines.{name_or_cause}

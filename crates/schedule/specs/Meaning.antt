@@ -15,8 +15,8 @@ use Rattle.schedule.specs.declared.command.Word.{Word}
 use Rattle.schedule.specs.declared.command.Word.TheVariants as words
 use Rattle.schedule.specs.Plans.{Plan, IsPlan, IsNumbered}
 
--- how far a schedule has come: the history; from whom each instance received last, 0 for nobody; and each instance's
--- open coregion, 0 for none
+-- how far a schedule has come: the history; the instance from which each instance received last, 0 for none; and each
+-- instance's open coregion, 0 for none
 pub record Run : Type 0 where
   pub history : List Occurrence
   pub last : ℕ → ℕ
@@ -30,15 +30,15 @@ changed f p v q = if q == p then v else f q
 abbrev pub has_waiting : List Occurrence → ℕ → ℕ → Bool
 has_waiting h q p = nat_lt 0 (length (waiting h q p))
 
--- p's line has as many events as it may have
+-- p's line has the most events that it may have
 abbrev pub is_line_full : List Occurrence → ℕ → Bool
 is_line_full h p = nat_le MAX_EVENTS (length (chart_of h p))
 
--- the run with one event more
+-- the run with one more occurrence
 abbrev pub happens : Run → Occurrence → Run
 happens r e = record { history = e ∷ r.history; last = r.last; region = r.region }
 
--- What each action does: how far the schedule has come then, or the word of its note. The first cause decides.
+-- What each action does: how far the schedule then is, or the word of its note. The first cause decides.
 
 abbrev pub sends : ℕ → Run → ℕ → ℕ → List ℕ → Result Run Word
 sends k r p q name =
@@ -48,7 +48,7 @@ sends k r p q name =
     if nat_le k (length (waiting r.history p q)) then Err words.Full else Ok
     (happens r (events.Send p q (record { name = name; body = [] }))))))
 
--- p receives from q, where a message waits
+-- p receives from q, from which a message waits
 abbrev pub takes : Run → ℕ → ℕ → Result Run Word
 takes r p q =
     if is_line_full r.history p then Err words.LineFull else Ok
@@ -74,7 +74,7 @@ receives_any n r p None = if are_closed n r p then Err words.Ended else Err word
 abbrev pub closes : Run → ℕ → ℕ → Result Run Word
 closes r p q = if is_closed r.history p q then Err words.Closed else Ok (happens r (events.Close p q))
 
--- a coregion that begins is one more than the greatest of the line
+-- the number of a new coregion is one more than the greatest of the line
 abbrev pub opens : Run → ℕ → Result Run Word
 opens r p =
     if nat_lt 0 (r.region p) then Err words.Open else Ok (record {
@@ -88,7 +88,7 @@ shuts r p =
     if nat_lt 0 (r.region p) then Ok (record { history = r.history; last = r.last; region = changed r.region p 0 }) else
     Err words.NotOpen
 
--- among n instances with lanes of k slots
+-- what an action does among n instances with lanes of k slots
 abbrev pub acts : ℕ → ℕ → Run → ℕ → Action → Result Run Word
 acts n k r p (Send q name) = sends k r p q name
 acts n k r p (Receive q) = receives r p q
@@ -120,7 +120,7 @@ after n k commands = fold (step n k) start commands
 abbrev pub meaning : Plan → State
 meaning plan = after (length plan.names) plan.capacity plan.commands
 
--- whatever a schedule's commands are, what they come to is a legal history over lanes of its capacity
+-- whatever a schedule's commands are, their result is a legal history over lanes of its capacity
 abbrev pub LegalLaw : Type 0
 LegalLaw = (plan : Plan) → IsPlan plan → All IsNumbered plan.commands
     → IsLegal (length plan.names) plan.capacity (meaning plan).run.history

@@ -1,4 +1,4 @@
--- A schedule's text, line by line from the top: the plan that it says, or the first fault (this project's profile).
+-- Reading a schedule's text, line by line from the top: its plan, or the first fault (this project's profile).
 use Rattle.std.specs.Prelude.{◌≡◌, ℕ, ◌+◌, ◌==◌, List, [], ◌∷◌, ◌++◌, length, Result, Ok, Err, if◌then◌else◌}
 use Rattle.texts.specs.Faults.{◌>>=◌, in_line}
 use Rattle.texts.specs.Lines.{lines_of, end_of}
@@ -39,7 +39,7 @@ commands_of names lines rest = do
   commands ← commands_from names 3 lines
   with_end rest commands
 
--- what the text says
+-- the plan of a text, or the first fault
 unfoldable pub schedule_of : List ℕ → Result Plan Fault
 schedule_of bytes = do
   first ← next_of (lines_of bytes)

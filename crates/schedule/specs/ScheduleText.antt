@@ -13,7 +13,7 @@ use Rattle.schedule.specs.declared.command.Command.{Command}
 use Rattle.chart.specs.declared.history.TheConstants.{MAX_CAPACITY}
 use Rattle.schedule.specs.Plans.{Plan, IsPlan}
 
--- a line of these words: one space stands between each two
+-- a line of these words, with one space between each two
 abbrev pub spaced : List (List ℕ) → List ℕ
 spaced words = join_with_byte 32 words
 
@@ -25,7 +25,7 @@ instances_line names = spaced (written keywords.Instances ∷ names)
 abbrev pub capacity_line : ℕ → List ℕ
 capacity_line capacity = spaced (written keywords.Capacity ∷ decimal capacity ∷ [])
 
--- what stands behind the actor's name
+-- the words after the actor's name
 abbrev pub action_words : List (List ℕ) → Action → List (List ℕ)
 action_words names (Send to name) = written keywords.Send ∷ name_at names to ∷ name ∷ []
 action_words names (Receive from) = written keywords.Receive ∷ name_at names from ∷ []
@@ -46,12 +46,12 @@ plan_lines plan = instances_line plan.names ∷ capacity_line plan.capacity ∷ 
 unfoldable pub schedule_text : Plan → List ℕ
 schedule_text plan = flat_map ended (plan_lines plan)
 
--- the command's line in the text: the first is of line n, the next of line n + 1, and so on
+-- the line of each command in the text: the first is on line n, the next on line n + 1, and so on
 abbrev pub AreNumbered : ℕ → List Command → Type 0
 AreNumbered n [] = Unit {0}
 AreNumbered n (command ∷ commands) = (command.line ≡ n) × AreNumbered (n + 1) commands
 
--- the partner is an instance from 1 on, and the message's name is a name
+-- the partner's number is at least 1, and the message's name is a name
 abbrev pub CanBeNamed : Action → Type 0
 CanBeNamed (Send to name) = (1 ≤ to) × IsName name
 CanBeNamed (Receive from) = 1 ≤ from
@@ -60,11 +60,11 @@ CanBeNamed (Close to) = 1 ≤ to
 CanBeNamed Open = Unit {0}
 CanBeNamed Shut = Unit {0}
 
--- the same of the command, and its actor
+-- the same of the command and its actor
 abbrev pub CanBeSpelled : Command → Type 0
 CanBeSpelled command = (1 ≤ command.actor) × CanBeNamed command.action
 
--- a plan that a text can say: its first command is of line 3
+-- a plan that has a text: its first command is on line 3
 pub record HasText (plan : Plan) : Type 0 where
   pub keeps : IsPlan plan
   pub named : All IsName plan.names
@@ -72,6 +72,6 @@ pub record HasText (plan : Plan) : Type 0 where
   pub spelled : All CanBeSpelled plan.commands
   pub numbered : AreNumbered 3 plan.commands
 
--- no two plans have one text
+-- no two plans have the same text
 abbrev pub OneTextLaw : Type 0
 OneTextLaw = (p q : Plan) → HasText p → HasText q → schedule_text p ≡ schedule_text q → p ≡ q

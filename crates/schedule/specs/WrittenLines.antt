@@ -1,4 +1,4 @@
--- A schedule's text as it is written: a line is its first word, and then a space and a word for each other one.
+-- A schedule's text as it is written: a line is its first word, and then a space and a word for each further one.
 use Rattle.std.specs.Prelude.{ℕ, List, ◌++◌, codes, decimal}
 use Rattle.std.specs.List.{flat_map}
 use Rattle.texts.specs.Instances.{name_at}
@@ -8,7 +8,7 @@ use Rattle.schedule.specs.Plans.{Plan}
 use Rattle.schedule.specs.ScheduleText.{action_words}
 use Rattle.schedule.specs.declared.command.Command.{Command}
 
--- a space, and the word
+-- a space, followed by the word
 unfoldable pub behind_space : List ℕ → List ℕ
 behind_space word = codes " " ++ word
 
@@ -16,7 +16,7 @@ behind_space word = codes " " ++ word
 unfoldable pub line_end : List ℕ
 line_end = codes "\n"
 
--- the line of this word and of these behind it
+-- the line of this word and of these further words
 unfoldable pub line_of : List ℕ → List (List ℕ) → List ℕ
 line_of first words = first ++ (flat_map behind_space words ++ line_end)
 

@@ -1,4 +1,4 @@
-//! A command's line: who acts, and what it does.
+//! A command's line: the acting instance, and its action.
 ghost use Rattle.std.specs.Prelude.{◌≡◌};
 ghost use Rattle.schedule.specs.ActionLines.{both_of, partners_of, send_of, receive_of, close_of, alone_of, by_two};
 ghost use Rattle.schedule.specs.ActionLines.{by_three, action_of};
@@ -10,7 +10,7 @@ use chart::{InstanceNo, Name, Names};
 use texts::reading::Guesses;
 use texts::{Cause, Words, known_in, name_in, words_in};
 
-/// Two instances that were found, or the first one's F23, and F13 where they are the same.
+/// Two instances that were found, or the first one's F23, or F13 if they are the same.
 fn read_pair(
     actor: Result<InstanceNo, Cause>,
     partner: Result<InstanceNo, Cause>,
@@ -25,7 +25,7 @@ fn read_pair(
     Ok((actor, partner))
 }
 
-/// Actor and partner, where nothing else of the line is a name.
+/// Actor and partner of a line that has no other name.
 #[tactic(auto, unfolding(crate::specs::ActionLines::partners_of, crate::specs::ActionLines::pair_of))]
 fn read_partners(
     names: &Names,
@@ -133,7 +133,7 @@ fn by_three(
     Err(Cause::Syntax)
 }
 
-/// What a command's line says, or the first of its faults, word by word.
+/// What a command's line means, or the first of its faults, read word by word.
 #[tactic(auto, unfolding(crate::specs::ActionLines::action_of))]
 fn read_words(
     names: &Names,
@@ -158,7 +158,7 @@ fn read_words(
     }
 }
 
-/// What a command's line says, or the first of its faults.
+/// What a command's line means, or the first of its faults.
 pub(crate) fn read_action(
     names: &Names,
     guesses: &mut Guesses,

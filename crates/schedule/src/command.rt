@@ -1,8 +1,8 @@
-//! Commands, and what becomes of those that are refused.
+//! Commands, and the notes of those that are refused.
 
 use chart::{InstanceNo, Name};
 
-/// What an instance is to do.
+/// An action of an instance.
 #[derive(Clone, Copy, Debug, PartialEq, Eq)]
 pub enum Action {
     /// Sends a message of this name, with an empty body.
@@ -24,7 +24,7 @@ pub enum Action {
 pub struct Command {
     /// The line of the schedule's text, from 1.
     pub line: u64,
-    /// Who acts.
+    /// The instance that acts.
     pub actor: InstanceNo,
     pub action: Action,
 }
@@ -34,13 +34,13 @@ pub struct Command {
 pub enum Word {
     /// F11: as many messages wait on the lane as it has slots.
     Full,
-    /// No message waits, and a lane that could bring one is open.
+    /// No message waits, and a lane that could carry one is open.
     Nothing,
-    /// No message waits, and none can come: each lane that could bring one is closed.
+    /// No message waits, and none can come: each lane that could carry one is closed.
     Ended,
     /// F12: the lane was closed before.
     Closed,
-    /// F7: the line has as many events as a line may have.
+    /// F7: the line has the most events that a line may have.
     LineFull,
     /// F28: a coregion is open already.
     Open,

@@ -12,7 +12,7 @@ use chart::Names;
 use std::alloc::Global;
 use texts::{Cause, TextError, Words, add_name, at_line, fault_at, name_in, next_word, words_in};
 
-/// Whether each word has a byte at least.
+/// Whether each word has at least one byte.
 fn are_words(line: &[u8]) -> bool
     ensures { result ≡ are_words (words_of line.now) }
 {
@@ -29,7 +29,7 @@ fn are_words(line: &[u8]) -> bool
     }
 }
 
-/// The word names the next instance. The first of F1 to F4, F22 and F8 that applies refuses it.
+/// Adds the word as the name of the next instance. The first of F1 to F4, F22 and F8 that applies refuses it.
 #[tactic(auto, unfolding(crate::specs::FirstLines::with_word))]
 fn add_word(names: &mut Names, word: &[u8]) -> Result<(), TextError>
     ensures { Gives (λ _. names.new) result (in_line 1 (with_word names.old word.now)) }
@@ -38,7 +38,7 @@ fn add_word(names: &mut Names, word: &[u8]) -> Result<(), TextError>
     add_name(1, names, name)
 }
 
-/// Each word names the next instance.
+/// Adds each word as the name of the next instance.
 fn add_words(names: &mut Names, words: &[u8]) -> Result<(), TextError>
     ensures { Gives (λ _. names.new) result (in_line 1 (with_words names.old (words_of words.now))) }
 {
@@ -53,7 +53,7 @@ fn add_words(names: &mut Names, words: &[u8]) -> Result<(), TextError>
     }
 }
 
-/// The instances that the words name, or F8 where there is only one.
+/// The instances that the words name, or F8 if there is only one.
 fn instances_in(alloc: Global, words: &[u8]) -> Result<Names, TextError>
     ensures { Gives (λ n. n) result (in_line 1 (instances_of (words_of words.now))) }
 {
@@ -65,7 +65,7 @@ fn instances_in(alloc: Global, words: &[u8]) -> Result<Names, TextError>
     Ok(names)
 }
 
-/// The names of line 1, or F20 where it has another form.
+/// The names of line 1, or F20 if the line has another form.
 #[tactic(auto, unfolding(crate::specs::FirstLines::names_of))]
 pub(crate) fn names_in(alloc: Global, line: &[u8]) -> Result<Names, TextError>
     ensures { Gives (λ n. n) result (in_line 1 (names_of line.now)) }
@@ -86,7 +86,7 @@ fn are_digits(bytes: &[u8]) -> bool
     bytes.iter().all(|b| b.is_ascii_digit())
 }
 
-/// Whether the word is a number in decimal, with no zero before it.
+/// Whether the word is a decimal number without leading zeros.
 #[tactic(auto, unfolding(crate::specs::FirstLines::is_number))]
 fn is_number(word: &[u8]) -> bool
     ensures { result ≡ is_number word.now }
@@ -99,14 +99,14 @@ fn is_number(word: &[u8]) -> bool
     }
 }
 
-/// So many slots, or F9.
+/// A capacity of this number of slots, or F9.
 fn slots_in(number: u8) -> Result<Capacity, Cause>
     ensures { result ≡ slots number }
 {
     Capacity::new(usize::from(number)).ok_or(Cause::Capacity)
 }
 
-/// The slots that the digits say, or F9. A number of three digits is greater than each capacity.
+/// The capacity that the digits name, or F9. A number of three digits is greater than any capacity.
 #[tactic(auto, unfolding(crate::specs::FirstLines::slots_of, crate::specs::FirstLines::is_number))]
 fn slots_of(digits: &[u8]) -> Result<Capacity, Cause>
     requires { IsTrue (is_number digits.now) }
@@ -120,7 +120,7 @@ fn slots_of(digits: &[u8]) -> Result<Capacity, Cause>
     }
 }
 
-/// The capacity of line 2, or F20 where it has another form.
+/// The capacity of line 2, or F20 if the line has another form.
 #[tactic(auto, unfolding(crate::specs::FirstLines::capacity_of))]
 pub(crate) fn capacity_in(line: &[u8]) -> Result<Capacity, Cause>
     ensures { result ≡ capacity_of line.now }

@@ -1,8 +1,8 @@
 //! Drawn interleavings: a schedule's commands in an order that a seed decides.
 //!
-//! What is promised ([`drawn`]): the commands come in the order that the generator's words say
-//! (`specs/Interleaver/Interleavings.antt`), each with its line of the text; each instance executes the same
-//! commands in the same order. The only refusal is F6.
+//! What is promised ([`drawn`]): the generator's words determine the order of the commands
+//! (`specs/Interleaver/Interleavings.antt`). Each command keeps its line of the text, and each instance executes the
+//! same commands in the same order. The only refusal is F6.
 
 mod drawing;
 mod error;

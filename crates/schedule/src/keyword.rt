@@ -1,10 +1,10 @@
-//! The words that a schedule's text has of its own.
+//! The keywords of a schedule's text.
 ghost use Rattle.std.specs.Prelude.{◌≡◌, bytes_eq};
 ghost use Rattle.schedule.specs.Keywords.{written, is_written};
 
 use chart::Keyword;
 
-/// A word that begins one of a schedule's first two lines, or stands behind an actor's name.
+/// A keyword: it begins one of a schedule's first two lines, or follows an actor's name.
 #[derive(Clone, Copy, Debug, PartialEq, Eq)]
 pub(crate) enum ScheduleWord {
     /// Begins line 1.
@@ -13,20 +13,20 @@ pub(crate) enum ScheduleWord {
     Capacity,
     /// Sends a message.
     Send,
-    /// Receives one from a given instance.
+    /// Receives a message from a given instance.
     Receive,
-    /// Receives one from anyone.
+    /// Receives a message from any instance.
     Any,
     /// Closes a lane.
     Close,
     /// Opens a coregion, as in a chart's text.
     Concurrent,
-    /// Ends it, as there.
+    /// Ends a coregion, as in a chart's text.
     EndConcurrent,
 }
 
 impl ScheduleWord {
-    /// How it is spelled.
+    /// The spelling of the word.
     #[tactic(auto, unfolding(crate::specs::Keywords::written))]
     pub(crate) fn as_bytes(&self) -> &[u8]
         ensures { result.now ≡ written self.now }

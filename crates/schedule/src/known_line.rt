@@ -1,5 +1,5 @@
-//! Commands' lines that are read at once: sends and receives whose words stand where theirs do, and whose names
-//! were mostly read before. What a line is that isn't read so is for [`crate::action_line`] to say.
+//! Command lines that are read at once: sends and receives whose words are at the usual places, and whose names were
+//! mostly read before. Any other line is left to [`crate::action_line`].
 ghost use Rattle.std.specs.Prelude.{◌≡◌, ◌∷◌, Ok, IfSome};
 ghost use Rattle.texts.specs.Lines.{words_of};
 ghost use Rattle.schedule.specs.ActionLines.{action_by, action_of};
@@ -83,7 +83,7 @@ fn receive_by(
     Some((actor, Action::Receive { from }))
 }
 
-/// What the line says. `None` says nothing of it.
+/// What the line means. `None` decides nothing about it.
 pub(crate) fn known_action(
     names: &Names,
     guesses: &mut Guesses,

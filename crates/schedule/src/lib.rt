@@ -1,15 +1,15 @@
 //! Schedules: who does what, in which order, and what that means.
 //!
-//! `specs/Meaning.antt` defines what a schedule's commands do: a history, and a note for each command that is
-//! refused. `specs/ScheduleText.antt` defines a schedule's text, and `specs/Reading.antt` what any text is read as.
+//! `specs/Meaning.antt` defines what a schedule's commands do: a history, and a note for each command that is refused.
+//! `specs/ScheduleText.antt` defines a schedule's text, and `specs/Reading.antt` the result of reading any text.
 //!
-//! What is promised, unless an allocation is refused ([`Schedule::read`]): what is read is spelled so, to the byte,
-//! and within the limits; what is spelled so is read; and for anything else the answer is the first fault, in the
-//! order of `docs/FORMATS.md`. So no two schedules have one text, and the first faulty line decides, whatever
-//! follows it ([`laws`]). [`Schedule::write`] writes exactly this text, or with F24 a beginning of it.
+//! What is promised, unless an allocation is refused ([`Schedule::read`]): a schedule that is read has this text, to
+//! the byte, and is within the limits. Each such text is read. For any other text the answer is the first fault, in the
+//! order of `docs/reference/schedules.md`. So no two schedules have the same text, and the first faulty line decides,
+//! whatever follows it ([`laws`]). [`Schedule::write`] writes exactly this text, or with F24 a beginning of it.
 //!
-//! [`outcomes`] has what a schedule comes to, [`interleaver`] draws an order of its commands, and [`turns`] tells
-//! whose turn it is in a run.
+//! [`outcomes`] has the outcome of a schedule. [`interleaver`] draws an order of its commands. [`turns`] shows whose
+//! turn it is in a run.
 #![tactic(auto)]
 
 mod action_line;

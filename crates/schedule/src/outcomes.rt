@@ -1,9 +1,9 @@
-//! What a replay gives, however it is made: an outcome, its text, and why there is none.
+//! The result of a replay, by whichever means: an outcome and its text, or why there is none.
 //!
 //! What is promised:
 //!
-//! - A schedule has one outcome ([`one_outcome_law`]), whose chart is possible ([`possible_outcome_law`]).
-//! - Notes are put by line, those of one line as they came ([`put_by_line`]).
+//! - A schedule has exactly one outcome ([`one_outcome_law`]), whose chart is possible ([`possible_outcome_law`]).
+//! - Notes are sorted by line, and those of one line stay in the order in which they came ([`put_by_line`]).
 //! - An outcome's text is written whole, or with F24 a beginning of it ([`Outcome::write`]).
 
 mod error;

@@ -26,7 +26,7 @@ fn next_in(bytes: &[u8]) -> Result<(&[u8], &[u8]), TextError>
     }
 }
 
-/// The commands, from line 3 on, or F21 where the last line is not whole.
+/// The commands, from line 3 on, or F21 if the last line has no line feed.
 fn commands_in(alloc: Global, names: &Names, bytes: &[u8]) -> Result<Vec<Command>, TextError>
     ensures { Gives (λ commands. commands.items) result (commands_of names.now (lines_of bytes.now)
         (end_of bytes.now)) }
@@ -56,7 +56,7 @@ fn commands_in(alloc: Global, names: &Names, bytes: &[u8]) -> Result<Vec<Command
     Ok(commands)
 }
 
-/// The parts of the schedule that the text says.
+/// The parts of the text's schedule.
 #[tactic(auto, unfolding(crate::specs::Reading::schedule_of))]
 fn parts_in(alloc: Global, bytes: &[u8]) -> Result<(Names, Capacity, Vec<Command>), TextError>
     ensures { Gives (λ parts. record { names = parts.0; capacity = parts.1; commands = parts.2.items }) result
@@ -71,20 +71,25 @@ fn parts_in(alloc: Global, bytes: &[u8]) -> Result<(Names, Capacity, Vec<Command
 }
 
 impl Schedule {
-    /// The schedule that the text says, or the first fault of its first faulty line. It takes time in proportion to
-    /// the text.
+    /// The text's schedule, or the first fault of its first faulty line. It takes time in proportion to the text.
     ///
-    /// What is read is the text of the schedule to the byte, with its first command on line 3, and each such text is
-    /// read: `specs/ScheduleText.antt` spells it.
+    /// The text that is read is that of the schedule to the byte, with its first command on line 3. Each such text is
+    /// read. `specs/ScheduleText.antt` defines it.
     ///
-    /// Each line ends with a line feed: `instances NAME NAME ..`, then `capacity N`, then a command a line, as
-    /// `NAME send NAME MESSAGE`, `NAME receive NAME`, `NAME any`, `NAME close NAME`, `NAME concurrent` or
-    /// `NAME endconcurrent`. One space stands between words.
+    /// Each line ends with a line feed: `instances NAME NAME ..`, then `capacity N`, then one command on each line. A
+    /// command is `NAME send NAME MESSAGE`, `NAME receive NAME`, `NAME any`, `NAME close NAME`, `NAME concurrent` or
+    /// `NAME endconcurrent`. One space separates two words.
     ///
-    /// A line of another form is refused by F20. Then F1 to F4 refuse a word that is no name, F22 an instance's name
-    /// that was given before, F8 one instance or more than 32, F9 a capacity that is not from 1 to 64, F23 a name
-    /// that is no instance's, and F13 an instance as its own partner. Where no line has a fault, F21 refuses a text
-    /// whose first two lines are not whole, or with bytes behind the last line feed. F6 may come at any point.
+    /// F20 refuses a line of another form. Then these faults refuse a line:
+    /// - F1 to F4: a word is no name.
+    /// - F22: an instance's name was given before.
+    /// - F8: there is one instance, or more than 32.
+    /// - F9: the capacity is not from 1 to 64.
+    /// - F23: a name is no instance's.
+    /// - F13: an instance is its own partner.
+    ///
+    /// If no line has a fault, F21 refuses a text in two cases: its first two lines are not whole, or bytes follow the
+    /// last line feed. F6 may come at any point.
     pub fn read(alloc: Global, bytes: &[u8]) -> Result<Schedule, TextError>
         ensures found { IfOk result (λ s. HasText s × (bytes.now ≡ schedule_text s)) }
         ensures only { (p : Plan) → HasText p → bytes.now ≡ schedule_text p → Gives (λ s. s) result (Ok p) }

@@ -7,7 +7,7 @@ use crate::command::Command;
 use chart::{MAX_CAPACITY, Names};
 use std::marker::Model;
 
-/// How many slots each lane has, from 1 to [`MAX_CAPACITY`]. A contract sees it as the number.
+/// The number of slots of each lane, from 1 to [`MAX_CAPACITY`]. A contract sees it as the number.
 #[derive(Clone, Copy, Debug, PartialEq, Eq, PartialOrd, Ord, Hash)]
 pub struct Capacity {
     slots: u8,
@@ -27,7 +27,7 @@ impl Model for Capacity {
 }
 
 impl Capacity {
-    /// The capacity of so many slots, which are from 1 to [`MAX_CAPACITY`].
+    /// The capacity of this number of slots, or nothing if the number isn't from 1 to [`MAX_CAPACITY`].
     pub fn new(slots: usize) -> Option<Capacity>
         ensures { SomeIff result ((1 ≤ slots) × (slots ≤ MAX_CAPACITY)) slots }
     {
@@ -49,7 +49,7 @@ impl Capacity {
 /// A schedule: the instances' names, the capacity of their lanes, and their commands in order. A contract sees it as a
 /// record of these.
 ///
-/// Its names are 2 to 32, and each command's actor and partner are two of the instances.
+/// It has 2 to 32 names, and each command's actor and partner are two of the instances.
 #[derive(Debug, Drop)]
 pub struct Schedule {
     names: Names,
@@ -96,7 +96,7 @@ impl Schedule {
         self.capacity
     }
 
-    /// The commands, the first first.
+    /// The commands, in order.
     pub fn commands(&self) -> &[Command]
         ensures value { result.now ≡ self.now.commands }
         ensures plan { IsPlan self.now }

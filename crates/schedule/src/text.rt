@@ -31,7 +31,7 @@ fn add_line_end<W: Out>(text: &mut TextBuffer<'_, W>) -> Result<(), WriteError>
     text.add(b"\n")
 }
 
-/// Adds each of the names, behind a space.
+/// Adds a space and the name, for each of the names.
 fn add_names<W: Out>(text: &mut TextBuffer<'_, W>, names: &Names) -> Result<(), WriteError>
     ensures { Adds W.sink text.old text.new result (flat_map behind_space names.now) }
 {
@@ -80,7 +80,7 @@ fn add_with_partner<W: Out>(
     text.add_all(&[b" ", word.as_bytes(), b" ", name.as_bytes()])
 }
 
-/// Adds what stands behind the actor's name.
+/// Adds the words after the actor's name.
 #[tactic(auto, unfolding(crate::specs::WrittenLines::behind_space))]
 fn add_action<W: Out>(
     text: &mut TextBuffer<'_, W>,
@@ -164,8 +164,8 @@ fn write_lines<W: Out>(schedule: &Schedule, out: &mut W) -> Result<(), WriteErro
 }
 
 impl Schedule {
-    /// Writes the schedule's text: its commands come one after the other from line 3 on, whatever lines they had. It
-    /// takes no memory. Where a put fails (F24), a beginning of the text was written, and no other put is tried.
+    /// Writes the schedule's text: its commands follow one after another from line 3 on, whatever lines they had. It
+    /// takes no memory. If a put fails (F24), a beginning of the text was written, and no further put is tried.
     pub fn write<W: Out>(&self, out: &mut W) -> Result<(), WriteError>
         ensures { Wrote W.sink out.old out.new result (schedule_text self.now) }
     {

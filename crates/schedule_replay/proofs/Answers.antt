@@ -1,4 +1,4 @@
--- What the answer of a post's call says when all posts have met.
+-- What the answer of a post's call states when all posts have met.
 use Rattle.std.proofs.Common.{◌≡◌, ℕ, ◌≤◌, List, [], ◌∷◌, Option, sym, ap, ◌∙◌, subst, ⊎_elim}
 use Rattle.std.proofs.lemmas.Bool.{cases_eq}
 use Rattle.chart.specs.declared.history.Occurrence.{Occurrence}
@@ -11,7 +11,7 @@ use Rattle.chart.proofs.Alone.{no_longer, begins_longer, nothing_more, came_afte
 
 module _ (r : Run) (from : Option ℕ) (old new : PostView) (far : IsAsFar r from old) (on : GoesOn old new)
     (met : List Occurrence) (its : IsMet r.history new met) where
-  -- it made what it had made before
+  -- the post had made what its instance did in the run
   was_made : old.made ≡ own r.history new.number
   was_made = far.made ∙ ap (own r.history) (sym on.same.number)
 
@@ -21,7 +21,7 @@ module _ (r : Run) (from : Option ℕ) (old new : PostView) (far : IsAsFar r fro
   whole : Begins r.history met
   whole = begins_onward r.history new.seen met from_run its.joint.later
 
-  -- a call that made no event: what was met is the run, and all that was seen
+  -- a call that made no event: the met history is that of the run, and the post has seen all of it
   module _ (stays : new.made ≡ old.made) where
     each : (q : ℕ) → 1 ≤ q → q ≤ new.board.size → own met q ≡ own r.history q
     each q low high = ⊎_elim (λ same. subst (λ x. own met x ≡ own r.history x) (sym same) (its.joint.own ∙ stays ∙ was_made)) (its.others q low high) (cases_eq q new.number)
@@ -32,7 +32,7 @@ module _ (r : Run) (from : Option ℕ) (old new : PostView) (far : IsAsFar r fro
     pub seen_none : new.seen ≡ r.history
     seen_none = no_longer r.history new.seen from_run (begins_longer new.seen r.history (subst (λ h. Begins new.seen h) met_none its.joint.later))
 
-  -- a call that made one event: it came directly after the run, and is all that was met
+  -- a call that made one event: the event came directly after the run, and is all that was added
   module _ (before : List Occurrence) (e : Occurrence) (by_it : by e ≡ new.number) (makes : Makes old before (e ∷ []) new) where
     first : Begins r.history before
     first = subst (λ h. Begins h before) far.seen makes.later

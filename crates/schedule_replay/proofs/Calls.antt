@@ -1,4 +1,4 @@
--- What each call does is what its command means.
+-- Each call does the meaning of its command.
 use Rattle.std.proofs.Common.{◌≡◌, ℕ, zero, suc, ◌+◌, ◌<◌, ◌≤◌, Bool, true, false, cond, List, [], ◌∷◌, length, drop, Option, Some, None, Result, Ok, Err, refl, sym, ap, ◌∙◌, subst, arith, append-nil}
 use Rattle.std.specs.Prelude.{unwrap_or, nat_lt, nat_le, find}
 use Rattle.std.specs.List.{list_all}
@@ -36,14 +36,14 @@ message name = record { name = name; body = [] }
 abbrev pub taken_run : Run → ℕ → ℕ → Run
 taken_run r p q = record { history = events.Receive p q (r.region p) ∷ r.history; last = changed r.last p q; region = r.region }
 
--- a post of which at most the coregion is another
+-- a post of which only the coregion may have changed
 pub onward : (old new : PostView) (to : ℕ) → new ≡ record old { region = to } → GoesOn old new
 onward old new to same = record {
   same = record { board = ap (λ (x : PostView). x.board) same; number = ap (λ (x : PostView). x.number) same };
   later = ([], ap (λ (x : PostView). x.seen) same);
 }
 
--- what went well wasn't refused
+-- a success is not a refusal
 pub not_ok : {T E : Type 0} {x : T} {e : E} → Ok x ≡ Err e → ⊥
 not_ok same = cc
 
@@ -58,7 +58,7 @@ not_none (suc n) some = omega arith
 
 module _ (r : Run) (from : Option ℕ) (old new : PostView) (far : IsAsFar r from old) (on : GoesOn old new)
     (met : List Occurrence) (its : IsMet r.history new met) where
-  -- the run with what was met, where region and last instance are as they were
+  -- the run with the met history, if coregion and last instance are as they were
   pub gone : new.region ≡ old.region → (g : List Occurrence) → g ≡ met → HasGone r (record { history = g; last = r.last; region = r.region }) old.number met from new
   gone region g same = record {
     history = same;
@@ -77,7 +77,7 @@ module _ (r : Run) (from : Option ℕ) (old new : PostView) (far : IsAsFar r fro
   pub may_follow : (e : Occurrence) → met ≡ e ∷ r.history → MayFollow old.board.size old.board.capacity r.history e
   may_follow e same = (subst (λ g. IsLegal old.board.size old.board.capacity g) same (subst (λ b. IsLegal b.size b.capacity met) on.same.board its.joint.legal)).0
 
-  -- what was closed is
+  -- a lane that the post closed is closed in the run
   pub closed_in : (q : ℕ) (b : Bool) → is_closed old.made old.number q ≡ b → is_closed r.history old.number q ≡ b
   closed_in q b is = sym (closed_own r.history old.number q) ∙ ap (λ g. is_closed g old.number q) (sym far.made) ∙ is
 
@@ -85,7 +85,7 @@ module _ (r : Run) (from : Option ℕ) (old new : PostView) (far : IsAsFar r fro
   pub stays_same : new ≡ old → Stays old new
   stays_same same = record { made = ap (λ (x : PostView). x.made) same; region = ap (λ (x : PostView). x.region) same; room = ap (λ (x : PostView). x.room) same }
 
-  -- its line is that of the run, where it made no event
+  -- the post's line is that of the run, if it made no event
   pub line_in : Stays old new → line_of new ≡ chart_of r.history old.number
   line_in stays = ap (λ g. chart_of g new.number) (seen_none r from old new far on met its stays.made) ∙ ap (chart_of r.history) on.same.number
 
@@ -160,7 +160,7 @@ module _ (r : Run) (from : Option ℕ) (old new : PostView) (far : IsAsFar r fro
       let its = takes_got q arrival it in
       subst (λ a. HasCalled r old.number met (Some q) new (Ok None) a) (sym (ap (λ b. cond b (takes r old.number q) (cond (is_closed r.history q old.number) (Err words.Ended) (Err words.Nothing))) its.0 ∙ its.1)) its.2
 
-  -- on an empty lane
+  -- a receive on an empty lane
   pub receive_none : (q : ℕ) (its_end : Bool) → Stays old new → IsFoundEmpty old q its_end new → receives r old.number q ≡ cond its_end (Err words.Ended) (Err words.Nothing)
   receive_none q its_end stays it =
       let none : has_waiting r.history q old.number ≡ false = ap (λ (ms : List Content). nat_lt 0 (length ms)) (sym (waiting_in stays q) ∙ it.waits) in

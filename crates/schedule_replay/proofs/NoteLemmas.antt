@@ -1,4 +1,4 @@
--- What commands leave, one after the other, and the next send of each lane.
+-- What commands leave, one after another, and the next send of each lane.
 use Rattle.std.proofs.Common.{◌≡◌, ℕ, suc, ◌+◌, ◌≤◌, ◌==◌, ◌&&◌, false, cond, List, [], ◌∷◌, ◌++◌, length, drop, get_or, reverse, fold, Option, None, Some, Result, Ok, Err, refl, sym, ap, ◌∙◌, subst, arith, append-nil, drop-cons}
 use Rattle.std.proofs.lemmas.List.{drop_all, reverse-append}
 use Rattle.schedule.specs.Meaning.{Run, State, step, acts, noted}
@@ -10,7 +10,7 @@ use Rattle.schedule_replay.specs.Notes.Notes as notes
 use Rattle.schedule_replay.specs.Notes.Notes.{word_of, words_from, is_send_to, later_send, note_if, AreNext}
 use Rattle.schedule_replay.specs.Notes.Lanes.{AreLanes}
 
--- one command more
+-- one more command
 pub words_from-push : (n k : ℕ) (s : State) (commands : List Command) (command : Command) → words_from n k s (commands ++ command ∷ []) ≡ words_from n k s commands ++ word_of (acts n k (fold (step n k) s commands).run command.actor command.action) ∷ []
 words_from-push n k s [] command = refl
 words_from-push n k s (c ∷ commands) command = ap (λ ws. word_of (acts n k s.run c.actor c.action) ∷ ws) (words_from-push n k (step n k s c) commands command)
@@ -19,7 +19,7 @@ pub length-words_from : (n k : ℕ) (s : State) (commands : List Command) → le
 length-words_from n k s [] = refl
 length-words_from n k s (c ∷ commands) = ap suc (length-words_from n k (step n k s c) commands)
 
--- what was answered is what the command leaves, and it goes on from there
+-- the answer is what the command leaves, and the run goes on from there
 pub left_by : (IsFar : Run → Type 0) (s : State) (line : ℕ) (answer : Option Word) (acted : Result Run Word) → HasDone IsFar s.run (Ok answer) acted → (answer ≡ word_of acted) × IsFar (noted s line acted).run
 left_by IsFar s line None (Ok r) done = (refl, done)
 left_by IsFar s line None (Err word) done = absurd done
@@ -43,11 +43,11 @@ other_next table commands left command none are q p begun within =
 pub one_before : {A : Type 0} (commands : List A) (n k : ℕ) (command d : A) → n ≤ length commands → k + 1 ≡ n → command ≡ get_or commands k d → drop k commands ≡ command ∷ drop n commands
 one_before commands n k command d within less is = (let next : suc k ≡ n = omega arith in subst (λ l. drop k commands ≡ command ∷ drop l commands) next (drop-cons commands k d (omega arith) ∙ ap (λ x. x ∷ drop (suc k) commands) (sym is)))
 
--- behind the last there is none
+-- after the last command there is no note
 pub none_noted : (commands : List Command) (n : ℕ) (left : List (Option Word)) → n ≡ length commands → notes.noted (drop n commands) left ≡ []
 none_noted commands n left all = rw (drop_all n commands (omega arith)) refl
 
--- one command more above
+-- one more command above
 pub noted_above : (xs : List Noted) (commands : List Command) (left : List (Option Word)) (command : Command) (word : Option Word) → reverse xs ≡ notes.noted commands left → reverse (xs ++ note_if command word commands left) ≡ notes.noted (command ∷ commands) (word ∷ left)
 noted_above xs commands left command None are = ap reverse (append-nil xs) ∙ are
 noted_above xs commands left command (Some word) are = reverse-append xs (note_if command (Some word) commands left) ∙ ap (λ l. note_if command (Some word) commands left ++ l) are

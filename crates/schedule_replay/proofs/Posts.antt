@@ -35,7 +35,7 @@ none_lacks board (x ∷ xs) are (suc j, low, high, none) =
     let at = slice_get-get_or (x ∷ xs) j x (omega (arith, high, size, are.many)) in
     none j (get_or (x ∷ xs) j x) at (are.each j (get_or (x ∷ xs) j x) at).1
 
--- one of them in the place of itself
+-- one post is replaced by its later self
 pub put_posts : (board : BoardView) (posts : List PostView) (i : ℕ) (old new : PostView) → ArePosts board posts → slice_get posts i ≡ Some old → IsSamePost old new → ArePosts board (set posts i new)
 put_posts board posts i old new are at same = record {
   sized = are.sized;
@@ -48,7 +48,7 @@ put_posts board posts i old new are at same = record {
       (at_set posts i j new x at_x);
 }
 
--- where one was mapped
+-- an element of a mapped list
 pub mapped : {X : Type 0} (f : X → X) (xs : List X) (i : ℕ) (y : X) → slice_get (map f xs) i ≡ Some y → (x : X) × (slice_get xs i ≡ Some x) × (y ≡ f x)
 mapped f [] i y at = cc
 mapped f (x ∷ xs) zero y at = (x, refl, sym (same_Some (f x) y at))
@@ -65,7 +65,7 @@ met_posts board old new are met = record {
       (ap (λ (post : PostView). post.board) its.2 ∙ was.0, ap (λ (post : PostView). post.number) its.2 ∙ was.1);
 }
 
--- one that goes on alone has seen all that they have
+-- a post that goes on alone has seen all that the others have
 pub seen_all : (board : BoardView) (r : Run) (posts : List PostView) (last : List (Option ℕ)) → Agrees board r posts last → (i : ℕ) (old new : PostView) → slice_get posts i ≡ Some old → GoesOn old new → HasSeenAll (set posts i new) i
 seen_all board r posts last agrees i old new at on = (new, slice_get-set_same posts i new (slice_get_within posts i old at), λ j x at_x. each j x (at_set posts i j new x at_x))
   where
@@ -87,7 +87,7 @@ module _ (board : BoardView) (r : Run) (posts : List PostView) (last : List (Opt
   number : new.number ≡ suc i
   number = on.same.number ∙ mine.1
 
-  -- of each other post's instance the history that was met has what the run has
+  -- for the instance of each other post the met history has what the run has
   other_own : (j : ℕ) (x : PostView) → slice_get posts j ≡ Some x → j ≢ i → own met.history x.number ≡ own r.history x.number
   other_own j x at_x ne =
       let within = slice_get_within posts j x at_x in
@@ -105,7 +105,7 @@ module _ (board : BoardView) (r : Run) (posts : List PostView) (last : List (Opt
   is_met : IsMet r.history new met.history
   is_met = record { joint = met.joint i new (slice_get-set_same posts i new (slice_get_within posts i old at)); others = others }
 
-  -- they are as far as a run that is as far as what they met
+  -- the posts are as far as a run that is as far as the met history
   with_run : (s : Run) → HasGone r s old.number met.history from new → Agrees board s them (set last i from)
   with_run s gone = record {
     posts = met_posts board (set posts i new) them (put_posts board posts i old new agrees.posts at on.same) met;
@@ -151,7 +151,8 @@ module _ (board : BoardView) (r : Run) (posts : List PostView) (last : List (Opt
       go (Ok (Some noted)) (Err word) done = (done.0, with_run r done.1)
       go (Err e) acted done = tt
 
--- a history that begins with what each post has seen, and has of each one's events just those that its calls made, is the run's
+-- a history that begins with what each post has seen, and has only those events of its instance that its calls made, is
+-- the run's
 pub joint_is : (board : BoardView) (r : Run) (posts : List PostView) (last : List (Option ℕ)) → Agrees board r posts last → (h : List Occurrence) → ((i : ℕ) (post : PostView) → slice_get posts i ≡ Some post → IsJoint h post) → h ≡ r.history
 joint_is board r [] last agrees h joint = absurd (omega (arith, agrees.posts.many, agrees.posts.sized.several))
 joint_is board r (first ∷ rest) last agrees h joint =
@@ -167,7 +168,7 @@ joint_is board r (first ∷ rest) last agrees h joint =
         let at = slice_get-get_or (first ∷ rest) j first (omega (arith, high, agrees.posts.many)) in
         subst (λ q. own h q ≡ own r.history q) (agrees.posts.each j (get_or (first ∷ rest) j first) at).1 ((joint j (get_or (first ∷ rest) j first) at).own ∙ (far_of j (get_or (first ∷ rest) j first) at).made)
 
--- posts that have made no call since meet again: they are as far as they were
+-- posts that have made no call since they met, and meet again, are as far as they were
 pub agrees_met : (board : BoardView) (r : Run) (posts : List PostView) (last : List (Option ℕ)) (them : List PostView) → Agrees board r posts last → HaveMet posts them → Agrees board r them last
 agrees_met board r posts last them agrees met = record {
   posts = met_posts board posts them agrees.posts met;
@@ -198,7 +199,7 @@ agrees_new board posts last fresh none = record {
     every_none : (n i : ℕ) (from : Option ℕ) → slice_get (replicate n None) i ≡ Some from → from ≡ None
     every_none n i from at = sym (get_or_from_slice_get (replicate n None) i from None at) ∙ get_or-replicate n i None None (let within = slice_get_within (replicate n None) i from at in omega (arith, within, length-replicate {A = Option ℕ} n None))
 
--- what they come to when they are gathered
+-- the outcome when they are gathered
 pub gathered_is : (board : BoardView) (r : Run) (posts : List PostView) (last : List (Option ℕ)) (it : Gathered) → Agrees board r posts last → IsWhole posts it → (it.chart ≡ history_lines board.size r.history) × AreReports it.chart it.reports.items
 gathered_is board r posts last it agrees whole =
     let history = joint_is board r posts last agrees whole.history whole.joint in

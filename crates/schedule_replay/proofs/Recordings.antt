@@ -1,4 +1,4 @@
--- What a command adds to the run that is recorded, and what a history keeps without its closes.
+-- What a command adds to the recorded run, and what a history keeps without its closes.
 use Rattle.std.proofs.Common.{◌≡◌, ℕ, suc, ◌+◌, ◌<◌, Bool, true, false, ◌==◌, cond, List, [], ◌∷◌, ◌++◌, length, drop, get_or, Option, None, Some, Result, Ok, Err, refl, sym, ap, ap₂, ◌∙◌, subst, arith, append-nil}
 use Rattle.std.specs.Prelude.{nat_lt, nat_le, slice_get}
 use Rattle.std.specs.Option.{option_map, option_to_list}
@@ -31,7 +31,7 @@ use Rattle.schedule.specs.Outcomes.Performed.{HasDone}
 use Rattle.schedule_replay.specs.Agreement.{Agrees, HasActed}
 use Rattle.schedule_replay.specs.Recorded.{without_closes, HaveRecorded, IsRecorded}
 
--- Without closes a history has the same messages, receives and chart, and is as legal.
+-- Without closes a history has the same messages, receives and chart, and is still legal.
 
 without-sent : (h : List Occurrence) (q p : ℕ) → sent (without_closes h) q p ≡ sent h q p
 without-sent [] q p = refl
@@ -83,7 +83,7 @@ pub data Did (r s : Run) (p : ℕ) : Type 0 where
   closed_one : (q : ℕ) → s.history ≡ events.Close p q ∷ r.history → Did r s p
   nothing : s.history ≡ r.history → Did r s p
 
--- it did that, or was refused
+-- the command did that, or was refused
 abbrev DidIn : Run → ℕ → Result Run Word → Type 0
 DidIn r p (Ok s) = Did r s p
 DidIn r p (Err word) = Unit {0}
@@ -119,7 +119,7 @@ did n k r p (Close q) = either r p (is_closed r.history p q) (Err words.Closed) 
 did n k r p Open = either r p (nat_lt 0 (r.region p)) (Err words.Open) _ tt (nothing refl)
 did n k r p Shut = either r p (nat_lt 0 (r.region p)) _ (Err words.NotOpen) (nothing refl) tt
 
--- where a command led, and what it did
+-- the state after a command, and what the command did
 pub record Led (board : BoardView) (r s : Run) (p : ℕ) (posts : List PostView) (last : List (Option ℕ)) : Type 0 where
   pub agrees : Agrees board s posts last
   pub did : Did r s p
@@ -136,7 +136,7 @@ led board s command answer posts last has =
     go (Err word) what None has = absurd has
     go (Err word) what (Some noted) has = record { agrees = has.1; did = nothing refl }
 
--- the step that the line's new event is, if it has one
+-- the step of the line's new event, if it has one
 pub recorded-next : (r s : Run) (p : ℕ) (done : List Step) → Did r s p → history_of done ≡ without_closes r.history → (found : Option Step) → found ≡ option_map (step_made p) (slice_get (chart_of s.history p) (length (chart_of r.history p))) → history_of (done ++ option_to_list found) ≡ without_closes s.history
 recorded-next r s p done (sent_one q name e) before found is =
     let m : Content = record { name = name; body = [] } in
@@ -175,7 +175,7 @@ line-at board r (first ∷ rest) last j agrees within =
     let at_last = slice_get-get_or last j None (omega (arith, within, agrees.as_many, agrees.posts.many)) in
     (post, at, ap₂ (λ (h : List Occurrence) (p : ℕ). chart_of h p) (agrees.far j post (get_or last j None) at at_last).seen (agrees.posts.each j post at).1)
 
--- what was recorded goes on by the step that is found
+-- the recording goes on by the step that is found
 module _ (board : BoardView) (r s : Run) (p : ℕ) (old : List PostView) (before : List (Option ℕ)) (new : List PostView) (last : List (Option ℕ))
     (agrees : Agrees board r old before) (led : Led board r s p new last) where
   pub recorded-on : (j : ℕ) (done : List Step) (made : ℕ) (found : Option Step) → p ≡ suc j → j < length old → history_of done ≡ without_closes r.history
@@ -190,7 +190,7 @@ module _ (board : BoardView) (r s : Run) (p : ℕ) (old : List PostView) (before
       is j w.0 its w.1 ∙ ap₂ (λ (l : List Event) (m : ℕ). option_map (step_made p) (slice_get l m)) (w.2 ∙ ap (chart_of s.history) (sym its)) made_is in
       recorded-next r s p done led.did so_far found found_is
 
--- what the commands of a plan recorded by posts of a board of its size
+-- the recording of a plan's commands, by posts of a board of its size
 pub recorded-is : (plan : Plan) (board : BoardView) (posts : List PostView) (last : List (Option ℕ)) (steps : List Step) → board.size ≡ length plan.names → board.capacity ≡ plan.capacity → HaveRecorded board plan.commands posts last steps → IsRecorded plan steps
 recorded-is plan board posts last steps size capacity recorded =
     let legal = rw (size, capacity) at recorded.agrees.legal in

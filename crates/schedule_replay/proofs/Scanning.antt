@@ -1,4 +1,4 @@
--- What looks at one lane after another found, where all of them were in one history.
+-- The results of looks at one lane after another, if all of them were in one history.
 use Rattle.std.proofs.Common.{◌≡◌, ◌≢◌, ℕ, zero, suc, ◌+◌, ◌-◌, ◌<◌, ◌≤◌, ◌==◌, inl, inr, not, Bool, true, false, cond, List, [], ◌∷◌, ◌++◌, length, refl, sym, ap, ◌∙◌, subst, arith}
 use Rattle.std.specs.Prelude.{filter, find, nat_lt, All}
 use Rattle.std.specs.List.{range_with_len, list_all}
@@ -46,7 +46,7 @@ scan_has t n p l le all q other =
 all_of : (t : ℕ → Bool) (P : ℕ → Type 0) → ((q : ℕ) → P q → t q ≡ true) → (qs : List ℕ) → All P qs → list_all t qs ≡ true
 all_of t P each qs all = list_all-from_AllPass t qs (All-weaker P (λ q. t q ≡ true) each qs all)
 
--- a test of all in the scan doesn't ask where it begins
+-- a test of all instances in the scan doesn't depend on where the scan begins
 pub scan_any : (t : ℕ → Bool) (n p l m : ℕ) → l ≤ n → m ≤ n → list_all t (scan n p l) ≡ list_all t (scan n p m)
 scan_any t n p l m le lm = go (list_all t (scan n p l)) (list_all t (scan n p m)) refl refl
   where
@@ -65,7 +65,7 @@ begins_through p seen [] after none = none
 begins_through p seen (look ∷ looks) after none = begins_onward seen look.front after none.0 (begins_through p look.front looks after none.2)
 
 module _ (p : ℕ) (h : List Occurrence) where
-  -- where these are one, so is that of the look
+  -- if the first and the last are the same, the look's history is the same
   front_is : (look : Look) (looks : List Look) → NoneWaits p h (look ∷ looks) h → look.front ≡ h
   front_is look looks none = no_longer h look.front none.0 (begins_longer look.front h (begins_through p look.front looks h none.2))
 

@@ -18,12 +18,12 @@ use Rattle.schedule.specs.declared.outcomes.error.ReplayError.{ReplayError}
 use Rattle.schedule.specs.Outcomes.Outcomes.{AreByLine}
 use Rattle.schedule.specs.Outcomes.Performed.{HasDone}
 
--- a call leaves the same post, which has seen what it had seen
+-- after a call the post is the same, and has seen a history that begins with what it had seen
 pub record GoesOn (old new : PostView) : Type 0 where
   pub same : IsSamePost old new
   pub later : Begins old.seen new.seen
 
--- the post, whose instance received from this one last, is as far as the run, of which it has seen all
+-- the post, whose instance received last from `from`, is as far as the run, and has seen all of it
 pub record IsAsFar (r : Run) (from : Option ℕ) (post : PostView) : Type 0 where
   pub seen : post.seen ≡ r.history
   pub made : post.made ≡ own r.history post.number
@@ -31,13 +31,13 @@ pub record IsAsFar (r : Run) (from : Option ℕ) (post : PostView) : Type 0 wher
   pub last : unwrap_or from 0 ≡ r.last post.number
   pub known : unwrap_or from 0 ≤ post.board.size
 
--- what all posts see when they meet after a call of this one: no other instance has gone on since the history
+-- what all posts see when they meet after a call of this post: no other instance has gone on since the history
 pub record IsMet (h : List Occurrence) (new : PostView) (met : List Occurrence) : Type 0 where
   pub joint : IsJoint met new
   pub others : (q : ℕ) → 1 ≤ q → q ≤ new.board.size → q ≢ new.number → own met q ≡ own h q
 
--- the run t is as far as what was met, and p's post, whose instance received from this one last, as the run has it;
--- of the other instances it has what the run s had
+-- the run t is as far as the history that was met, and p's post, whose instance received last from `from`, agrees with
+-- it; for the other instances it has what the run s had
 pub record HasGone (s t : Run) (p : ℕ) (met : List Occurrence) (from : Option ℕ) (post : PostView) : Type 0 where
   pub history : t.history ≡ met
   pub region : post.region ≡ t.region p
@@ -51,7 +51,7 @@ abbrev pub HasCalled : Run → ℕ → List Occurrence → Option ℕ → PostVi
     → Result Run Word → Type 0
 HasCalled r p met from new answer acted = HasDone (λ s. HasGone r s p met from new) r answer acted
 
--- a call does what the action means, as the next meeting shows
+-- a call does the meaning of the action, as the next meeting shows
 abbrev pub Does : PostView → Option ℕ → Action → Result (Option Word) ReplayError → PostView → Option ℕ → Type 0
 Does old was action answer new from =
     (r : Run) → IsAsFar r was old → (met : List Occurrence) → IsMet r.history new met
@@ -82,7 +82,7 @@ abbrev pub HasActed : BoardView → Run → Command → Result (Option Word) Rep
 HasActed board r command answer posts last =
     HasDone (λ s. Agrees board s posts last) r answer (acts board.size board.capacity r command.actor command.action)
 
--- what these commands left: the posts are as far as they lead, and these are their notes as they came
+-- what these commands left: the posts are as far as the commands lead, and these are their notes as they came
 pub record HavePerformed (board : BoardView) (commands : List Command) (posts : List PostView) (last : List (Option ℕ))
     (notes : List Note) : Type 0 where
   pub agrees : Agrees board (after board.size board.capacity commands).run posts last
@@ -93,7 +93,7 @@ pub record AreFresh (board : BoardView) (posts : List PostView) : Type 0 where
   pub sized : IsSized board.size board.capacity
   pub new : AreNewPosts board posts
 
--- what the board comes to by these commands: the chart of the history that they make, with its reports, and the notes
+-- the outcome of the board by these commands: the chart of the history that they make, with its reports, and the notes
 -- by line
 pub record HasCome (board : BoardView) (commands : List Command) (gathered : Gathered)
     (listed : List Note) : Type 0 where

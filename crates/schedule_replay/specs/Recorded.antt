@@ -18,14 +18,14 @@ without_closes (Send a b m ∷ h) = Send a b m ∷ without_closes h
 without_closes (Receive a b c ∷ h) = Receive a b c ∷ without_closes h
 without_closes (Close a b ∷ h) = without_closes h
 
--- the steps are the accepted sends and receives of the plan, in their order: a run with its chart, over lanes of its
--- capacity
+-- the steps are the accepted sends and receives of the plan, in order: a run with its chart, over lanes of its capacity
 pub record IsRecorded (plan : Plan) (steps : List Step) : Type 0 where
   pub history : history_of steps ≡ without_closes (meaning plan).run.history
   pub legal : IsLegal (length plan.names) plan.capacity (history_of steps)
   pub chart : (p : ℕ) → chart_of (history_of steps) p ≡ chart_of (meaning plan).run.history p
 
--- what these commands left: the posts are as far as they lead, and the steps are the accepted sends and receives so far
+-- what these commands left: the posts are as far as the commands lead, and the steps are the accepted sends and
+-- receives so far
 pub record HaveRecorded (board : BoardView) (commands : List Command) (posts : List PostView) (last : List (Option ℕ))
     (steps : List Step) : Type 0 where
   pub agrees : Agrees board (after board.size board.capacity commands).run posts last

@@ -1,4 +1,4 @@
-//! A schedule's commands, by the posts of a board.
+//! A schedule's commands, made by the posts of a board.
 ghost use Rattle.std.specs.Prelude.{◌≡◌, ℕ, List, Option, length, replicate, All, IfOk};
 ghost use Rattle.board.specs.Views.{BoardView};
 ghost use Rattle.board.specs.Meeting.{HaveMet};
@@ -24,8 +24,9 @@ fn meet_them(posts: &mut [Post<'_>])
     }
 }
 
-/// Makes a command by the post of its instance, and then all posts meet: `None`, or the word of its note. The others
-/// have done nothing since they met, so the command's own post has seen all that they have.
+/// Makes a command by the post of its instance, and then all posts meet. The answer is `None`, or the word of the
+/// command's note. The other posts have done nothing since they met, so the command's own post has seen all that they
+/// have.
 pub fn perform_one(
     alloc: Global,
     posts: &mut [Post<'_>],
@@ -43,8 +44,8 @@ pub fn perform_one(
     Ok(word)
 }
 
-/// Makes the commands one after the other, by posts that have met, which meet again after each. It answers the notes
-/// as they come.
+/// Makes the commands one after another, by posts that have met and that meet again after each command. It returns the
+/// notes as they come.
 fn perform(
     alloc: Global,
     posts: &mut [Post<'_>],
@@ -68,7 +69,7 @@ fn perform(
     Ok(notes)
 }
 
-/// Nobody, for each instance: it has received from none so far.
+/// `None` for each instance: it has received from no instance so far.
 fn nobody(alloc: Global, instances: usize) -> Result<Vec<Option<InstanceNo>>, ReplayError>
     ensures { IfOk result (λ last. last.items ≡ replicate instances None) }
 {
@@ -79,7 +80,8 @@ fn nobody(alloc: Global, instances: usize) -> Result<Vec<Option<InstanceNo>>, Re
     Ok(last)
 }
 
-/// All new posts of a board meet, and nobody has received anything: it answers from whom each instance received last.
+/// All new posts of a board meet, and none has received anything. It returns the instance from which each instance
+/// received last.
 pub fn begin(alloc: Global, posts: &mut [Post<'_>]) -> Result<Vec<Option<InstanceNo>>, ReplayError>
     requires new { (board : BoardView) × AreFresh board posts.old }
     ensures { IfOk result (λ last. (board : BoardView) → AreFresh board posts.old
@@ -90,8 +92,8 @@ pub fn begin(alloc: Global, posts: &mut [Post<'_>]) -> Result<Vec<Option<Instanc
     Ok(last)
 }
 
-/// Makes the commands one after the other, by new posts of a board, and answers their notes as they come. All posts
-/// meet before each command, and after the last one.
+/// Makes the commands one after another, by new posts of a board, and returns their notes as they come. All posts meet
+/// before each command, and after the last one.
 pub fn perform_all(
     alloc: Global,
     posts: &mut [Post<'_>],

@@ -1,8 +1,9 @@
-//! The notes that a schedule's commands leave, with what explains them.
+//! The notes that a schedule's commands leave, with their explanations.
 //!
-//! What is promised of [`notes_of`]: the notes are those that the schedule's commands leave, in their order. To one
-//! that a receive left which found nothing stands the line of the first send behind it on the receive's lane that is
-//! done, if there is one. Memory is the only refusal. It is one pass over the commands, and then one back.
+//! What is promised of [`notes_of`]: the notes are those that the schedule's commands leave, in order. The note of a
+//! receive that found nothing has, in addition, the line of a send: the first later send on the receive's lane that is
+//! done, if there is one. Memory is the only refusal. The function passes over the commands once, and then once
+//! backwards.
 
 mod lanes;
 mod notes;

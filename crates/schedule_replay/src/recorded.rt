@@ -16,7 +16,7 @@ use schedule::outcomes::ReplayError;
 use schedule::{Command, Schedule};
 use std::alloc::Global;
 
-/// How many events the line of an instance's post has.
+/// The number of events on the line of an instance's post.
 fn made_by(posts: &[Post<'_>], actor: InstanceNo) -> usize
     requires { actor ≤ length posts.now }
     ensures events { (i : ℕ) (post : PostView) → actor ≡ suc i → slice_get posts.now i ≡ Some post
@@ -26,7 +26,7 @@ fn made_by(posts: &[Post<'_>], actor: InstanceNo) -> usize
     posts[actor.place()].line().len()
 }
 
-/// The step by which an instance made the event that comes after so many, if there is one.
+/// The step by which an instance made the event after the first `made` ones, if there is one.
 fn step_after(posts: &[Post<'_>], actor: InstanceNo, made: usize) -> Option<Step>
     requires { actor ≤ length posts.now }
     ensures { (i : ℕ) (post : PostView) → actor ≡ suc i → slice_get posts.now i ≡ Some post
@@ -39,8 +39,8 @@ fn step_after(posts: &[Post<'_>], actor: InstanceNo, made: usize) -> Option<Step
     Some(Step::of(actor, &line.event(made)))
 }
 
-/// Makes the commands one after the other, by posts that have met, which meet again after each. It answers the steps of
-/// those that made an event.
+/// Makes the commands one after another, by posts that have met and that meet again after each command. It returns the
+/// steps of the commands that made an event.
 fn record(
     alloc: Global,
     posts: &mut [Post<'_>],
@@ -63,11 +63,11 @@ fn record(
     Ok(steps)
 }
 
-/// The steps of a schedule's accepted sends and receives, in their order, as a replay makes them. Its closes, the marks
-/// of its coregions and the commands that leave a note make none. They are a run with the schedule's chart, over lanes
-/// of its capacity.
+/// The steps of a schedule's accepted sends and receives, in order, as a replay makes them. Closes, the marks of
+/// coregions and commands that leave a note make no steps. The steps are a run with the schedule's chart, over lanes of
+/// its capacity.
 ///
-/// F6: it fails only where there is no memory.
+/// F6: it fails only if there is no memory.
 pub fn recorded_run(alloc: Global, schedule: &Schedule) -> Result<Vec<Step>, ReplayError>
     ensures { IfOk result (λ steps. IsRecorded schedule.now steps.items) }
 {

@@ -1,19 +1,19 @@
-//! Runs that turn a race round, with as few slots as may be.
+//! Runs that reverse a race, with as few slots as possible.
 //!
-//! `reordering::witness` finds, for a run and its number of slots, another run in which a receive overtakes an
-//! event. Here are the runs that it begins with, the search for the least number of slots, and the schedule of what
-//! is found.
+//! `reordering::witness` takes a run and its number of slots, and finds another run in which a receive overtakes an
+//! event. This module has the runs with which it begins, and the search for the least number of slots. It also makes
+//! the schedule of the run that is found.
 //!
 //! What is promised, unless an allocation is refused:
 //!
-//! - A chart's lines are run as they are drawn over lanes of so many slots just where they can be: each goes on as
-//!   long as it can, and then the first that can ([`run_within`]).
-//! - The step that makes an event is told by its number ([`step_of`]).
-//! - For a receive and another event: a run in which the receive overtakes it, with the least number of slots that
-//!   does; or no run with the same events and causes has it, whatever the slots ([`overtake_of_chart`],
-//!   [`overtake_of_schedule`]). What has to come with the receive comes first, and then the rest, both in the order
-//!   of the run that it begins with.
-//! - A schedule shows that run: it means just this, and leaves no note ([`show`]).
+//! - A chart's lines are run as they are drawn, over lanes of a given number of slots, exactly if this is possible.
+//!   Each line goes on as long as it can, and then the first line that can ([`run_within`]).
+//! - The step that makes an event is found from the event's number ([`step_of`]).
+//! - For a receive and another event: a run in which the receive overtakes the event, with the least number of slots
+//!   for which there is one. Otherwise no run with the same events and causes has it, whatever the slots
+//!   ([`overtake_of_chart`], [`overtake_of_schedule`]). The steps that have to come with the receive come first, and
+//!   then the others. Both are in the order of the run with which the search begins.
+//! - A schedule shows that run: it means exactly this run, and leaves no note ([`show`]).
 
 mod going;
 mod overtaking;

@@ -25,7 +25,7 @@ pub fn board_for(alloc: Global, schedule: &Schedule) -> Result<Board, ReplayErro
     }
 }
 
-/// All posts of a board that is new.
+/// All posts of a new board.
 pub fn posts_of(board: &mut Board) -> Result<Vec<Post<'_>>, ReplayError>
     requires { board.old.asked ≡ false }
     ensures { IfOk result (λ posts. AreNewPosts board.old.board posts.items) }
@@ -37,7 +37,7 @@ pub fn posts_of(board: &mut Board) -> Result<Vec<Post<'_>>, ReplayError>
     }
 }
 
-/// What a whole board came to, of which these are all posts.
+/// The outcome of a whole board, of which these are all posts.
 fn gather_all(alloc: Global, posts: Vec<Post<'_>>) -> Result<Gathered, ReplayError>
     requires all { (board : BoardView) × ArePosts board posts.items }
     ensures { IfOk result (IsWhole posts.entry.items) }
@@ -51,7 +51,8 @@ fn gather_all(alloc: Global, posts: Vec<Post<'_>>) -> Result<Gathered, ReplayErr
     }
 }
 
-/// What the schedule's commands come to by new posts of a board: what the board came to, and the notes by line.
+/// The result of the schedule's commands, made by new posts of a board: the outcome of the board, and the notes by
+/// line.
 fn play(
     alloc: Global,
     posts: Vec<Post<'_>>,
@@ -68,7 +69,7 @@ fn play(
     Ok((gather_all(alloc, posts)?, notes))
 }
 
-/// Replays a schedule's commands one after the other, with all posts met before each one: what they come to. F6: a
+/// Replays a schedule's commands one after another, with all posts met before each one, and returns the outcome. F6: a
 /// growth was refused.
 pub fn replay<'a>(alloc: Global, schedule: &'a Schedule) -> Result<Outcome<'a>, ReplayError>
     ensures { IfOk result (IsOutcome schedule.now) }

@@ -1,4 +1,4 @@
-//! What each command does by the post of its instance.
+//! What each command does through the post of its instance.
 ghost use Rattle.std.specs.Prelude.{◌≡◌, ◌≢◌, ◌≤◌, ℕ, Option, unwrap_or, Ok};
 ghost use Rattle.schedule.specs.Plans.{HasPartner};
 ghost use Rattle.schedule_replay.specs.Agreement.{GoesOn, Does};
@@ -123,7 +123,7 @@ fn receive_any(
     }
 }
 
-/// Does what a command of its instance says: `None`, or the word of its note.
+/// Does the action of a command of the post's instance. The answer is `None`, or the word of the command's note.
 pub fn act(
     alloc: Global,
     post: &mut Post<'_>,

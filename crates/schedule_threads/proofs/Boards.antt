@@ -41,7 +41,7 @@ is_run_of plan run does posts board runs new size keeps =
       ends = runs.as_many.2 ∙ many;
     }
 
--- all posts of a new board are there
+-- no post of a new board is missing
 all-new : (board : BoardView) (posts : List PostView) → AreNewPosts board posts → 0 < board.size → AreNotAll posts → ⊥
 all-new board [] new some lacking = absurd (omega (arith, new.as_many, some))
 all-new board (post ∷ posts) new some (number, low, high, none) =
@@ -54,7 +54,7 @@ all-new board (post ∷ posts) new some (number, low, high, none) =
     let numbered : suc place ≡ number = omega (arith, low) in
     none place it at (ap (λ (post : PostView). post.number) (new.each place it at) ∙ numbered)
 
--- what is unfit for a run of a board that is as large as the schedule, and what is fit for it
+-- which arguments don't fit a run of a board that is as large as the schedule, and which do
 pub invalid_for : (plan : Plan) (posts : List PostView) (board : BoardView) (behaviours turns : ℕ)
     → AreNewPosts board posts → board.size ≡ length plan.names → IsPlan plan → IsInvalidInput posts behaviours turns
     → AreInvalidFor plan behaviours turns
@@ -69,7 +69,7 @@ pub fit_for : (plan : Plan) (posts : List PostView) (board : BoardView) (behavio
 fit_for plan posts board behaviours turns new size fit =
     record { one_of_each = fit.one_of_each ∙ new.as_many ∙ size; some = fit.some }
 
--- what is fit for it is not unfit
+-- arguments that fit a run are not invalid
 pub fit_alone : (plan : Plan) (behaviours turns : ℕ) → behaviours ≡ length plan.names → IsTurns turns
     → AreInvalidFor plan behaviours turns → ⊥
 fit_alone plan behaviours turns same some (inl other) = other same

@@ -1,4 +1,4 @@
--- Boxed behaviours that are all of one type, and what they hold.
+-- Boxed behaviours of one type, and what they hold.
 use Rattle.std.proofs.Common.{◌≡◌, ℕ, zero, suc, ◌<◌, ◌⊎◌, inl, inr, List, [], ◌∷◌, ◌++◌, length, map, sym, ap, ◌∙◌, subst, arith}
 use Rattle.std.proofs.lemmas.List.{map-append, length-map}
 use Rattle.std.specs.Prelude.{slice_index_or}
@@ -15,7 +15,7 @@ use Rattle.schedule_threads.specs.OwnBoards.{AreRunsOf}
 use base.Stored.{Gv}
 use denote.Param.Object.{Made}
 
--- where there is one type of values that a box may hold, the value is of it
+-- if a box may hold values of only one type, its value has this type
 abbrev pub unboxed : (F : Unit {0} ⊎ ⊥ → Type 0) (kind : Unit {0} ⊎ ⊥) → F kind → F (inl tt)
 unboxed F (inl one) it = it
 unboxed F (inr none) it = absurd none
@@ -24,7 +24,7 @@ unboxed F (inr none) it = absurd none
 abbrev pub held : {Z : Type 0} {F : Unit {0} ⊎ ⊥ → Type 0} → DynBox (Unit {0} ⊎ ⊥) Z F → F (inl tt)
 held {F = F} box = unboxed F box.vtable box.value
 
--- the boxes hold these, in their order
+-- the boxes hold these values, in order
 pub record AreHeld {Z : Type 0} {F : Unit {0} ⊎ ⊥ → Type 0} (boxes : List (DynBox (Unit {0} ⊎ ⊥) Z F))
     (them : List (F (inl tt))) : Type 0 where
   pub each : map held boxes ≡ them
@@ -46,7 +46,7 @@ pub AreHeld-many : {Z : Type 0} {F : Unit {0} ⊎ ⊥ → Type 0} (boxes : List 
     (them : List (F (inl tt))) → AreHeld boxes them → length boxes ≡ length them
 AreHeld-many boxes them are = sym (length-map boxes held) ∙ ap length are.each
 
--- A box that was made of a value holds it: the two have one code, and no two values have.
+-- A box that was made from a value holds it: the two have the same code, and different values have different codes.
 pub held-made : {Z : Type 0} {F : Unit {0} ⊎ ⊥ → Type 0} (box : DynBox (Unit {0} ⊎ ⊥) Z F)
     (code : (kind : Unit {0} ⊎ ⊥) → F kind → Gv)
     → ((x y : F (inl tt)) → code (inl tt) x ≡ code (inl tt) y → x ≡ y) → (at : Unit {0} ⊎ ⊥) (it : F (inl tt))
@@ -57,7 +57,7 @@ held-made {F = F} box code one_each at it made = go box.vtable box.value made.co
     go (inl one) value codes = one_each value it codes
     go (inr none) value codes = absurd none
 
--- what is so of each box is so of what it holds
+-- a fact that holds of each box holds of each value
 held-each : {Z : Type 0} {F : Unit {0} ⊎ ⊥ → Type 0} (boxes : List (DynBox (Unit {0} ⊎ ⊥) Z F))
     (R : (box : DynBox (Unit {0} ⊎ ⊥) Z F) → F box.vtable → Type 0) → (k : ℕ) → k < length boxes
     → ((box : _) → R (slice_index_or boxes k box) (slice_index_or boxes k box).value)
@@ -74,7 +74,7 @@ held-each {Z = Z} {F = F} boxes R k within each them are P opens it =
     go (box ∷ boxes) zero within each = opens box (each box)
     go (box ∷ boxes) (suc k) within each = go boxes k (omega arith) each
 
--- A run that the boxes drove is one that what they hold drove, where each box with a value means what this does.
+-- A run that the boxes drove is one that their values drove, if each box means what its value means.
 pub own-runs : {Z : Type 0} {F : Unit {0} ⊎ ⊥ → Type 0} (plan : Plan) (run : Run) (turns : ℕ)
     (boxes : List (DynBox (Unit {0} ⊎ ⊥) Z F)) (means : (box : DynBox (Unit {0} ⊎ ⊥) Z F) → Meaning (F box.vtable))
     → AreRunsOf (DrivenBy means (λ box. box.value) turns boxes) plan run → length boxes ≡ length plan.names

@@ -1,4 +1,4 @@
--- What a run comes to is one.
+-- A run has only one outcome.
 use Rattle.std.proofs.Common.{◌≡◌, ℕ, List, sym, ap, ◌∙◌}
 use Rattle.chart.specs.Charts.{LineView}
 use Rattle.chart.specs.Reports.{ReportView}

@@ -1,4 +1,4 @@
--- Turns that were gone over, one after the other.
+-- Turns that were passed over, one after another.
 use Rattle.std.proofs.Common.{◌≡◌, ℕ, zero, suc, ◌+◌, false, List, [], ◌∷◌, ◌++◌, Some, None, length, replicate, refl, sym, ap, ◌∙◌, append_assoc, append-nil, arith}
 use Rattle.std.specs.Prelude.{slice_get}
 use Rattle.behaviour.specs.declared.bare_answer.BareAnswer.{BareAnswer}
@@ -17,7 +17,7 @@ pub passes-stop : (lines : List ℕ) (notes : List Note) (place : ℕ) (turn : T
     → Passes lines notes place (turn ∷ []) notes place
 passes-stop lines notes place turn none = record { notes = λ rest. rw none refl; memory = λ rest. rw none refl }
 
--- a turn that was answered, and not that memory was refused
+-- a turn with an answer other than that memory was refused
 pub passes-answered : (lines : List ℕ) (old new : List Note) (place : ℕ) (turn : Turn) (answer : BareAnswer)
     → turn.answer ≡ Some answer → is_memory answer ≡ false → new ≡ old ++ note_of (slice_get lines place) (word_of answer)
     → Passes lines old place (turn ∷ []) new (script_next (length lines) place answer)
@@ -33,7 +33,7 @@ passes-then lines a b c p q r turns more first second = record {
   memory = λ rest. ap lacked_memory (append_assoc turns more rest) ∙ first.memory (more ++ rest) ∙ second.memory rest;
 }
 
--- turns with which it begins and ends
+-- all turns, from the first to the last
 pub passes-all : (lines : List ℕ) (old new : List Note) (next : ℕ) (turns : List Turn) → Passes lines old 0 turns new next
     → (new ≡ old ++ notes_from lines 0 turns) × (lacked_memory turns ≡ false)
 passes-all lines old new next turns passed = (

@@ -1,4 +1,4 @@
--- The names of those whose turns were spent, one end more.
+-- The names of the instances whose turns were spent, with one more end.
 use Rattle.std.proofs.Common.{◌≡◌, ◌<◌, ◌+◌, ℕ, false, List, [], ◌∷◌, ◌++◌, length, drop, slice_index_or, take, ap, sym, ◌∙◌, append_assoc}
 use Rattle.std.proofs.lemmas.List.{drop_more}
 use Rattle.std.proofs.lemmas.List.Folds.{list_any_more}
@@ -8,14 +8,14 @@ use Rattle.instances.specs.declared.end.End.TheVariants.{TurnsSpent, Stopped}
 use Rattle.texts.specs.Instances.{name_at}
 use Rattle.schedule_threads.specs.RunOutcomes.{spent_from, is_memory_end}
 
--- the names of those that are left, of whom the next one ended so
+-- the names of the remaining instances, given the end of the next one
 next : (names : List (List ℕ)) (ends : List End) (i : ℕ) {end : End} → i < length ends
     → slice_index_or ends i Stopped ≡ end
     → spent_from names (i + 1) (drop i ends) ≡ spent_from names (i + 1) (end ∷ drop (i + 1) ends)
 next names ends i within is =
     ap (spent_from names (i + 1)) (drop_more ends i Stopped within ∙ ap (λ e. e ∷ drop (i + 1) ends) is)
 
--- one whose turns were spent
+-- an instance whose turns were spent
 pub spent_on : (names : List (List ℕ)) (ends : List End) (i : ℕ) (so_far more : List (List ℕ)) (name : List ℕ)
     → i < length ends → slice_index_or ends i Stopped ≡ TurnsSpent
     → more ≡ so_far ++ name ∷ [] → name ≡ name_at names (i + 1)
@@ -31,7 +31,7 @@ spent_on names ends i so_far more name within is grown named all =
     sym (ap (λ r. so_far ++ r) (next names ends i within is)) in
     new ∙ (moved ∙ (old ∙ all))
 
--- one that stopped
+-- an instance that stopped
 pub stopped_on : (names : List (List ℕ)) (ends : List End) (i : ℕ) (so_far : List (List ℕ))
     → i < length ends → slice_index_or ends i Stopped ≡ Stopped
     → so_far ++ spent_from names (i + 1) (drop i ends) ≡ spent_from names 1 ends
@@ -41,7 +41,7 @@ stopped_on names ends i so_far within is all =
     sym (ap (λ r. so_far ++ r) (next names ends i within is)) in
     old ∙ all
 
--- no memory was lacking, so far and at this end
+-- memory was not refused, so far and at this end
 pub memory_on : (ends : List End) (i : ℕ) {end : End} → i < length ends → slice_index_or ends i Stopped ≡ end
     → is_memory_end end ≡ false → list_any is_memory_end (take i ends) ≡ false
     → list_any is_memory_end (take (i + 1) ends) ≡ false

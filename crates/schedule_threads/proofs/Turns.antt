@@ -1,4 +1,4 @@
--- Of which command each turn of a script's run is.
+-- The command to which each turn of a script's run belongs.
 use Rattle.std.proofs.Common.{◌≡◌, ℕ, List, [], ◌∷◌, ◌++◌, length, filter, refl, sym, ap, ◌∙◌, subst, append-nil}
 use Rattle.std.specs.Prelude.{slice_index_or, ◌==◌}
 use Rattle.std.proofs.lemmas.List.{length-map}
@@ -25,11 +25,11 @@ bare-empty Open = refl
 bare-empty Shut = refl
 bare-empty Stop = refl
 
--- at which act the script is when it is told the last answer
+-- the place of the script when it gets the last answer
 abbrev place-of : Moment ScriptView → ℕ
 place-of now = script_next (length now.state.acts) now.state.place (bare_answer now.last)
 
--- from there on the turns are of its acts
+-- from there on the turns belong to the script's acts
 abbrev AreOfNow : Moment ScriptView → List Turn → Type 0
 AreOfNow now turns = AreOf now.state.acts (length now.state.acts) (place-of now) turns
 

@@ -1,4 +1,4 @@
--- The notes of instances that did their scripts, each on its own (this project's profile).
+-- The notes of instances that ran their scripts, each on its own (this project's profile).
 use Rattle.std.specs.Prelude.{ℕ, ◌+◌, ◌==◌, Bool, true, false, List, [], ◌∷◌, ◌++◌, length, map, filter, slice_get, Option, Some, None}
 use Rattle.board.specs.declared.error.CloseError.TheVariants as closing
 use Rattle.board.specs.declared.error.RegionError.TheVariants as marking
@@ -13,7 +13,8 @@ use Rattle.schedule.specs.declared.command.Note.{Note}
 use Rattle.schedule.specs.declared.command.Word.{Word}
 use Rattle.schedule.specs.declared.command.Word.TheVariants as words
 
--- The word of the note that an answer leaves. Full and nothing leave none, since a script then does its act again.
+-- The word of the note that an answer leaves. The answers full and nothing leave none, since a script then does its act
+-- again.
 abbrev pub word_of : BareAnswer → Option Word
 word_of Ended = Some words.Ended
 word_of (Unsent sending.InCoregion) = Some words.InCoregion
@@ -25,22 +26,22 @@ word_of (Unmarked marking.CoregionOpen) = Some words.Open
 word_of (Unmarked marking.CoregionNotOpen) = Some words.NotOpen
 word_of _ = None
 
--- memory was refused
+-- the answer is that memory was refused
 abbrev pub is_memory : BareAnswer → Bool
 is_memory (Unsent sending.Memory) = true
 is_memory (Unreceived taking.Memory) = true
 is_memory _ = false
 
--- in this turn, whose act of stopping has no answer
+-- memory was refused in this turn; an act of stopping has no answer
 abbrev pub lacks_memory : Option BareAnswer → Bool
 lacks_memory (Some answer) = is_memory answer
 lacks_memory None = false
 
--- the lines of the commands of the instance p, in their order
+-- the lines of the commands of the instance p, in order
 abbrev pub lines_of : List Command → ℕ → List ℕ
 lines_of commands p = map (λ c. c.line) (filter (λ c. c.actor == p) commands)
 
--- at which of so many commands an instance is after a turn with this answer: where its script is
+-- the place of the command, of `many`, at which an instance is after a turn with this answer: the place of its script
 abbrev pub next_place : ℕ → ℕ → Option BareAnswer → ℕ
 next_place many place (Some answer) = script_next many place answer
 next_place many place None = place
@@ -55,14 +56,14 @@ abbrev pub noted : List ℕ → ℕ → Option BareAnswer → List Note
 noted lines place (Some answer) = note_of (slice_get lines place) (word_of answer)
 noted lines place None = []
 
--- The notes of an instance's turns, the first of which is one of its command at this place, from 0. As long as a
--- command is answered so that the script does it again, the turns are that command's.
+-- The notes of an instance's turns, the first of which is one of its command at this place, from 0. As long as the
+-- answers make the script do a command again, the turns are that command's.
 abbrev pub notes_from : List ℕ → ℕ → List Turn → List Note
 notes_from lines place [] = []
 notes_from lines place (turn ∷ turns) =
     noted lines place turn.answer ++ notes_from lines (next_place (length lines) place turn.answer) turns
 
--- the notes of instances from the number p on, which have these traces
+-- the notes of the instances from number p on, which have these traces
 abbrev pub all_notes : List Command → ℕ → List (List Turn) → List Note
 all_notes commands p [] = []
 all_notes commands p (trace ∷ traces) = notes_from (lines_of commands p) 0 trace ++ all_notes commands (p + 1) traces

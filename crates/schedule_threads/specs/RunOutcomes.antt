@@ -1,4 +1,4 @@
--- What the run of a schedule's scripts comes to (this project's profile).
+-- Outcomes of runs of a schedule's scripts (this project's profile).
 use Rattle.std.specs.Prelude.{◌≡◌, ℕ, ◌+◌, Bool, true, false, List, [], ◌∷◌, length}
 use Rattle.std.specs.List.{list_any}
 use Rattle.chart.specs.Reports.{AreReports}
@@ -11,25 +11,26 @@ use Rattle.schedule.specs.Outcomes.Outcomes.{OutcomeView, AreByLine}
 use Rattle.schedule.specs.Plans.{Plan}
 use Rattle.schedule_threads.specs.RunNotes.{lacks_memory, all_notes}
 
--- as a replay has it: names, chart, reports and notes; and the names of the instances whose turns were spent
+-- the outcome as a replay has it: names, chart, reports and notes; and the names of the instances whose turns were
+-- spent
 pub record RunView : Type 0 where
   pub outcome : OutcomeView
   pub spent : List (List ℕ)
 
--- as many lines, traces and ends as the schedule has instances, and the reports of its chart's receives
+-- the run has as many lines, traces and ends as the schedule has instances, and the reports of its chart's receives
 pub record IsRunOf (plan : Plan) (run : Run) : Type 0 where
   pub lines : length run.gathered.chart ≡ length plan.names
   pub reports : AreReports run.gathered.chart run.gathered.reports.items
   pub traces : length run.traces.items ≡ length plan.names
   pub ends : length run.ends.items ≡ length plan.names
 
--- the names of those whose turns were spent, of instances from the number p on, which ended so
+-- of the instances from number p on, which have these ends, the names of those whose turns were spent
 abbrev pub spent_from : List (List ℕ) → ℕ → List End → List (List ℕ)
 spent_from names p [] = []
 spent_from names p (TurnsSpent ∷ ends) = name_at names p ∷ spent_from names (p + 1) ends
 spent_from names p (_ ∷ ends) = spent_from names (p + 1) ends
 
--- an act of these turns was answered that memory was refused
+-- an act of these turns had the answer that memory was refused
 abbrev pub lacked_memory : List Turn → Bool
 lacked_memory trace = list_any (λ (turn : Turn). lacks_memory turn.answer) trace
 
@@ -38,13 +39,14 @@ abbrev pub is_memory_end : End → Bool
 is_memory_end Memory = true
 is_memory_end _ = false
 
--- neither befell an instance
+-- memory was refused to no instance
 pub record HadMemory (run : Run) : Type 0 where
   pub acts : list_any lacked_memory run.traces.items ≡ false
   pub ends : list_any is_memory_end run.ends.items ≡ false
 
--- What a run of the schedule's scripts comes to, the k-th instance's trace and end being the k-th: the chart and the
--- reports that were gathered, the notes by line, and who spent its turns. It is nothing where memory was refused.
+-- The outcome of a run of the schedule's scripts, in which the k-th trace and the k-th end are those of the k-th
+-- instance. It has the chart and the reports that were gathered, the notes by line, and the instances whose turns were
+-- spent. There is none if memory was refused.
 pub record IsRunOutcome (plan : Plan) (run : Run) (o : RunView) : Type 0 where
   pub had_memory : HadMemory run
   pub names : o.outcome.names ≡ plan.names

@@ -1,4 +1,4 @@
--- The text of what a run comes to (this project's profile).
+-- The text of a run's outcome (this project's profile).
 use Rattle.std.specs.Prelude.{ℕ, List, ◌++◌, codes}
 use Rattle.std.specs.List.{flat_map}
 use Rattle.schedule.specs.Outcomes.OutcomeText.{outcome_text}

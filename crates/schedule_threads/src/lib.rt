@@ -1,17 +1,17 @@
-//! What the run of a schedule comes to whose instances each do their own commands, on threads, and its text.
+//! The outcome of a run of a schedule on threads, in which each instance does its own commands, and the outcome's text.
 //!
 //! What is promised:
 //!
 //! - A schedule's instances run on a board of their own ([`run_schedule`]), with all that [`instances::run`] promises
-//!   of it (`specs/OwnBoards.antt`).
-//! - So do the scripts of a schedule's own commands ([`run_scripts`], `specs/OwnScripts.antt`).
-//! - A run has one outcome ([`RunOutcome::of`]): the chart and the reports that were gathered, a note for each
-//!   command that was refused or found its lane ended, by line, and the names of the instances whose turns were
-//!   spent. Turns that were answered full or nothing leave no note, since the script does its act again
-//!   (`specs/RunNotes.antt`). No other outcome is that of the run ([`laws::one_run_outcome_law`]).
-//! - A note is given to the command that left it ([`laws::turns_law`]).
-//! - Where memory was refused in the run (F6) there is none.
-//! - Its text is written whole, or with F24 a beginning of it ([`RunOutcome::write`]).
+//!   for it (`specs/OwnBoards.antt`).
+//! - The scripts of a schedule's own commands run in the same way ([`run_scripts`], `specs/OwnScripts.antt`).
+//! - A run has one outcome ([`RunOutcome::of`]). It has the chart and the reports that were gathered. By line, it has a
+//!   note for each command that was refused or found its lane ended. It names the instances whose turns were spent.
+//!   Turns with the answer full or nothing leave no note, since the script does its act again (`specs/RunNotes.antt`).
+//!   The run has no other outcome ([`laws::one_run_outcome_law`]).
+//! - A note belongs to the command that left it ([`laws::turns_law`]).
+//! - If memory was refused in the run (F6), there is no outcome.
+//! - An outcome's text is written whole, or with F24 a beginning of it ([`RunOutcome::write`]).
 //!
 //! [`scripts`] makes the script of each instance.
 #![tactic(auto)]

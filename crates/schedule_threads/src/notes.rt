@@ -1,4 +1,4 @@
-//! The notes of instances that did their scripts.
+//! The notes of instances that ran their scripts.
 ghost use Rattle.std.specs.Prelude.{◌≡◌, ◌≤◌, ◌++◌, ◌∷◌, [], IfOk, OnOk, length, replicate, slice_get, option_to_list};
 ghost use Rattle.std.specs.Prelude.{false};
 ghost use Rattle.std.specs.List.{list_any};
@@ -14,7 +14,8 @@ use instances::{Stretch, Trace, Turn};
 use schedule::{Command, Note, Word};
 use std::alloc::{AllocError, Global};
 
-/// The word of the note that an answer leaves. Full and nothing leave none, since the script does its act again.
+/// The word of the note that an answer leaves. The answers full and nothing leave none, since the script does its act
+/// again.
 fn word_of(answer: &BareAnswer) -> Option<Word>
     ensures { result ≡ word_of answer.now }
 {
@@ -32,7 +33,7 @@ fn word_of(answer: &BareAnswer) -> Option<Word>
     }
 }
 
-/// Whether it is F6.
+/// Whether the answer is F6.
 fn is_memory(answer: &BareAnswer) -> bool
     ensures { result ≡ is_memory answer.now }
 {
@@ -49,7 +50,7 @@ fn line_at(lines: &[u64], place: usize) -> Option<u64>
     lines.get(place).copied()
 }
 
-/// The note that an answer leaves to the command of this line, if there is one.
+/// The note that an answer leaves for the command of this line, if there is one.
 fn note_of(line: Option<u64>, answer: &BareAnswer) -> Option<Note>
     ensures { option_to_list result ≡ note_of line (word_of answer.now) }
 {
@@ -59,9 +60,9 @@ fn note_of(line: Option<u64>, answer: &BareAnswer) -> Option<Note>
     }
 }
 
-/// Adds the note of a turn of the command at a place, and answers at which command the next turn is.
+/// Adds the note of a turn of the command at a place, and returns the place of the next turn's command.
 ///
-/// F6: a growth was refused, or the turn was answered so.
+/// F6: a growth was refused, or it was the answer of the turn.
 fn add_turn(
     notes: &mut Vec<Note>,
     lines: &[u64],
@@ -125,9 +126,9 @@ fn lines_of(alloc: Global, commands: &[Command], actor: InstanceNo) -> Result<Ve
     Ok(lines)
 }
 
-/// The notes of all instances, one after the other, by their traces.
+/// The notes of all instances, one instance after another, from their traces.
 ///
-/// F6: a growth was refused, or an act was answered so.
+/// F6: a growth was refused, or it was the answer to an act.
 pub(crate) fn all_notes(
     alloc: Global,
     commands: &[Command],

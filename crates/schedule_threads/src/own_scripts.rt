@@ -12,7 +12,7 @@ use schedule::Schedule;
 use std::alloc::{AllocError, Global};
 use std::thread::Threads;
 
-/// Runs a schedule's scripts, of which nothing but memory stands in the way.
+/// Runs a schedule's scripts, which only missing memory can prevent.
 fn run_own_scripts<R: Threads + Sync>(
     rt: &R,
     alloc: Global,
@@ -35,11 +35,11 @@ fn run_own_scripts<R: Threads + Sync>(
     }
 }
 
-/// Lets each instance of a schedule do its own commands, in their order, on a board of its own, each in a thread, or
-/// one after the other where no thread can be made, for so many turns at most.
+/// Runs a schedule on a board of its own: each instance does its own commands, in order. Each instance has a thread, or
+/// they run one after another if no thread can be made. An instance has at most this many turns.
 ///
-/// F25: the turns are none or more than [`instances::MAX_TURNS`]. Nothing was started then. F6: a growth was refused,
-/// of the scripts, of the board or of its run.
+/// F25: the number of turns is 0 or more than [`instances::MAX_TURNS`]. Then nothing was started. F6: a growth was
+/// refused, of the scripts, of the board or of its run.
 pub fn run_scripts<R: Threads + Sync>(
     rt: &R,
     alloc: Global,

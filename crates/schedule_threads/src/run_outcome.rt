@@ -1,4 +1,4 @@
-//! What a run comes to.
+//! Outcomes of runs.
 ghost use Rattle.std.specs.Prelude.{◌≡◌, ◌≤◌, IfOk, OnOk, length, false};
 ghost use Rattle.std.specs.List.{list_any};
 ghost use Rattle.chart.specs.Reports.{has_races};
@@ -14,7 +14,7 @@ use std::alloc::{AllocError, Global};
 use std::marker::Model;
 use texts::named;
 
-/// What the run of a schedule comes to: an outcome as a replay has it, and the names of the instances whose turns were
+/// The outcome of a schedule's run: an outcome as a replay has it, and the names of the instances whose turns were
 /// spent, by number. A contract sees a record of both.
 #[derive(Debug, Drop)]
 pub struct RunOutcome<'a> {
@@ -32,7 +32,7 @@ impl<'a> Model for RunOutcome<'a> {
 
 /// The names of the instances whose turns were spent.
 ///
-/// F6: a growth was refused, or that of a trace was.
+/// F6: a growth was refused, here or in a trace.
 fn spent_names(alloc: Global, names: &Names, ends: &[End]) -> Result<Vec<Name>, AllocError>
     requires { length ends.now ≡ length names.now }
     ensures spent { IfOk result (λ spent. spent.items ≡ spent_from names.now 1 ends.now) }
@@ -51,10 +51,10 @@ fn spent_names(alloc: Global, names: &Names, ends: &[End]) -> Result<Vec<Name>, 
 }
 
 impl<'a> RunOutcome<'a> {
-    /// What the run comes to of the scripts of a schedule, which has as many instances as the run: the first trace and
+    /// The outcome of a run of a schedule's scripts. The schedule has as many instances as the run: the first trace and
     /// the first end are those of instance 1, and so on.
     ///
-    /// F6: a growth was refused, in the run or now.
+    /// F6: a growth was refused, in the run or here.
     pub fn of(alloc: Global, schedule: &'a Schedule, run: Run) -> Result<RunOutcome<'a>, AllocError>
         requires { IsRunOf schedule.now run }
         ensures { IfOk result (IsRunOutcome schedule.now run) }
@@ -70,7 +70,7 @@ impl<'a> RunOutcome<'a> {
         })
     }
 
-    /// What it has as a replay has it: names, chart, reports and notes.
+    /// The part that a replay has too: names, chart, reports and notes.
     pub fn outcome(&self) -> &Outcome<'a>
         ensures { result.now ≡ self.now.outcome }
     {
@@ -84,7 +84,7 @@ impl<'a> RunOutcome<'a> {
         self.spent.as_slice()
     }
 
-    /// Whether some receive has a race.
+    /// Whether a receive has a race.
     pub fn has_races(&self) -> bool
         ensures { result ≡ has_races self.now.outcome.reports }
     {

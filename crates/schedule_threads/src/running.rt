@@ -13,8 +13,8 @@ use schedule::Schedule;
 use std::alloc::{AllocError, Global};
 use std::thread::Threads;
 
-/// A board for the schedule's instances, with lanes of its capacity: no schedule has a count of instances, or a
-/// capacity, that a board refuses.
+/// A board for the schedule's instances, with lanes of its capacity. A board refuses no schedule's number of instances
+/// or capacity.
 fn board_for(alloc: Global, schedule: &Schedule) -> Result<Board, AllocError>
     ensures { IfOk result (IsNewBoard (length schedule.now.names) schedule.now.capacity) }
 {
@@ -26,7 +26,7 @@ fn board_for(alloc: Global, schedule: &Schedule) -> Result<Board, AllocError>
     }
 }
 
-/// All posts of a board that is new.
+/// All posts of a new board.
 fn posts_of(board: &mut Board) -> Result<Vec<Post<'_>>, AllocError>
     requires { board.old.asked ≡ false }
     ensures { IfOk result (λ posts. AreNewPosts board.old.board posts.items) }
@@ -38,11 +38,13 @@ fn posts_of(board: &mut Board) -> Result<Vec<Post<'_>>, AllocError>
     }
 }
 
-/// Runs a schedule's instances on a board of their own, with lanes of its capacity: each behaviour drives the instance
-/// at its place, each in a thread, or one after the other where no thread can be made, for so many turns at most.
+/// Runs a schedule's instances on a board of their own, with lanes of its capacity. Each behaviour drives the instance
+/// at its place, in a thread. The instances run one after another if no thread can be made. An instance has at most
+/// this many turns.
 ///
-/// F25: there are more or fewer behaviours than instances, or the turns are none or more than [`instances::MAX_TURNS`].
-/// Nothing was started then, and the behaviours come back. F6: a growth was refused, of the board or of its run.
+/// F25: there are more or fewer behaviours than instances, or the number of turns is 0 or more than
+/// [`instances::MAX_TURNS`]. Then nothing was started, and the behaviours come back. F6: a growth was refused, of the
+/// board or of its run.
 #[tactic(auto, using(crate::proofs::Boards::are_of_one_board))]
 pub fn run_schedule<R: Threads + Sync>(
     rt: &R,

@@ -1,4 +1,4 @@
-//! What a run comes to as text.
+//! Outcomes of runs as text.
 ghost use Rattle.std.specs.Prelude.{◌≡◌};
 ghost use Rattle.std.specs.List.{flat_map};
 ghost use Rattle.texts.specs.Writing.{Wrote, Adds};
@@ -34,8 +34,8 @@ fn add_run<W: Out>(text: &mut TextBuffer<'_, W>, run: &RunOutcome<'_>) -> Result
 }
 
 impl RunOutcome<'_> {
-    /// Writes its text: an outcome's, and then a line for each instance whose turns were spent. It takes no memory.
-    /// Where a put fails (F24), a beginning of the text was written, and no other put is tried.
+    /// Writes the outcome's text: that of a replay's outcome, and then a line for each instance whose turns were spent.
+    /// It takes no memory. If a put fails (F24), a beginning of the text was written, and no further put is tried.
     #[tactic(auto, using(texts::proofs::Writes::joining))]
     pub fn write<W: Out>(&self, out: &mut W) -> Result<(), WriteError>
         ensures { Wrote W.sink out.old out.new result (run_text self.now) }

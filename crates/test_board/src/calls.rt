@@ -1,7 +1,7 @@
-//! Calls of posts, as tests make them, and what is asserted of what they answer. Messages have names of one letter.
+//! The calls of posts that tests make, and the assertions about their answers. Messages have names of one letter.
 //!
-//! An assertion is a call: the borrow checker's part of a proof grows with each branch of a function, and an
-//! `assert!` or an `assert_eq!` is one.
+//! Each assertion is a function. The borrow checker's part of a proof grows with each branch of a function, and an
+//! `assert!` or an `assert_eq!` is a branch.
 ghost use Rattle.std.specs.Prelude.{◌≡◌};
 ghost use Rattle.board.specs.Meeting.{AreOfOneBoard};
 
@@ -11,17 +11,17 @@ use std::alloc::{AllocError, Global};
 use std::process::Abort;
 use std::test::Fail;
 
-/// What has to be so, is so.
+/// Asserts that something holds.
 pub fn holds(rt: &impl Abort, what: &str, fact: bool) {
     assert!(rt; fact, "not so: {what}");
 }
 
-/// They are so many.
+/// Asserts how many there are.
 pub fn are(rt: &impl Abort, what: &str, many: usize, wanted: usize) {
     assert_eq!(rt; many, wanted, "{what}");
 }
 
-/// A receive of several ended so.
+/// Asserts why a receive of several messages stopped.
 pub fn stops(rt: &impl Abort, stop: Stop, wanted: Stop) {
     assert_eq!(rt; stop, wanted);
 }
@@ -41,7 +41,7 @@ pub fn message(rt: &impl Abort, alloc: Global, letter: u8) -> Message {
     }
 }
 
-/// A last growth, whose refusal tells that each one before it was refused in an earlier run of the test.
+/// The last growth of a test. Its refusal shows that each growth before it was refused in an earlier run of the test.
 pub fn every_growth_was_refused(alloc: Global) -> Result<(), Fail> {
     Vec::<u8>::with_capacity(alloc, 1)
         .ok()
@@ -49,7 +49,7 @@ pub fn every_growth_was_refused(alloc: Global) -> Result<(), Fail> {
     Ok(())
 }
 
-/// The posts without the last of them, and that one.
+/// The posts without the last one, and the last one.
 pub fn apart<'a>(posts: Vec<Post<'a>>) -> (Vec<Post<'a>>, Option<Post<'a>>)
     requires { AreOfOneBoard posts.items }
     ensures { AreOfOneBoard result.0.items }
@@ -59,7 +59,7 @@ pub fn apart<'a>(posts: Vec<Post<'a>>) -> (Vec<Post<'a>>, Option<Post<'a>>)
     (others, last)
 }
 
-/// Messages of these names.
+/// Messages with these names.
 pub fn messages(
     rt: &impl Abort,
     alloc: Global,
@@ -72,12 +72,12 @@ pub fn messages(
     Ok(messages)
 }
 
-/// It has this name.
+/// Asserts that the message has this name.
 fn is_named(rt: &impl Abort, message: &Message, letter: u8) {
     holds(rt, "the message's name", message.name() == name(rt, letter));
 }
 
-/// They have these names.
+/// Asserts that the messages have these names.
 pub fn are_named(rt: &impl Abort, messages: &[Message], letters: &[u8]) {
     are(rt, "messages", messages.len(), letters.len());
     for (message, letter) in messages.iter().zip(letters) {
@@ -85,7 +85,7 @@ pub fn are_named(rt: &impl Abort, messages: &[Message], letters: &[u8]) {
     }
 }
 
-/// One message of this name is left, on the lane from 1 to 2.
+/// Asserts that one message with this name is left, on the lane from 1 to 2.
 pub fn is_left(rt: &impl Abort, left: &[Left], letter: u8) {
     assert!(rt; left.len() == 1);
     holds(rt, "the sender", left[0].sender == instance(rt, 1));
@@ -93,7 +93,7 @@ pub fn is_left(rt: &impl Abort, left: &[Left], letter: u8) {
     are_named(rt, left[0].messages.as_slice(), &[letter]);
 }
 
-/// Sends a message of this name, and answers the number of its event, or the refusal.
+/// Sends a message with this name. It returns the number of its event, or the refusal.
 pub fn send(
     rt: &impl Abort,
     alloc: Global,
@@ -113,7 +113,7 @@ pub fn send(
     }
 }
 
-/// Sends a message of this name, once more where memory was refused.
+/// Sends a message with this name, and once more if memory was refused.
 pub fn sends_again(rt: &impl Abort, alloc: Global, post: &mut Post, to: usize, letter: u8)
     ensures { post.new.board ≡ post.old.board }
 {
@@ -124,7 +124,7 @@ pub fn sends_again(rt: &impl Abort, alloc: Global, post: &mut Post, to: usize, l
     }
 }
 
-/// A send answers the number of its event, or the refusal.
+/// Asserts that a send returns the number of its event, or the refusal.
 pub fn sends_as(
     rt: &impl Abort,
     alloc: Global,
@@ -138,12 +138,12 @@ pub fn sends_as(
     assert_eq!(rt; send(rt, alloc, post, to, letter), answer);
 }
 
-/// It is this event of the instance.
+/// Asserts that this is the event with this number of the instance.
 pub fn is_event(rt: &impl Abort, event: &EventNo, instance: InstanceNo, index: u32) {
     assert_eq!(rt; *event, EventNo { instance, index });
 }
 
-/// It has these races, events of the receive's instance.
+/// Asserts that the report has these races, which are events of the receive's instance.
 fn has_races(rt: &impl Abort, report: &Report, races: &[u32]) {
     let own = report.receive().instance;
     are(rt, "races", report.earlier().len(), races.len());
@@ -152,13 +152,13 @@ fn has_races(rt: &impl Abort, report: &Report, races: &[u32]) {
     }
 }
 
-/// It has this name and these races.
+/// Asserts that the message that came has this name and these races.
 pub fn has_come(rt: &impl Abort, arrival: &Arrival, letter: u8, races: &[u32]) {
     is_named(rt, &arrival.message, letter);
     has_races(rt, &arrival.report, races);
 }
 
-/// They have these names, and these races each.
+/// Asserts that the messages that came have these names, and each of them these races.
 pub fn have_come(rt: &impl Abort, arrivals: &[Arrival], letters: &[u8], races: &[u32]) {
     are(rt, "arrivals", arrivals.len(), letters.len());
     for (arrival, letter) in arrivals.iter().zip(letters) {
@@ -166,7 +166,7 @@ pub fn have_come(rt: &impl Abort, arrivals: &[Arrival], letters: &[u8], races: &
     }
 }
 
-/// The message of this name, sender and races was got.
+/// Asserts that a message with this name, sender and races was received.
 pub fn is_got(
     rt: &impl Abort,
     taken: Result<Taken, TakeError>,
@@ -183,7 +183,7 @@ pub fn is_got(
     }
 }
 
-/// Receives a message of this name with these races.
+/// Receives a message with this name and these races.
 pub fn gets(rt: &impl Abort, post: &mut Post, from: usize, letter: u8, races: &[u32])
     ensures { post.new.board ≡ post.old.board }
 {

@@ -1,4 +1,4 @@
-//! Boards that are gathered.
+//! Tests of boards that are gathered.
 ghost use Rattle.board.specs.Meeting.{AreOfOneBoard};
 
 use crate::calls::{apart, are, every_growth_was_refused, holds, is_left, sends_again};
@@ -8,7 +8,7 @@ use std::alloc::Global;
 use std::process::Abort;
 use std::test::Fail;
 
-/// The first post sends a message of this name to the second one, once more where memory was refused.
+/// The first post sends a message with this name to the second one, and once more if memory was refused.
 pub fn sends(rt: &impl Abort, alloc: Global, posts: &mut [Post], letter: u8)
     requires { AreOfOneBoard posts.old }
     ensures { AreOfOneBoard posts.new }
@@ -17,14 +17,14 @@ pub fn sends(rt: &impl Abort, alloc: Global, posts: &mut [Post], letter: u8)
     sends_again(rt, alloc, &mut posts[0], 2, letter);
 }
 
-/// It has so many lines and receives, and one message is left.
+/// Asserts that the gathered board has this number of lines and of receives, and that one message is left.
 fn one_is_left(rt: &impl Abort, gathered: &Gathered, lines: usize, receives: usize) {
     are(rt, "lines", gathered.chart.lines().len(), lines);
     are(rt, "reports", gathered.reports.len(), receives);
     is_left(rt, gathered.left.as_slice(), b'y');
 }
 
-/// What these posts come to, where memory isn't refused.
+/// The result of gathering these posts, if memory isn't refused.
 fn gathers_at_once(rt: &impl Abort, alloc: Global, posts: Vec<Post>) -> Gathered
     requires { AreOfOneBoard posts.items }
 {
@@ -34,7 +34,7 @@ fn gathers_at_once(rt: &impl Abort, alloc: Global, posts: Vec<Post>) -> Gathered
     }
 }
 
-/// What these posts come to. Where memory was refused they came back as they were, and are gathered once more.
+/// The result of gathering these posts. If memory was refused, they came back as they were, and are gathered once more.
 pub fn gathers(rt: &impl Abort, alloc: Global, posts: Vec<Post>) -> Gathered
     requires { AreOfOneBoard posts.items }
 {
@@ -61,7 +61,7 @@ fn gathered_board(rt: HostRuntime) {
     one_is_left(&rt, &gathers_at_once(&rt, rt.alloc(), posts), 2, 1);
 }
 
-/// A board isn't gathered from these posts, so many, which come back.
+/// Asserts that no board is gathered from these posts, and that all of them come back.
 fn are_not_all(rt: &impl Abort, alloc: Global, posts: Vec<Post>)
     requires { AreOfOneBoard posts.items }
 {
@@ -75,7 +75,7 @@ fn are_not_all(rt: &impl Abort, alloc: Global, posts: Vec<Post>)
     }
 }
 
-/// A board is not gathered where a post of it is lacking, or all are.
+/// A board isn't gathered if one of its posts is missing, or all of them.
 #[test]
 fn not_all_gathered(rt: HostRuntime) {
     let mut board = Board::new(rt.alloc(), 3, 1).expect(&rt, "a board");
@@ -86,7 +86,7 @@ fn not_all_gathered(rt: HostRuntime) {
     are_not_all(&rt, rt.alloc(), Vec::new(rt.alloc()));
 }
 
-/// A board of so many instances with a message of the first one on its way to the second.
+/// Gathers a board with this number of instances while a message from the first one to the second waits.
 fn gathered_of(rt: &impl Abort, alloc: Global, instances: usize) {
     if let Ok(mut board) = Board::new(alloc, instances, 1) {
         if let Ok(mut posts) = board.posts() {

@@ -1,6 +1,6 @@
-//! Calls whose growth is refused: each is made once more, and then answers in full. A test ends with a growth of
-//! its own, whose refusal tells that each one before it was refused in an earlier run of the test. Posts of nine
-//! instances take memory for a difference of nine changes, those of two never.
+//! Tests of calls whose growth is refused. Each call is made once more, and then returns its full answer. A test ends
+//! with a growth of its own. The refusal of this growth shows that each one before it was refused in an earlier run of
+//! the test. Posts of nine instances take memory for a difference of nine changes. Posts of two instances never do.
 ghost use Rattle.std.specs.Prelude.{◌≤◌};
 
 use crate::calls::{
@@ -20,7 +20,7 @@ fn board_of(rt: &impl Abort, alloc: Global, instances: usize) -> Board {
     }
 }
 
-/// The posts of a board, if memory isn't refused for them: so many. It gives none from then on.
+/// The number of a board's posts, if memory isn't refused for them. After that the board gives no posts.
 pub fn many_posts(rt: &impl Abort, board: &mut Board) -> Option<usize> {
     let many = match board.posts() {
         Ok(posts) => Some(posts.len()),
@@ -33,7 +33,7 @@ pub fn many_posts(rt: &impl Abort, board: &mut Board) -> Option<usize> {
     many
 }
 
-/// A board whose posts are refused gives none from then on, and a new one gives them.
+/// A board whose posts are refused gives none after that, but a new one does.
 fn posts_of(rt: &impl Abort, alloc: Global, instances: usize) {
     let mut many = many_posts(rt, &mut board_of(rt, alloc, instances));
     if many.is_none() {
@@ -42,7 +42,7 @@ fn posts_of(rt: &impl Abort, alloc: Global, instances: usize) {
     holds(rt, "so many posts", many == Some(instances));
 }
 
-/// Messages of these names, made once more where memory was refused.
+/// Messages with these names, made once more if memory was refused.
 fn list_of(rt: &impl Abort, alloc: Global, letters: &[u8]) -> Vec<Message> {
     match messages(rt, alloc, letters) {
         Ok(list) => list,
@@ -50,7 +50,7 @@ fn list_of(rt: &impl Abort, alloc: Global, letters: &[u8]) -> Vec<Message> {
     }
 }
 
-/// Sends messages of these names at once, once more where memory was refused: they came back.
+/// Sends messages with these names at once. If memory was refused, they came back and are sent once more.
 fn sends_several(rt: &impl Abort, alloc: Global, post: &mut Post, to: InstanceNo, letters: &[u8]) {
     if let Err((back, _)) = post.send_all(to, list_of(rt, alloc, letters)) {
         are_named(rt, back.as_slice(), letters);
@@ -58,8 +58,8 @@ fn sends_several(rt: &impl Abort, alloc: Global, post: &mut Post, to: InstanceNo
     }
 }
 
-/// Receives messages of the first of these names by one call, each with these races. Answers how many came, and why
-/// no more.
+/// Receives messages with the first of these names by one call, each with these races. It returns how many came, and
+/// why no more came.
 fn takes_several(
     rt: &impl Abort,
     post: &mut Post,
@@ -82,8 +82,8 @@ fn takes_several(
     }
 }
 
-/// Receives messages of these names by one call, each with these races. Where memory was refused, the same call made
-/// once more gets those that are left.
+/// Receives messages with these names by one call, each with these races. If memory was refused, the same call is made
+/// once more and gets those that are left.
 fn gets_several(rt: &impl Abort, post: &mut Post, from: InstanceNo, letters: &[u8], races: &[u32]) {
     let max = letters.len();
     assert!(rt; max > 0);
@@ -96,7 +96,7 @@ fn gets_several(rt: &impl Abort, post: &mut Post, from: InstanceNo, letters: &[u
     }
 }
 
-/// The same call made once more gets those that are left, where so many of them have come.
+/// Makes the same call once more, after `came` messages have come. It gets those that are left.
 fn gets_rest(
     rt: &impl Abort,
     post: &mut Post,
@@ -112,7 +112,7 @@ fn gets_rest(
     stops(rt, stop, if came == 0 { Stop::Asked } else { Stop::NoMore });
 }
 
-/// What a post does, with the partner's number. Of a receive the races too.
+/// A call of a post, with the number of its partner, and for a receive with its races.
 #[derive(Clone, Copy)]
 enum Deed {
     Sends(usize, u8),
@@ -132,7 +132,7 @@ fn does(rt: &impl Abort, alloc: Global, post: &mut Post, deed: &Deed) {
     }
 }
 
-/// The posts do this, if memory isn't refused for them.
+/// The posts make these calls, if memory isn't refused for the posts.
 fn exchange(rt: &impl Abort, alloc: Global, instances: usize, deeds: &[(usize, Deed)]) {
     let mut board = board_of(rt, alloc, instances);
     if let Ok(mut posts) = board.posts() {
@@ -150,7 +150,8 @@ fn refused_growths_of_posts(rt: HostRuntime) -> Result<(), Fail> {
     every_growth_was_refused(rt.alloc())
 }
 
-/// Three messages at once from the first instance to the second, which has sent one that they cross.
+/// The first instance sends three messages at once to the second one. They cross a message that the second one has
+/// sent.
 static SEVERAL: [(usize, Deed); 3] = [
     (2, Deed::Sends(1, b'w')),
     (1, Deed::SendsSeveral(2, b"xyz")),
@@ -164,7 +165,7 @@ fn refused_growths_of_several(rt: HostRuntime) -> Result<(), Fail> {
     every_growth_was_refused(rt.alloc())
 }
 
-/// Makes room for two events, once more where memory was refused.
+/// Makes room for two events, and once more if memory was refused.
 fn makes_room(rt: &impl Abort, post: &mut Post) {
     if post.reserve(2).is_err() {
         are(rt, "room", post.room(), 0);
@@ -172,14 +173,14 @@ fn makes_room(rt: &impl Abort, post: &mut Post) {
     }
 }
 
-/// A send within the room, which leaves so much.
+/// Asserts that a send finds room, and how much room it leaves.
 fn sends_in_room(rt: &impl Abort, alloc: Global, post: &mut Post, left: usize) {
     let sent = post.send(instance(rt, 2), message(rt, alloc, b'x'));
     holds(rt, "a send with room", sent.is_ok());
     are(rt, "room", post.room(), left);
 }
 
-/// Makes room for two events, and then sends twice with no memory.
+/// Makes room for two events, and then sends twice without memory.
 fn sends_with_room(rt: &impl Abort, alloc: Global, post: &mut Post) {
     makes_room(rt, post);
     sends_in_room(rt, alloc, post, 1);

@@ -1,4 +1,4 @@
-//! Tests of a running board and of mailboxes over it, by what is public of them.
+//! Tests of a running board and of mailboxes on it, through their public items.
 //!
 //! They are in a crate of their own, since a crate with tests is proved twice.
 #![tactic(auto)]

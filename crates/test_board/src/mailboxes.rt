@@ -1,4 +1,4 @@
-//! Mailboxes: whose turn it is after each receive, and the calls that are the post's.
+//! Tests of mailboxes: the turns after each receive, and the calls that they have from their post.
 use crate::calls::{are, have_come, holds, instance, is_got, message, messages, stops};
 use crate::tables::{Missed, why_nothing};
 use board::{Board, Post, Stop, TakeError, TakenMany};
@@ -6,20 +6,21 @@ use mailbox::Mailbox;
 use std::alloc::Global;
 use std::process::Abort;
 
-/// A call of a mailbox, and what it answers.
+/// A call of a mailbox, and its answer.
 #[derive(Clone, Copy)]
 enum Call {
-    /// A send of a message of this name to an instance.
+    /// A send of a message with this name to an instance.
     Sends(u8, usize),
-    /// A receive from whichever instance has a message: that of this name from this instance, with these races.
+    /// A receive from any instance that has a message: it gets the message with this name from this instance, with
+    /// these races.
     GetsAny(u8, usize, &'static [u32]),
-    /// A receive of the message of this name from an instance, with these races.
+    /// A receive of the message with this name from an instance, with these races.
     Gets(u8, usize, &'static [u32]),
-    /// A receive of up to two messages from an instance, of which one waits: that of this name, with these races.
+    /// A receive of up to two messages from an instance, of which one waits: it has this name and these races.
     GetsUpTo(u8, usize, &'static [u32]),
 }
 
-/// It alone was got of those that were asked for.
+/// Asserts that this message was received, and no other.
 fn is_got_alone(rt: &impl Abort, taken: Result<TakenMany, TakeError>, letter: u8, races: &[u32]) {
     match taken {
         Ok(TakenMany::Got { arrivals, stop }) => {
@@ -30,7 +31,7 @@ fn is_got_alone(rt: &impl Abort, taken: Result<TakenMany, TakeError>, letter: u8
     }
 }
 
-/// Makes the call, which answers so.
+/// Makes the call, and asserts its answer.
 fn make(rt: &impl Abort, alloc: Global, mailbox: &mut Mailbox, call: &Call) {
     match *call {
         Call::Sends(letter, to) => {
@@ -54,7 +55,7 @@ const B: usize = 2;
 
 const C: usize = 3;
 
-/// Each receive makes the sender the one that the next turn begins after; nothing else does.
+/// The turn after a receive begins after its sender. No other call changes this.
 static TURNS: [(usize, Call); 9] = [
     (A, Call::Sends(b'p', B)),
     (A, Call::Sends(b'q', B)),
@@ -67,7 +68,7 @@ static TURNS: [(usize, Call); 9] = [
     (B, Call::GetsAny(b's', C, &[1, 2, 4])),
 ];
 
-/// The mailboxes make the calls, each by an instance.
+/// The mailboxes make the calls, each of them by an instance.
 fn make_all(rt: &impl Abort, alloc: Global, mailboxes: &mut [Mailbox], calls: &[(usize, Call)]) {
     for (by, call) in calls {
         assert!(rt; 1 <= *by && *by <= mailboxes.len());
@@ -92,7 +93,7 @@ fn turns_after_each_receive(rt: HostRuntime) {
     make_all(&rt, rt.alloc(), mailboxes.as_mut_slice(), &TURNS);
 }
 
-/// The calls that are the post's: with room for three events it sends two messages at once.
+/// Makes the calls that a mailbox has from its post. With room for three events it sends two messages at once.
 fn calls(rt: &impl Abort, alloc: Global, mailbox: &mut Mailbox) {
     holds(rt, "its number", mailbox.number() == instance(rt, 2));
     holds(rt, "room is made", mailbox.reserve(3).is_ok());
@@ -105,7 +106,7 @@ fn calls(rt: &impl Abort, alloc: Global, mailbox: &mut Mailbox) {
     are(rt, "events", mailbox.line().len(), 2);
 }
 
-/// Nothing waits for the post of a mailbox.
+/// Asserts that no message waits for the post of a mailbox.
 fn nothing_waits(rt: &impl Abort, mailbox: Mailbox) {
     let mut post = mailbox.into_post();
     let taken = post.receive(instance(rt, 1));
@@ -116,7 +117,7 @@ fn nothing_waits(rt: &impl Abort, mailbox: Mailbox) {
     );
 }
 
-/// Each call that is the post's, once.
+/// Makes each call that a mailbox has from its post once.
 #[test]
 fn calls_of_the_post(rt: HostRuntime) {
     let mut board = Board::new(rt.alloc(), 2, 2).expect(&rt, "a board");

@@ -1,4 +1,4 @@
-//! Meetings of posts.
+//! Tests of meetings of posts.
 ghost use Rattle.board.specs.Meeting.{AreOfOneBoard};
 
 use crate::calls::{apart, holds, sends_as};
@@ -7,7 +7,7 @@ use board::{Board, MeetError, Post, meet, meet_all};
 use std::alloc::Global;
 use std::process::Abort;
 
-/// All posts of a board meet.
+/// Asserts that all posts of a board can meet.
 pub fn all_meet(rt: &impl Abort, posts: &mut [Post])
     requires { AreOfOneBoard posts.old }
     ensures { AreOfOneBoard posts.new }
@@ -15,7 +15,7 @@ pub fn all_meet(rt: &impl Abort, posts: &mut [Post])
     assert!(rt; meet_all(posts).is_ok());
 }
 
-/// These posts, which aren't all of a board, don't meet.
+/// Asserts that these posts, which aren't all of a board, can't meet.
 fn dont_meet(rt: &impl Abort, posts: &mut [Post])
     requires { AreOfOneBoard posts.old }
 {
@@ -32,14 +32,14 @@ fn not_all_posts(rt: HostRuntime) {
     dont_meet(&rt, posts.as_mut_slice());
 }
 
-/// A message of the third waits at the first, and one of the second is sent.
+/// A message from the third instance waits for the first one, and the second one sends it another.
 static MET: [(usize, Call); 3] = [
     (2, Call::Send(1, b'y', Ok(1))),
     (1, Call::Gets(3, b"x", &[])),
     (1, Call::Gets(2, b"y", &[1])),
 ];
 
-/// They meet.
+/// The posts meet.
 fn they_meet(posts: &mut [Post])
     requires { AreOfOneBoard posts.old }
     ensures { AreOfOneBoard posts.new }
@@ -47,7 +47,7 @@ fn they_meet(posts: &mut [Post])
     meet(posts);
 }
 
-/// Two of three meet, while a message of the third is on its way to one of them.
+/// Two of three posts meet, while a message from the third is on its way to one of them.
 fn two_meet(rt: &impl Abort, alloc: Global, posts: &mut [Post], third: &mut Post)
     requires { AreOfOneBoard posts.old }
 {

@@ -1,4 +1,4 @@
-//! Posts that are parked and woken, and the lanes that a gathered board tells as closed.
+//! Tests of posts that are parked and woken, and of the closed lanes of a gathered board.
 ghost use Rattle.std.specs.Prelude.{◌≡◌};
 ghost use Rattle.board.specs.Parked.{IsAtBoard, AreAtBoard};
 ghost use Rattle.board.specs.Meeting.{AreOfOneBoard};
@@ -29,7 +29,7 @@ fn sends_last(rt: &impl Abort, alloc: Global, posts: &mut [Post])
     closes(rt, &mut posts[0]);
 }
 
-/// These parked posts, woken, once more where memory was refused.
+/// The posts of these parked posts, woken once more if memory was refused.
 fn woken<'a>(
     rt: &impl Abort,
     alloc: Global,
@@ -48,7 +48,7 @@ fn woken<'a>(
     }
 }
 
-/// These posts, parked, once more where memory was refused.
+/// These posts, parked once more if memory was refused.
 fn put_down<'a>(rt: &impl Abort, alloc: Global, posts: Vec<Post<'a>>) -> Vec<Parked>
     ensures { result.items ≡ posts.entry.items }
 {
@@ -61,7 +61,7 @@ fn put_down<'a>(rt: &impl Abort, alloc: Global, posts: Vec<Post<'a>>) -> Vec<Par
     }
 }
 
-/// The lane from 1 to 2 is the one that was closed, and one message is left on it.
+/// Asserts that the lane from 1 to 2 is the closed one, and that one message is left on it.
 fn one_is_left(rt: &impl Abort, gathered: &Gathered) {
     is_left(rt, gathered.left.as_slice(), b'x');
     assert!(rt; gathered.closed.len() == 1);
@@ -108,7 +108,7 @@ fn sends_parked(rt: &impl Abort, alloc: Global, words: &SharedTable, post: &mut 
     are(rt, "events", post.line().len(), 1);
 }
 
-/// A parked post receives this message from the first one, and then the lane's end.
+/// A parked post receives this message from the first one, and then the end of the lane.
 #[tactic(auto, using(board::proofs::AtBoard::stays_at))]
 fn gets_parked(rt: &impl Abort, words: &SharedTable, post: &mut Parked)
     requires { IsAtBoard words.now.key words.now.table_id post.old }
@@ -133,7 +133,7 @@ fn exchange(rt: &impl Abort, alloc: Global, words: &SharedTable, parked: &mut [P
     gets_parked(rt, words, &mut parked[1]);
 }
 
-/// Calls on posts while they are parked.
+/// Makes calls on posts while they are parked.
 #[test]
 fn parked_calls(rt: HostRuntime) -> Result<(), Fail> {
     let alloc = rt.alloc();
@@ -142,7 +142,7 @@ fn parked_calls(rt: HostRuntime) -> Result<(), Fail> {
     Ok(())
 }
 
-/// There is no board of so many instances and slots.
+/// Asserts that there is no board with this number of instances and slots.
 fn is_no_board(
     rt: &impl Abort,
     alloc: Global,

@@ -1,4 +1,4 @@
-//! What no text of a schedule can ask for: boards past the limits, and partners that there are not.
+//! Tests of calls that no text of a schedule can make: boards beyond the limits, and partners that don't exist.
 use crate::calls::holds;
 use crate::growths::many_posts;
 use crate::tables::{Call, Missed, play};
@@ -6,7 +6,7 @@ use board::{Board, BoardError, CloseError, SendError, TakeError};
 use std::alloc::Global;
 use std::process::Abort;
 
-/// Instances and slots of no board, and why.
+/// Numbers of instances and of slots that no board has, and the refusal.
 static NO_BOARDS: [(usize, usize, BoardError); 5] = [
     (0, 1, BoardError::Instances),
     (1, 0, BoardError::Instances),
@@ -15,7 +15,7 @@ static NO_BOARDS: [(usize, usize, BoardError); 5] = [
     (32, 65, BoardError::Capacity),
 ];
 
-/// There is no board of so many instances and slots.
+/// Asserts that there is no board with this number of instances and slots.
 fn is_no_board(
     rt: &impl Abort,
     alloc: Global,

@@ -1,12 +1,13 @@
-//! Several messages by one call: sent all or none, and received in order with their races, up to what stops them.
+//! Tests of several messages in one call. Either all or none are sent. They are received in order with their races,
+//! until something stops the receive.
 use crate::tables::{Call, Missed, Turns, play, play_turns};
 use board::{SendError, Stop, TakeError};
 
-/// Calls at a board of so many instances, over lanes of so many slots.
+/// A number of instances, a number of slots, and the calls that are made on such a board.
 type Played = (usize, usize, &'static [(usize, Call)]);
 
 static PLAYED: [Played; 6] = [
-    // Sent all or none, and received up to so many.
+    // All or none are sent, and at most a given number is received.
     (
         2,
         4,
@@ -20,7 +21,7 @@ static PLAYED: [Played; 6] = [
             (1, Call::SendAll(2, b"abcde", Err(SendError::TooMany))),
         ],
     ),
-    // No message makes no event, also where the lane is full.
+    // A send without messages makes no event, even if the lane is full.
     (
         2,
         4,
@@ -33,7 +34,7 @@ static PLAYED: [Played; 6] = [
             (1, Call::HasEvents(7)),
         ],
     ),
-    // Two messages of one call each race with the one of another sender that came before.
+    // Two messages of one call each race with an earlier message from another sender.
     (
         3,
         2,
@@ -44,7 +45,7 @@ static PLAYED: [Played; 6] = [
             (2, Call::Gets(3, b"yz", &[1])),
         ],
     ),
-    // Of the causes that stand in the way, the first one answers; an empty list meets only the first four.
+    // If several causes apply, the first of them is the answer. For an empty list only the first four apply.
     (
         2,
         1,
@@ -69,7 +70,7 @@ static PLAYED: [Played; 6] = [
             (1, Call::HasEvents(1)),
         ],
     ),
-    // One receive ends at so many, where no more wait, and at the end of the lane.
+    // A receive stops at the given number of messages, or if no more wait. At the end of the lane nothing comes.
     (
         2,
         4,
@@ -90,7 +91,7 @@ static PLAYED: [Played; 6] = [
             ),
         ],
     ),
-    // Two messages of one sender each race with the one of another that came before.
+    // Two messages from one sender each race with an earlier message from another sender.
     (
         3,
         2,
@@ -123,7 +124,7 @@ static LAST_PLACE: [(usize, Call); 5] = [
     (2, Call::Gets(1, b"v", &[])),
 ];
 
-/// A line of 4,095 events has no room for two, though the lane is full, and room for one.
+/// A line of 4,095 events has room for one more event. It has no room for two, though the lane is full.
 #[test]
 fn several_fill_a_line(rt: HostRuntime) {
     let turns = Turns {
@@ -159,8 +160,8 @@ static STOPPED: [(usize, Call); 5] = [
     ),
 ];
 
-/// The receiver's line has room for one of the two messages that wait: the other one stays the first of its lane. All
-/// race with the receiver's own send, of which their sender doesn't know.
+/// The receiver's line has room for one of the two waiting messages. The other one stays the first of its lane. Both
+/// race with the receiver's own send, which their sender doesn't know of.
 #[test]
 fn full_line_stops_several(rt: HostRuntime) {
     let turns = Turns {

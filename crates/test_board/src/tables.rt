@@ -1,4 +1,4 @@
-//! Tables of calls: what posts are asked, and what they answer.
+//! Tables of calls: the calls of posts, and their answers.
 ghost use Rattle.std.specs.Prelude.{◌≡◌};
 ghost use Rattle.board.specs.Meeting.{AreOfOneBoard};
 
@@ -12,7 +12,7 @@ use chart::InstanceNo;
 use std::alloc::Global;
 use std::process::Abort;
 
-/// Why nothing came.
+/// Why no message came.
 #[derive(Clone, Copy, Debug, PartialEq, Eq)]
 pub enum Missed {
     Nothing,
@@ -20,33 +20,33 @@ pub enum Missed {
     Refused(TakeError),
 }
 
-/// A call of a post, and what it answers. The first number is the partner's.
+/// A call of a post, and its answer. The first number is the partner's.
 #[derive(Clone, Copy)]
 pub enum Call {
-    /// A send: the number of its event, or the refusal with which the message comes back.
+    /// A send: the number of its event, or the refusal that returns the message.
     Send(usize, u8, Result<u32, SendError>),
-    /// Sends one by one, of which none is refused.
+    /// Sends, one by one, none of which is refused.
     Sends(usize, &'static [u8]),
-    /// One send of several: the numbers of their events, or the refusal with which they come back.
+    /// One send of several messages: the numbers of their events, or the refusal that returns the messages.
     SendAll(usize, &'static [u8], Result<&'static [u32], SendError>),
-    /// One that isn't refused, whatever their numbers are.
+    /// One send of several messages that isn't refused, with any numbers of events.
     SendsAll(usize, &'static [u8]),
-    /// Receives one by one, by which messages of these names come, each with these races.
+    /// Receives, one by one, that get messages with these names, each with these races.
     Gets(usize, &'static [u8], &'static [u32]),
-    /// One receive of so many at most, by which these come, and why no more.
+    /// One receive of up to this number of messages: those that come, and why no more come.
     GetAll(usize, usize, &'static [u8], &'static [u32], Stop),
-    /// A receive by which nothing comes.
+    /// A receive that gets nothing.
     Miss(usize, Missed),
-    /// One of so many at most.
+    /// A receive of up to this number of messages that gets nothing.
     MissAll(usize, usize, Missed),
     Close(usize, Result<(), CloseError>),
     Open(Result<(), RegionError>),
     Shut(Result<(), RegionError>),
-    /// None: the post's line has so many events.
+    /// No call: the post's line has this number of events.
     HasEvents(usize),
 }
 
-/// Sends messages of these names one by one.
+/// Sends messages with these names one by one.
 fn sends(rt: &impl Abort, alloc: Global, post: &mut Post, to: usize, letters: &[u8])
     ensures { post.new.board ≡ post.old.board }
 {
@@ -56,7 +56,7 @@ fn sends(rt: &impl Abort, alloc: Global, post: &mut Post, to: usize, letters: &[
     }
 }
 
-/// They are these events of the instance.
+/// Asserts that these are these events of the instance.
 fn are_events(rt: &impl Abort, sents: &[Sent], instance: InstanceNo, events: &[u32]) {
     are(rt, "sends", sents.len(), events.len());
     for (sent, index) in sents.iter().zip(events) {
@@ -64,7 +64,7 @@ fn are_events(rt: &impl Abort, sents: &[Sent], instance: InstanceNo, events: &[u
     }
 }
 
-/// They are these events of the instance, and were to be sent.
+/// Asserts that these sends were to be accepted, and that they are these events of the instance.
 fn are_answered(
     rt: &impl Abort,
     sents: &[Sent],
@@ -77,12 +77,12 @@ fn are_answered(
     }
 }
 
-/// This refusal was to come.
+/// Asserts that this refusal is the answer of the table.
 fn is_refused(rt: &impl Abort, error: SendError, answer: &Result<&'static [u32], SendError>) {
     assert!(rt; matches!(answer, Err(wanted) if *wanted == error));
 }
 
-/// Sends messages of these names at once. Refused, they come back, and no event is made.
+/// Sends messages with these names at once. If they are refused, they come back, and no event is made.
 fn send_all(
     rt: &impl Abort,
     alloc: Global,
@@ -105,7 +105,7 @@ fn send_all(
     }
 }
 
-/// Receives messages of these names one by one.
+/// Receives messages with these names one by one.
 fn gets_each(rt: &impl Abort, post: &mut Post, from: usize, letters: &[u8], races: &[u32])
     ensures { post.new.board ≡ post.old.board }
 {
@@ -114,7 +114,7 @@ fn gets_each(rt: &impl Abort, post: &mut Post, from: usize, letters: &[u8], race
     }
 }
 
-/// Receives messages of these names by one call for so many at most.
+/// Receives messages with these names by one call, for up to `max` messages.
 fn get_all(
     rt: &impl Abort,
     post: &mut Post,
@@ -161,7 +161,7 @@ fn why_none(rt: &impl Abort, taken: Result<TakenMany, TakeError>) -> Missed {
     }
 }
 
-/// By a receive nothing comes.
+/// Asserts that a receive gets nothing, and why.
 fn misses(rt: &impl Abort, post: &mut Post, from: usize, why: Missed)
     ensures { post.new.board ≡ post.old.board }
 {
@@ -169,7 +169,7 @@ fn misses(rt: &impl Abort, post: &mut Post, from: usize, why: Missed)
     assert_eq!(rt; why_nothing(rt, taken), why);
 }
 
-/// By a receive of so many at most nothing comes.
+/// Asserts that a receive of up to `max` messages gets nothing, and why.
 fn misses_all(rt: &impl Abort, post: &mut Post, from: usize, max: usize, why: Missed)
     ensures { post.new.board ≡ post.old.board }
 {
@@ -178,7 +178,7 @@ fn misses_all(rt: &impl Abort, post: &mut Post, from: usize, max: usize, why: Mi
     assert_eq!(rt; why_none(rt, taken), why);
 }
 
-/// Sends messages of these names at once, whatever the numbers of their events are.
+/// Sends messages with these names at once, with any numbers of events.
 fn sends_all(rt: &impl Abort, alloc: Global, post: &mut Post, to: usize, letters: &[u8])
     ensures { post.new.board ≡ post.old.board }
 {
@@ -187,7 +187,7 @@ fn sends_all(rt: &impl Abort, alloc: Global, post: &mut Post, to: usize, letters
     holds(rt, "they are sent", sent.is_ok());
 }
 
-/// Makes the call, which answers so: one that receives, or else another one.
+/// Makes the call, a receive or another one, and asserts its answer.
 fn make(rt: &impl Abort, alloc: Global, post: &mut Post, call: &Call)
     ensures { post.new.board ≡ post.old.board }
 {
@@ -202,7 +202,7 @@ fn make(rt: &impl Abort, alloc: Global, post: &mut Post, call: &Call)
     }
 }
 
-/// One that sends, or else one with no message.
+/// Makes a call that sends, or one without a message.
 fn make_other(rt: &impl Abort, alloc: Global, post: &mut Post, call: &Call)
     ensures { post.new.board ≡ post.old.board }
 {
@@ -227,7 +227,7 @@ fn make_without_message(rt: &impl Abort, post: &mut Post, call: &Call)
     }
 }
 
-/// The post of this number makes the call.
+/// The post with this number makes the call.
 pub fn make_at(rt: &impl Abort, alloc: Global, posts: &mut [Post], by: usize, call: &Call)
     requires { AreOfOneBoard posts.old }
     ensures { AreOfOneBoard posts.new }
@@ -236,7 +236,7 @@ pub fn make_at(rt: &impl Abort, alloc: Global, posts: &mut [Post], by: usize, ca
     make(rt, alloc, &mut posts[by - 1], call);
 }
 
-/// Makes the calls, each by an instance.
+/// Makes the calls, each of them by an instance.
 pub fn make_all(rt: &impl Abort, alloc: Global, posts: &mut [Post], calls: &[(usize, Call)])
     requires { AreOfOneBoard posts.old }
     ensures { AreOfOneBoard posts.new }
@@ -246,7 +246,7 @@ pub fn make_all(rt: &impl Abort, alloc: Global, posts: &mut [Post], calls: &[(us
     }
 }
 
-/// Calls before, so many turns, and calls after them.
+/// Calls at the start, calls that are repeated, and calls at the end.
 #[derive(Clone, Copy)]
 pub struct Turns<'t> {
     pub first: &'t [(usize, Call)],
@@ -255,7 +255,7 @@ pub struct Turns<'t> {
     pub last: &'t [(usize, Call)],
 }
 
-/// Makes these calls at a board of so many instances, over lanes of so many slots.
+/// Makes these calls on a board with this number of instances, and of slots on each lane.
 pub fn play_turns(
     rt: &impl Abort,
     alloc: Global,
@@ -273,7 +273,7 @@ pub fn play_turns(
     make_all(rt, alloc, posts, turns.last);
 }
 
-/// The same without turns.
+/// The same without repeated calls.
 pub fn play(
     rt: &impl Abort,
     alloc: Global,

@@ -1,4 +1,4 @@
-//! Posts that are held on threads of their own.
+//! Tests of posts on threads of their own.
 ghost use Rattle.std.specs.Prelude.{◌≡◌};
 ghost use Rattle.board.specs.Meeting.{AreOfOneBoard};
 
@@ -12,23 +12,23 @@ use std::sync::Wait;
 use std::thread;
 use std::thread::Threads;
 
-/// How often a thread calls at most. A call looks at a word of another post once at most.
+/// The most calls that a thread makes. A call looks at a word of another post at most once.
 const CALLS: u32 = 10_000_000;
 
-/// How many messages are sent at once at most, where it is several.
+/// The most messages that one send of several has.
 const SENT_AT_ONCE: u32 = 7;
 
-/// How many are received at once at most. It ends at other messages than a list that was sent.
+/// The most messages that one receive of several gets. They end at other messages than a list that was sent.
 const RECEIVED_AT_ONCE: usize = 10;
 
-/// How messages are passed.
+/// The calls that pass messages.
 #[derive(Clone, Copy)]
 enum Calls {
     Single,
     Several,
 }
 
-/// A message whose body is its number.
+/// A message with its number as its body.
 fn numbered(rt: &impl Abort, alloc: Global, number: u32) -> Message {
     let body = number.to_le_bytes().to_vec(alloc).expect(rt, "memory");
     match Message::new(Name::new(b"m").expect(rt, "a name"), body) {
@@ -37,7 +37,7 @@ fn numbered(rt: &impl Abort, alloc: Global, number: u32) -> Message {
     }
 }
 
-/// Sends the message of this number, unless the lane is full. Answers the number of the next one to send.
+/// Sends the message with this number, unless the lane is full. It returns the number of the next message to send.
 fn offer(rt: &impl Abort, alloc: Global, post: &mut Post, to: InstanceNo, number: u32) -> u32
     ensures { post.new.board ≡ post.old.board }
 {
@@ -50,7 +50,7 @@ fn offer(rt: &impl Abort, alloc: Global, post: &mut Post, to: InstanceNo, number
     }
 }
 
-/// The messages of these numbers.
+/// The messages with these numbers.
 fn all_numbered(rt: &impl Abort, alloc: Global, next: u32, end: u32) -> Vec<Message> {
     let mut messages = Vec::new(alloc);
     for number in next..end {
@@ -60,7 +60,8 @@ fn all_numbered(rt: &impl Abort, alloc: Global, next: u32, end: u32) -> Vec<Mess
     messages
 }
 
-/// Sends the messages of these numbers at once, unless they find no slot. Answers the number of the next one to send.
+/// Sends the messages with these numbers at once, unless they find no slots. It returns the number of the next message
+/// to send.
 fn offer_several(
     rt: &impl Abort,
     alloc: Global,
@@ -78,7 +79,7 @@ fn offer_several(
     }
 }
 
-/// Answers the number of the next message, where this one has come in its turn.
+/// Asserts that this message came in its turn. It returns the number of the next one.
 fn is_numbered(rt: &impl Abort, arrival: &Arrival, number: u32) -> u32 {
     let wanted = number.to_le_bytes();
     assert!(rt;
@@ -88,13 +89,13 @@ fn is_numbered(rt: &impl Abort, arrival: &Arrival, number: u32) -> u32 {
     number.wrapping_add(1)
 }
 
-/// The same of one with no races.
+/// The same for a message without races.
 fn is_next(rt: &impl Abort, arrival: &Arrival, number: u32) -> u32 {
     holds(rt, "no races", arrival.report.earlier().is_empty());
     is_numbered(rt, arrival, number)
 }
 
-/// The same of several.
+/// The same for several messages.
 fn are_next(rt: &impl Abort, arrivals: &[Arrival], number: u32) -> u32 {
     let mut next = number;
     for arrival in arrivals {
@@ -104,7 +105,7 @@ fn are_next(rt: &impl Abort, arrivals: &[Arrival], number: u32) -> u32 {
 }
 
 impl Calls {
-    /// Sends the next of so many messages, unless the lane is full. Answers the number of the next one to send.
+    /// Sends the next of `many` messages, unless the lane is full. It returns the number of the next message to send.
     fn send(
         self,
         rt: &impl Abort,
@@ -123,7 +124,8 @@ impl Calls {
         }
     }
 
-    /// Receives the next messages, if any wait. Answers the number of the next one to receive, or none at the end.
+    /// Receives the next messages, if any wait. It returns the number of the next message to receive, or none at the
+    /// end of the lane.
     fn receive(self, rt: &impl Abort, post: &mut Post, from: InstanceNo, next: u32) -> Option<u32> {
         match self {
             Calls::Single => match post.receive(from).expect(rt, "no refusal") {
@@ -147,7 +149,7 @@ impl Calls {
     }
 }
 
-/// Sends so many messages, again while the lane is full, and closes the lane.
+/// Sends `many` messages, each again while the lane is full, and closes the lane.
 fn send_all(rt: &impl Abort, alloc: Global, calls: Calls, post: Post, to: usize, many: u32) {
     let mut post = post;
     let to = instance(rt, to);
@@ -166,7 +168,7 @@ fn send_all(rt: &impl Abort, alloc: Global, calls: Calls, post: Post, to: usize,
     holds(rt, "the lane is closed", post.close(to).is_ok());
 }
 
-/// Receives so many messages in their order, and then the end.
+/// Receives `many` messages in their order, and then the end of the lane.
 fn get_all(rt: &impl Abort, calls: Calls, post: Post, from: usize, many: u32) {
     let mut post = post;
     let from = instance(rt, from);
@@ -189,7 +191,7 @@ fn get_all(rt: &impl Abort, calls: Calls, post: Post, from: usize, many: u32) {
     holds(rt, "all are got", next == many);
 }
 
-/// Two threads hold a post each: one sends so many messages and closes the lane, the other gets them and the end.
+/// Two threads have a post each. One sends `many` messages and closes the lane, the other gets them and the end.
 fn hold<R: Threads + Wait + Abort + Sync>(
     rt: &R,
     alloc: Global,
@@ -211,7 +213,7 @@ fn hold<R: Threads + Wait + Abort + Sync>(
     assert!(rt; started);
 }
 
-/// Passes so many messages from one thread to another, over a lane of so many slots.
+/// Passes `many` messages from one thread to another, over a lane with this number of slots.
 fn pass<R: Threads + Wait + Abort + Sync>(
     rt: &R,
     alloc: Global,
@@ -234,19 +236,20 @@ fn two_holders(rt: HostRuntime) {
     }
 }
 
-/// How many messages an instance of four sends to another one: its line is then full.
+/// The number of messages that an instance of four sends to another one. With these numbers each line is full at the
+/// end.
 fn share(from: usize, to: usize) -> u32 {
     if to == from % 4 + 1 { 684 } else { 682 }
 }
 
-/// How many messages a post has sent to an instance, and got from it.
+/// The numbers of messages that a post has sent to an instance, and received from it.
 #[derive(Clone, Copy)]
 struct Passed {
     sent: u32,
     got: u32,
 }
 
-/// Receives the message of this number, if one waits. Answers the number of the next one to receive.
+/// Receives the message with this number, if one waits. It returns the number of the next message to receive.
 fn take(rt: &impl Abort, post: &mut Post, from: InstanceNo, number: u32) -> u32
     ensures { post.new.board ≡ post.old.board }
 {
@@ -256,7 +259,7 @@ fn take(rt: &impl Abort, post: &mut Post, from: InstanceNo, number: u32) -> u32
     }
 }
 
-/// Sends to an instance and receives from it, once each, if it is their turn.
+/// Sends a message to an instance, until its share is sent, and receives one from it, if one waits.
 fn exchange(rt: &impl Abort, alloc: Global, post: &mut Post, other: usize, passed: &mut Passed)
     ensures { post.new.board ≡ post.old.board }
 {
@@ -267,7 +270,7 @@ fn exchange(rt: &impl Abort, alloc: Global, post: &mut Post, other: usize, passe
     passed.got = take(rt, post, partner, passed.got);
 }
 
-/// The same with three others.
+/// The same with the three others.
 fn exchange_each(rt: &impl Abort, alloc: Global, post: &mut Post, passed: &mut [Passed; 4])
     ensures { post.new.board ≡ post.old.board }
 {
@@ -279,7 +282,7 @@ fn exchange_each(rt: &impl Abort, alloc: Global, post: &mut Post, passed: &mut [
     }
 }
 
-/// Each of the three others was sent its share, and sent one.
+/// Asserts that each of the three others was sent its share, and sent its own.
 fn have_passed(rt: &impl Abort, own: usize, passed: &[Passed; 4]) {
     for place in 0..4 {
         if place + 1 != own {
@@ -316,7 +319,7 @@ fn exchange_all(rt: &impl Abort, alloc: Global, post: &mut Post)
     holds(rt, "the line is full", post.line().len() == MAX_EVENTS);
 }
 
-/// Four threads hold a post each until all lines are full; then all posts meet.
+/// Four threads have a post each until all lines are full. Then all posts meet.
 fn fill_lines<R: Threads + Abort + Sync>(rt: &R, alloc: Global, posts: &mut [Post])
     requires { AreOfOneBoard posts.old }
 {

@@ -1,11 +1,11 @@
-//! Whose calls a schedule's deeds are made by: those of posts, one message or a list at a time, or those of
+//! The calls that make the deeds of a schedule: those of posts, with one message or a list at a time, or those of
 //! mailboxes.
 use board::{Arrival, Post, SendError, TakeError, Taken, TakenMany};
 use chart::{InstanceNo, Message};
 use mailbox::{Mailbox, any_from};
 use std::alloc::Global;
 
-/// An instance that sends and receives by some calls.
+/// An instance that sends and receives by some kind of calls.
 pub trait Caller<'a>: Drop {
     fn over(alloc: Global, post: Post<'a>) -> Self;
 
@@ -15,11 +15,11 @@ pub trait Caller<'a>: Drop {
     /// Receives the first message that waits on the lane from an instance, if any does.
     fn receive(&mut self, from: InstanceNo) -> Result<Option<Arrival>, TakeError>;
 
-    /// Receives a message from whichever instance has one.
+    /// Receives a message from any instance that has one.
     fn any(&mut self) -> Result<Option<Arrival>, TakeError>;
 }
 
-/// A message, if one was taken.
+/// The message, if one was taken.
 fn arrival(taken: Taken) -> Option<Arrival> {
     match taken {
         Taken::Got(arrival) => Some(arrival),
@@ -48,7 +48,7 @@ impl<'a> Caller<'a> for Mailbox<'a> {
     }
 }
 
-/// A post that passes one message a call, and the instance that it got one from last.
+/// A post that passes one message with each call, and the instance from which it last received.
 #[derive(Drop)]
 pub struct Single<'a> {
     post: Post<'a>,
@@ -72,7 +72,7 @@ impl<'a> Caller<'a> for Single<'a> {
     }
 
     fn any(&mut self) -> Result<Option<Arrival>, TakeError> {
-        // (the last one was got from, so it is an instance of the board)
+        // (it was received from, so it is an instance of the board)
         let last = match self.last {
             Some(last) if last.number() <= self.post.board_size() => Some(last),
             _ => None,
@@ -85,7 +85,7 @@ impl<'a> Caller<'a> for Single<'a> {
     }
 }
 
-/// A post that passes a list of messages a call, which has one here.
+/// A post that passes a list of messages with each call. The list has one message here.
 #[derive(Drop)]
 pub struct Listed<'a> {
     single: Single<'a>,
@@ -109,7 +109,7 @@ impl<'a> Caller<'a> for Listed<'a> {
             Ok(_) => Ok(()),
             Err((mut back, error)) => match back.pop() {
                 Some(message) => Err((message, error)),
-                // (a message that is lost so is missed by its receiver)
+                // (if the message is lost here, its receiver will miss it)
                 None => Ok(()),
             },
         }

@@ -1,7 +1,7 @@
-//! Instances, messages and arrivals, as tests make and look at them, and what is asserted.
+//! Instances, messages and arrivals that tests make and check, and assertions.
 //!
-//! An assertion is a call: the borrow checker's part of a proof grows with each branch of a function, and an
-//! `assert!` or an `assert_eq!` is one.
+//! Each assertion is a function. The borrow checker's part of a proof grows with each branch of a function, and an
+//! `assert!` or an `assert_eq!` is a branch.
 ghost use Rattle.std.specs.Prelude.{◌≡◌};
 ghost use Rattle.board.specs.Meeting.{AreOfOneBoard};
 
@@ -11,27 +11,27 @@ use std::alloc::Global;
 use std::process::Abort;
 use std::test::Fail;
 
-/// What has to be so, is so.
+/// Asserts that something holds.
 pub fn holds(rt: &impl Abort, what: &str, fact: bool) {
     assert!(rt; fact, "not so: {what}");
 }
 
-/// They are so many.
+/// Asserts how many there are.
 pub fn are(rt: &impl Abort, what: &str, many: usize, wanted: usize) {
     assert!(rt; many == wanted, "{what}: {many}, and not {wanted}");
 }
 
-/// The call succeeds. What it answers is let go of.
+/// Asserts that the call succeeds, and drops its answer.
 pub fn succeeds<T: Drop, E: Drop>(rt: &impl Abort, what: &str, answer: Result<T, E>) {
     assert!(rt; answer.is_ok(), "not so: {what}");
 }
 
-/// Whether the call succeeds. What it answers is let go of.
+/// Whether the call succeeds. Its answer is dropped.
 pub fn is_done<T: Drop, E: Drop>(answer: Result<T, E>) -> bool {
     answer.is_ok()
 }
 
-/// Puts a value behind those of the list.
+/// Puts a value at the end of a list.
 pub fn put<T: Drop>(rt: &impl Abort, list: &mut Vec<T>, value: T) {
     assert!(rt; list.push(value).is_ok());
 }
@@ -44,7 +44,7 @@ pub fn name(rt: &impl Abort, letter: u8) -> Name {
     Name::new(&[letter]).expect(rt, "a name")
 }
 
-/// A last growth, whose refusal tells that each one before it was refused in an earlier run of the test.
+/// The last growth of a test. Its refusal shows that each growth before it was refused in an earlier run of the test.
 pub fn every_growth_was_refused(alloc: Global) -> Result<(), Fail> {
     Vec::<u8>::with_capacity(alloc, 1)
         .ok()
@@ -52,7 +52,7 @@ pub fn every_growth_was_refused(alloc: Global) -> Result<(), Fail> {
     Ok(())
 }
 
-/// The posts without the last of them, and that one.
+/// The posts without the last one, and the last one.
 pub fn apart<'a>(posts: Vec<Post<'a>>) -> (Vec<Post<'a>>, Option<Post<'a>>)
     requires { AreOfOneBoard posts.items }
     ensures { AreOfOneBoard result.0.items }
@@ -77,7 +77,7 @@ pub fn sends(rt: &impl Abort, post: &mut Post, to: InstanceNo, message: Message)
     succeeds(rt, "it is sent", post.send(to, message));
 }
 
-/// The message that was got.
+/// The message that was received.
 pub fn arrival_of(rt: &impl Abort, taken: Result<Taken, TakeError>) -> Arrival {
     match taken {
         Ok(Taken::Got(arrival)) => arrival,
@@ -85,12 +85,13 @@ pub fn arrival_of(rt: &impl Abort, taken: Result<Taken, TakeError>) -> Arrival {
     }
 }
 
-/// It has this name.
+/// Asserts that the message has this name.
 fn is_named(rt: &impl Abort, message: &Message, letter: u8) {
     holds(rt, "the message's name", message.name() == name(rt, letter));
 }
 
-/// A send of a message of this name answers the number of its event, or the refusal, by which the message comes back.
+/// Asserts that a send of a message with this name returns the number of its event, or the refusal. With a refusal the
+/// message comes back.
 pub fn sends_as(
     rt: &impl Abort,
     alloc: Global,
@@ -110,7 +111,7 @@ pub fn sends_as(
     }
 }
 
-/// It is the event of this number, or none.
+/// Asserts that this is the event with this number, or none.
 fn is_race(rt: &impl Abort, event: Option<EventNo>, race: Option<u32>) {
     match event {
         Some(event) => holds(rt, "the race", race == Some(event.index)),
@@ -118,14 +119,14 @@ fn is_race(rt: &impl Abort, event: Option<EventNo>, race: Option<u32>) {
     }
 }
 
-/// It has this race, or none.
+/// Asserts that the report has this race, or none.
 fn has_race(rt: &impl Abort, report: &Report, race: Option<u32>) {
     let mut earlier = report.earlier().iter();
     is_race(rt, earlier.next(), race);
     is_race(rt, earlier.next(), None);
 }
 
-/// It has this name, this sender and this race, or none.
+/// Asserts that the message that came has this name, this sender, and this race or none.
 pub fn has_come(rt: &impl Abort, arrival: &Arrival, letter: u8, from: usize, race: Option<u32>) {
     is_named(rt, &arrival.message, letter);
     holds(rt, "the sender", arrival.from == instance(rt, from));

@@ -1,4 +1,4 @@
-//! A post that goes while a message waits for it.
+//! Tests of a post that is dropped while a message waits for it.
 ghost use Rattle.std.specs.Prelude.{◌≡◌, ◌<◌, length};
 ghost use Rattle.board.specs.Meeting.{AreOfOneBoard};
 
@@ -7,13 +7,13 @@ use board::{Board, MeetError, Post, SendError, meet, meet_all};
 use std::alloc::Global;
 use std::process::Abort;
 
-/// A post gets the message of this name from an instance.
+/// A post receives the message with this name from an instance.
 fn gets(rt: &impl Abort, post: &mut Post, from: usize, letter: u8) {
     let arrival = arrival_of(rt, post.receive(instance(rt, from)));
     has_come(rt, &arrival, letter, from, None);
 }
 
-/// These aren't all posts of their board, and a meeting of all changes nothing.
+/// Asserts that these aren't all posts of their board. A meeting of all posts is refused.
 fn are_not_all(rt: &impl Abort, posts: &mut [Post])
     requires { AreOfOneBoard posts.old }
     ensures { AreOfOneBoard posts.new }
@@ -22,7 +22,7 @@ fn are_not_all(rt: &impl Abort, posts: &mut [Post])
     holds(rt, "not all posts", met == Err(MeetError::NotAllPosts));
 }
 
-/// A send of the first of them to the third answers so.
+/// Asserts the answer of a send from the first post to the third one.
 fn first_sends(
     rt: &impl Abort,
     alloc: Global,
@@ -38,7 +38,7 @@ fn first_sends(
     sends_as(rt, alloc, &mut posts[0], 3, letter, answer);
 }
 
-/// The first has an event and the second has none, and a message passes from one to the other.
+/// Asserts that the first post has one event and the second has none, and passes a message from one to the other.
 fn go_on(rt: &impl Abort, alloc: Global, posts: &mut [Post]) {
     assert!(rt; posts.len() == 2);
     are(rt, "events", posts[0].line().len(), 1);
@@ -47,8 +47,8 @@ fn go_on(rt: &impl Abort, alloc: Global, posts: &mut [Post]) {
     gets(rt, &mut posts[1], 1, b'z');
 }
 
-/// One of the two that stay sends to the third, which then goes. Its lane stays full; the two meet, but not as all
-/// posts, and go on.
+/// The first of two posts that stay sends to the third post, which is then dropped. Its lane stays full. The two posts
+/// meet, but not as all posts, and go on.
 fn lose_third(rt: &impl Abort, alloc: Global, posts: &mut [Post], third: Post)
     requires { AreOfOneBoard posts.old }
 {

@@ -1,5 +1,5 @@
-//! Boards of worked schedules that are gathered, with each growth of memory refused in turn: each refused call is
-//! made once more, and then answers in full.
+//! Tests of gathered boards of worked schedules, with each growth of memory refused in turn. Each refused call is made
+//! once more, and then returns its full answer.
 ghost use Rattle.std.specs.Prelude.{◌≡◌};
 ghost use Rattle.board.specs.Meeting.{AreOfOneBoard};
 ghost use Rattle.chart.specs.Reports.{AreReports};
@@ -15,7 +15,7 @@ use std::process::Abort;
 use std::test::Fail;
 use texts::{StreamOut, TextBuffer};
 
-/// Sends a message of this name, once more where memory was refused.
+/// Sends a message with this name, and once more if memory was refused.
 fn sends(rt: &impl Abort, alloc: Global, post: &mut Post, letter: u8, to: usize)
     ensures { post.new.board ≡ post.old.board }
 {
@@ -26,7 +26,7 @@ fn sends(rt: &impl Abort, alloc: Global, post: &mut Post, letter: u8, to: usize)
     }
 }
 
-/// Receives a message, once more where memory was refused.
+/// Receives a message, at the second attempt if memory was refused.
 fn gets(rt: &impl Abort, post: &mut Post, from: usize)
     ensures { post.new.board ≡ post.old.board }
 {
@@ -36,7 +36,7 @@ fn gets(rt: &impl Abort, post: &mut Post, from: usize)
     }
 }
 
-/// The post of this number makes a deed.
+/// The post with this number makes a deed.
 fn makes(rt: &impl Abort, alloc: Global, posts: &mut [Post], by: usize, deed: &Deed)
     requires { AreOfOneBoard posts.old }
     ensures { AreOfOneBoard posts.new }
@@ -58,7 +58,7 @@ fn make_all(rt: &impl Abort, alloc: Global, posts: &mut [Post], deeds: &[(usize,
     }
 }
 
-/// What the board of these posts came to.
+/// The result of gathering the board of these posts.
 fn gathers(rt: &impl Abort, alloc: Global, posts: Vec<Post>) -> Gathered
     requires { AreOfOneBoard posts.items }
     ensures { AreReports result.chart result.reports.items }
@@ -69,7 +69,7 @@ fn gathers(rt: &impl Abort, alloc: Global, posts: Vec<Post>) -> Gathered
     }
 }
 
-/// The same, once more where memory was refused: then the posts came back as they were.
+/// The same, once more if memory was refused. The posts then came back as they were.
 fn gathers_again(rt: &impl Abort, alloc: Global, posts: Vec<Post>) -> Gathered
     requires { AreOfOneBoard posts.items }
     ensures { AreReports result.chart result.reports.items }
@@ -83,7 +83,7 @@ fn gathers_again(rt: &impl Abort, alloc: Global, posts: Vec<Post>) -> Gathered
     }
 }
 
-/// Its chart and its races are put there, in full.
+/// Puts the text of the board's chart and of its races there, in full.
 fn puts_text(rt: &impl Abort, names: &Names, gathered: &Gathered, out: &mut StreamOut<&mut [u8]>)
     requires { AreReports gathered.now.chart gathered.now.reports.items }
 {
@@ -96,7 +96,7 @@ fn puts_text(rt: &impl Abort, names: &Names, gathered: &Gathered, out: &mut Stre
     holds(rt, "the end", written.finish().is_ok());
 }
 
-/// Its chart and its races have this text, which is written without memory.
+/// Asserts that the board's chart and its races have this text, which is written without memory.
 fn has_text(rt: &impl Abort, names: &Names, gathered: &Gathered, text: &[u8])
     requires { AreReports gathered.now.chart gathered.now.reports.items }
 {
@@ -108,7 +108,7 @@ fn has_text(rt: &impl Abort, names: &Names, gathered: &Gathered, text: &[u8])
     holds(rt, "the text", place.starts_with(text));
 }
 
-/// The deeds of a schedule come to its text, unless memory was refused for the board or its posts.
+/// Asserts that the deeds of a schedule result in its text, unless memory was refused for the board or its posts.
 fn comes_to(rt: &impl Abort, alloc: Global, names: &Names, worked: &Worked) {
     if let Ok(mut board) = Board::new(alloc, worked.instances, worked.capacity) {
         if let Ok(mut posts) = board.posts() {

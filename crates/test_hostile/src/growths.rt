@@ -1,6 +1,6 @@
-//! Worked schedules with each growth of memory refused in turn, by the calls of posts and by those of mailboxes:
-//! each refused call is made once more, and then answers in full. A test ends with a growth of its own, whose
-//! refusal tells that each one before it was refused in an earlier run of the test.
+//! Tests of worked schedules with each growth of memory refused in turn, by the calls of posts and of mailboxes. Each
+//! refused call is made once more, and then returns its full answer. A test ends with a growth of its own. The refusal
+//! of this growth shows that each one before it was refused in an earlier run of the test.
 use crate::callers::{Caller, Listed, Single};
 use crate::calls::{every_growth_was_refused, has_come, holds, instance, message, put};
 use crate::schedules::{Deed, WORKED, Worked};
@@ -11,7 +11,7 @@ use std::alloc::Global;
 use std::process::Abort;
 use std::test::Fail;
 
-/// Sends a message of this name, once more where memory was refused.
+/// Sends a message with this name, and once more if memory was refused.
 fn sends<'a, C: Caller<'a>>(
     rt: &impl Abort,
     alloc: Global,
@@ -25,15 +25,15 @@ fn sends<'a, C: Caller<'a>>(
     }
 }
 
-/// Whom a message is received from.
+/// The instances from which a message may be received.
 #[derive(Clone, Copy)]
 enum Source {
     From(InstanceNo),
-    /// Whichever instance has a message.
+    /// Any instance that has a message.
     Any,
 }
 
-/// Receives a message, once more where memory was refused.
+/// Receives a message, at the second attempt if memory was refused.
 fn gets<'a, C: Caller<'a>>(rt: &impl Abort, caller: &mut C, source: &Source) -> Arrival {
     let taken = match take(caller, source) {
         Ok(taken) => taken,
@@ -63,7 +63,7 @@ fn makes<'a, C: Caller<'a>>(rt: &impl Abort, alloc: Global, caller: &mut C, deed
     }
 }
 
-/// A board, made once more where memory was refused.
+/// A board, made at the second attempt if memory was refused.
 fn board_of(rt: &impl Abort, alloc: Global, worked: &Worked) -> Board {
     match Board::new(alloc, worked.instances, worked.capacity) {
         Ok(board) => board,
@@ -71,7 +71,7 @@ fn board_of(rt: &impl Abort, alloc: Global, worked: &Worked) -> Board {
     }
 }
 
-/// Makes the deeds, each by a caller.
+/// Makes the deeds, each of them by a caller.
 fn make_all<'a, C: Caller<'a>>(
     rt: &impl Abort,
     alloc: Global,

@@ -1,4 +1,4 @@
-//! Posts and mailboxes that are let go while messages wait.
+//! Tests of posts and mailboxes that are dropped while messages wait.
 use crate::calls::{arrival_of, instance, name, sends};
 use board::{Board, Post};
 use chart::{MAX_BODY, Message};
@@ -15,7 +15,7 @@ fn longest(rt: &impl Abort, alloc: Global) -> Message {
     }
 }
 
-/// Sends so many of them to each other instance of the board.
+/// Sends this number of them to each other instance of the board.
 fn send_to_others(rt: &impl Abort, alloc: Global, post: &mut Post, many: usize) {
     for number in 1..=post.board_size() {
         let to = instance(rt, number);
@@ -27,8 +27,8 @@ fn send_to_others(rt: &impl Abort, alloc: Global, post: &mut Post, many: usize) 
     }
 }
 
-/// Each of three instances sends three messages to each other one. The last two are mailboxes, of which one takes a
-/// message and keeps it; the board goes last.
+/// Each of three instances sends three messages to each of the others. The last two posts are made mailboxes, one of
+/// which takes a message and keeps it. The board is dropped last.
 #[test]
 fn all_is_given_back(rt: HostRuntime) {
     let alloc = rt.alloc();
@@ -42,7 +42,7 @@ fn all_is_given_back(rt: HostRuntime) {
     takes_one(&rt, second, third);
 }
 
-/// The one takes a message and keeps it; then the other one goes first.
+/// One mailbox takes a message and keeps it. The other mailbox is then dropped first.
 fn takes_one(rt: &impl Abort, taker: Mailbox, other: Mailbox) {
     let mut taker = taker;
     let taken = arrival_of(rt, taker.any());
@@ -51,11 +51,11 @@ fn takes_one(rt: &impl Abort, taker: Mailbox, other: Mailbox) {
     drop(taken);
 }
 
-/// How many instances pass messages to each other, over lanes of how many slots that they fill, and how many messages
-/// each of them takes of each other one.
+/// Each board has a number of instances that pass messages to each other, and of slots on each lane, which they fill.
+/// The last number is how many messages each of them receives from each other one.
 static BOARDS: [(usize, usize, usize); 4] = [(2, 1, 0), (3, 2, 1), (9, 4, 4), (4, 64, 40)];
 
-/// Takes so many messages of each other instance.
+/// Receives this number of messages from each other instance.
 fn take_of_others(rt: &impl Abort, post: &mut Post, many: usize) {
     for number in 1..=post.board_size() {
         let from = instance(rt, number);
@@ -67,7 +67,7 @@ fn take_of_others(rt: &impl Abort, post: &mut Post, many: usize) {
     }
 }
 
-/// Lanes of each size are filled and emptied in part. Then the posts go, one after the other, and the board.
+/// Lanes of each size are filled, and emptied in part. Then the posts are dropped one after the other, and the board.
 #[test]
 fn full_lanes_are_given_back(rt: HostRuntime) {
     for (instances, slots, many) in &BOARDS {

@@ -1,5 +1,5 @@
-//! Tests of hostile use, by what is public: growths that are refused in worked schedules, ends that stop and posts
-//! that go.
+//! Tests of hostile use, through public items: refused growths in worked schedules, ends that stop, and posts that are
+//! dropped.
 //!
 //! They are in a crate of their own, since a crate with tests is proved twice.
 #![tactic(auto)]

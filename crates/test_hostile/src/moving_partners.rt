@@ -1,4 +1,4 @@
-//! A post that goes on a thread of its own, while its partners send, receive and meet.
+//! Tests of a post that is dropped on a thread of its own, while its partners send, receive and meet.
 ghost use Rattle.std.specs.Prelude.{◌≡◌};
 ghost use Rattle.board.specs.Meeting.{AreOfOneBoard};
 
@@ -10,13 +10,13 @@ use std::sync::Wait;
 use std::thread;
 use std::thread::Threads;
 
-/// How often each of two that stay sends, receives and meets the other.
+/// How often each of the two posts that stay sends, receives and meets the other one.
 const ROUNDS: usize = 2000;
 
-/// How often the one that goes sends and receives.
+/// How often the post that is dropped sends and receives.
 const CALLS: usize = 500;
 
-/// Sends to an instance and receives from it, whatever is answered.
+/// Sends to an instance and receives from it, with any answer.
 fn exchange(rt: &impl Abort, alloc: Global, post: &mut Post, other: usize)
     ensures { post.new.board ≡ post.old.board }
 {
@@ -25,7 +25,8 @@ fn exchange(rt: &impl Abort, alloc: Global, post: &mut Post, other: usize)
     let _ = post.receive(other);
 }
 
-/// Exchanges messages with the others of three for a while. Then the post goes, with what waits for it.
+/// Exchanges messages with the other two instances for a while. Then the post is dropped, with the messages that wait
+/// for it.
 fn go(rt: &impl Abort, alloc: Global, post: Post) {
     let mut post = post;
     for _ in 0..CALLS {
@@ -46,7 +47,7 @@ fn exchange_all(rt: &impl Abort, alloc: Global, posts: &mut [Post])
     exchange(rt, alloc, &mut posts[1], 1);
 }
 
-/// They meet.
+/// The posts meet.
 fn meet_again(posts: &mut [Post])
     requires { AreOfOneBoard posts.old }
     ensures { AreOfOneBoard posts.new }
@@ -77,7 +78,7 @@ fn stay_long(rt: &impl Abort, alloc: Global, partners: Partners) {
     }
 }
 
-/// Two posts stay and a third goes, on a thread of its own.
+/// Two posts stay, and a third one is dropped on a thread of its own.
 fn lose_third<R: Threads + Wait + Abort + Sync>(
     rt: &R,
     alloc: Global,
@@ -97,7 +98,7 @@ fn lose_third<R: Threads + Wait + Abort + Sync>(
     assert!(rt; started);
 }
 
-/// The same over lanes of so many slots.
+/// The same over lanes with this number of slots.
 fn lose_third_over<R: Threads + Wait + Abort + Sync>(rt: &R, alloc: Global, capacity: usize) {
     let mut board = Board::new(alloc, 3, capacity).expect(rt, "a board");
     let (posts, third) = apart(board.posts().expect(rt, "posts"));

@@ -1,5 +1,5 @@
-//! What a test program takes for itself.
+//! The memory that a test program takes for itself.
 
-/// It does nothing: the memory that is left after it is the test program's own (`tools/test/leaks`).
+/// It does nothing. The memory that is left after it is that of the test program itself (`tools/test/leaks`).
 #[test]
 fn nothing_is_done() {}

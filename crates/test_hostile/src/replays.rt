@@ -1,11 +1,11 @@
-//! Replays of worked schedules: each call that was refused for want of memory is made once more.
+//! Replays of worked schedules. Each call that was refused for lack of memory is made once more.
 use schedule::Schedule;
 use schedule::outcomes::Outcome;
 use schedule_replay::replay;
 use std::alloc::Global;
 use std::process::Abort;
 
-/// The schedule of the text, read once more where memory was refused.
+/// The schedule of the text, read once more if memory was refused.
 pub fn schedule_of(rt: &impl Abort, alloc: Global, text: &[u8]) -> Schedule {
     match Schedule::read(alloc, text) {
         Ok(schedule) => schedule,
@@ -13,7 +13,7 @@ pub fn schedule_of(rt: &impl Abort, alloc: Global, text: &[u8]) -> Schedule {
     }
 }
 
-/// What it comes to, replayed once more where memory was refused.
+/// The outcome of the schedule, replayed once more if memory was refused.
 pub fn outcome_of<'a>(rt: &impl Abort, alloc: Global, schedule: &'a Schedule) -> Outcome<'a> {
     match replay(alloc, schedule) {
         Ok(outcome) => outcome,

@@ -1,4 +1,4 @@
-//! Sends with room: once it is there, they take no memory.
+//! Tests of sends with room, which take no memory once the room is there.
 use crate::calls::{are, every_growth_was_refused, instance, message, sends};
 use board::{Board, Post};
 use chart::MAX_EVENTS;
@@ -6,7 +6,7 @@ use std::alloc::Global;
 use std::process::Abort;
 use std::test::Fail;
 
-/// How many messages are sent: as many as the lane has slots.
+/// The number of messages that are sent: as many as the lane has slots.
 const MESSAGES: usize = 64;
 
 /// Sends the messages.
@@ -17,7 +17,8 @@ fn send_all(rt: &impl Abort, alloc: Global, post: &mut Post) {
     }
 }
 
-/// Makes room for a whole line, if memory isn't refused, and then sends messages, whatever is refused from then on.
+/// Makes room for a whole line, if memory isn't refused, and then sends messages, even if all memory is refused from
+/// then on.
 fn sends_with_room(rt: &impl Abort, alloc: Global, post: &mut Post) {
     let mut room = 0;
     if post.reserve(MAX_EVENTS).is_ok() {
@@ -27,7 +28,7 @@ fn sends_with_room(rt: &impl Abort, alloc: Global, post: &mut Post) {
     are(rt, "room", post.room(), room);
 }
 
-/// It also holds where not one growth is refused but all from there on.
+/// It also holds if not only one growth is refused, but all later ones too.
 #[test]
 fn refused_growths_from_there_on(rt: HostRuntime) -> Result<(), Fail> {
     if let Ok(mut board) = Board::new(rt.alloc(), 8, MESSAGES) {

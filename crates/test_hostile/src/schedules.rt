@@ -1,18 +1,18 @@
 //! The worked schedules whose growths are refused.
 
-/// What an instance does, and what comes of it.
+/// A call of an instance, and its result.
 #[derive(Clone, Copy)]
 pub enum Deed {
-    /// A send of the message of this name to an instance.
+    /// A send of the message with this name to an instance.
     Sends(u8, usize),
-    /// A receive of the message of this name from an instance, with this race or none.
+    /// A receive of the message with this name from an instance, with this race or none.
     Gets(u8, usize, Option<u32>),
-    /// The same, where it is received from whichever instance has a message.
+    /// The same, but received from any instance that has a message.
     GetsAny(u8, usize, Option<u32>),
 }
 
-/// A schedule: its instances, the slots of its lanes, and its deeds, each by an instance; its text, and that of what it
-/// comes to.
+/// A schedule: its instances, the slots of its lanes, its deeds, each of them by an instance, its text, and the text of
+/// its outcome.
 #[derive(Clone, Copy)]
 pub struct Worked<'d> {
     pub instances: usize,
@@ -22,7 +22,7 @@ pub struct Worked<'d> {
     pub written: &'d [u8],
 }
 
-/// `no_race_through_a_reply`, `crossing_messages_race`, `any_takes_turns`, and the one among nine instances.
+/// `no_race_through_a_reply`, `crossing_messages_race`, `any_takes_turns`, and one among nine instances.
 pub static WORKED: [Worked; 4] = [
     Worked {
         instances: 3,

@@ -1,5 +1,5 @@
-//! The charts of worked schedules, searched and audited with each growth of memory refused in turn: each refused call
-//! is made once more, and then answers in full.
+//! Tests of searches and audits of the charts of worked schedules, with each growth of memory refused in turn. Each
+//! refused call is made once more, and then returns its full answer.
 use crate::calls::{are, every_growth_was_refused, holds};
 use crate::replays::{outcome_of, schedule_of};
 use crate::schedules::WORKED;
@@ -9,7 +9,7 @@ use std::alloc::Global;
 use std::process::Abort;
 use std::test::Fail;
 
-/// The search through this chart.
+/// The search over this chart.
 fn closure_of<'a>(rt: &impl Abort, alloc: Global, chart: &'a Chart) -> Closure<'a> {
     match Closure::of(alloc, chart) {
         Ok(closure) => closure,
@@ -17,7 +17,7 @@ fn closure_of<'a>(rt: &impl Abort, alloc: Global, chart: &'a Chart) -> Closure<'
     }
 }
 
-/// The same event, made anew.
+/// A copy of the event.
 fn anew(event: &EventNo) -> EventNo {
     EventNo {
         instance: event.instance,
@@ -43,7 +43,7 @@ fn races_of(rt: &impl Abort, closure: &Closure) -> Vec<Report> {
     }
 }
 
-/// The report is the other one, and none of its events is before the receive.
+/// Asserts that the report is the other one, and that none of its events is before the receive.
 fn is_right(rt: &impl Abort, closure: &Closure, report: &Report, other: &Report) {
     holds(rt, "the same report", report.is(other));
     let receive = report.receive();
@@ -53,7 +53,7 @@ fn is_right(rt: &impl Abort, closure: &Closure, report: &Report, other: &Report)
     }
 }
 
-/// The search finds these reports, of which none has an event that is before the receive.
+/// Asserts that the search finds these reports, and that none of them has an event before its receive.
 fn finds(rt: &impl Abort, closure: &Closure, reports: &[Report]) {
     let found = races_of(rt, closure);
     are(rt, "reports", found.len(), reports.len());
@@ -62,14 +62,14 @@ fn finds(rt: &impl Abort, closure: &Closure, reports: &[Report]) {
     }
 }
 
-/// The audit accepts the chart with its reports.
+/// Asserts that the audit accepts the chart with its reports.
 fn accepts(rt: &impl Abort, alloc: Global, chart: &Chart, reports: &[Report]) {
     if audit(alloc, chart, reports).is_err() {
         holds(rt, "the audit", audit(alloc, chart, reports).is_ok());
     }
 }
 
-/// What the schedule of the text comes to is searched and audited.
+/// The outcome of the schedule of the text is searched and audited.
 fn is_searched(rt: &impl Abort, alloc: Global, text: &[u8]) {
     let schedule = schedule_of(rt, alloc, text);
     let outcome = outcome_of(rt, alloc, &schedule);

@@ -1,5 +1,5 @@
-//! That a schedule comes to what the plain model in Python says: worked schedules, and drawn orders of one. The
-//! model's answers are in `stored`, as `tools/model/stored_replays.py` prints them.
+//! Tests that the outcome of a schedule is that of the plain model in Python: for worked schedules, and for random
+//! orders of one. The model's answers are in `stored`, as `tools/model/stored_replays.py` prints them.
 
 use crate::calls::are_bytes;
 use crate::stored::{DRAWN, WORKED};
@@ -12,7 +12,7 @@ use std::alloc::Global;
 use std::process::Abort;
 use texts::MemoryOut;
 
-/// What the schedule comes to, as a text; the audit accepts its reports.
+/// The outcome of the schedule, as text. The audit accepts its reports.
 fn text_of(rt: &impl Abort, alloc: Global, schedule: &Schedule) -> MemoryOut {
     let outcome = replay(alloc, schedule).expect(rt, "an outcome");
     audit(alloc, outcome.chart(), outcome.reports()).expect(rt, "the same reports");
@@ -21,7 +21,7 @@ fn text_of(rt: &impl Abort, alloc: Global, schedule: &Schedule) -> MemoryOut {
     text
 }
 
-/// The schedule of this text comes to what is wanted.
+/// Asserts that the outcome of the schedule with this text is the wanted one.
 fn comes_to(rt: &impl Abort, alloc: Global, text: &[u8], wanted: &[u8]) {
     let schedule = Schedule::read(alloc, text).expect(rt, "a schedule");
     let text = text_of(rt, alloc, &schedule);
@@ -35,7 +35,7 @@ fn worked_schedules(rt: HostRuntime) {
     }
 }
 
-/// A schedule of three that pass messages round, so many times.
+/// A schedule of three instances that pass messages round, this number of times.
 fn rounds(rt: &impl Abort, alloc: Global, times: usize) -> Schedule {
     let turn = b"a send b x\nb send c y\nc send a z\na any\nb any\nc any\n";
     let mut text = Vec::new(alloc);
@@ -47,7 +47,7 @@ fn rounds(rt: &impl Abort, alloc: Global, times: usize) -> Schedule {
     Schedule::read(alloc, text.as_slice()).expect(rt, "a schedule")
 }
 
-/// The digest tells that something differs, and not what: `tools/fuzz/judge_replays` compares drawn orders one by one.
+/// The digest shows that something differs, but not what. `tools/fuzz/judge_replays` compares random orders one by one.
 #[test]
 fn a_thousand_drawn(rt: HostRuntime) {
     let schedule = rounds(&rt, rt.alloc(), 20);

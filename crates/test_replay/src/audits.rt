@@ -1,4 +1,4 @@
-//! Reports that are not those of their chart.
+//! Tests of reports that aren't those of their chart.
 use crate::calls::{event, put};
 use chart::{Chart, EventNo, Report};
 use closure::{AuditError, audit};
@@ -6,7 +6,7 @@ use msc_text::reader::read;
 use std::alloc::Global;
 use std::process::Abort;
 
-/// The chart of `any_takes_turns`: two send to b in turns.
+/// The chart of `any_takes_turns`: two instances send to b in turn.
 const TURNS: &[u8] =
     b"msc run;\ninstance a;\nout x to b;\nout z to b;\nendinstance;\ninstance b;\nin x from a;\nin y from c;\nin z from a;\nendinstance;\ninstance c;\nout y to b;\nendinstance;\nendmsc;\n";
 
@@ -15,8 +15,8 @@ type Races = (u32, &'static [u32]);
 
 static RIGHT: [Races; 3] = [(1, &[]), (2, &[1]), (3, &[2])];
 
-/// Reports that are not those of the turns, and the first receive whose report is wrong: a race is left out, a report
-/// is missing at either end, and there is one too many.
+/// Reports that aren't those of `TURNS`, and the first receive whose report is wrong. A race is missing, a report is
+/// missing at either end, or there is one report too many.
 static WRONG: [(&[Races], u32); 4] = [
     (&[(1, &[]), (2, &[1]), (3, &[])], 3),
     (&[(1, &[]), (2, &[1])], 3),
@@ -45,7 +45,7 @@ fn reports_of(rt: &impl Abort, alloc: Global, expected: &[Races]) -> Vec<Report>
     reports
 }
 
-/// The chart's audit with these reports answers so.
+/// Asserts the answer of the chart's audit for these reports.
 fn answers(
     rt: &impl Abort,
     alloc: Global,

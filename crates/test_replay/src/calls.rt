@@ -1,29 +1,29 @@
-//! Instances and messages' names, by their numbers and letters; what is asserted; and the end of a test whose growths
-//! are refused.
+//! Instances and names of messages by their numbers and letters, assertions, and the end of a test whose growths are
+//! refused.
 //!
-//! An assertion is a call: the borrow checker's part of a proof grows with each branch of a function, and an
-//! `assert!` or an `assert_eq!` is one.
+//! Each assertion is a function. The borrow checker's part of a proof grows with each branch of a function, and an
+//! `assert!` or an `assert_eq!` is a branch.
 use chart::{EventNo, InstanceNo, Name};
 use std::alloc::Global;
 use std::process::Abort;
 use std::test::Fail;
 
-/// What has to be so, is so.
+/// Asserts that something holds.
 pub fn holds(rt: &impl Abort, what: &str, fact: bool) {
     assert!(rt; fact, "not so: {what}");
 }
 
-/// They are so many.
+/// Asserts how many there are.
 pub fn are(rt: &impl Abort, what: &str, many: usize, wanted: usize) {
     assert!(rt; many == wanted, "{what}: {many}, and not {wanted}");
 }
 
-/// They are these bytes.
+/// Asserts that these are the wanted bytes.
 pub fn are_bytes(rt: &impl Abort, what: &str, bytes: &[u8], wanted: &[u8]) {
     assert_eq!(rt; bytes, wanted, "{what}");
 }
 
-/// Puts a value behind those of the list.
+/// Puts a value at the end of a list.
 pub fn put<T: Drop>(rt: &impl Abort, list: &mut Vec<T>, value: T) {
     assert!(rt; list.push(value).is_ok());
 }
@@ -42,7 +42,7 @@ pub fn event(rt: &impl Abort, number: usize, index: u32) -> EventNo {
     EventNo { instance, index }
 }
 
-/// A last growth, whose refusal tells that each one before it was refused in an earlier run of the test.
+/// The last growth of a test. Its refusal shows that each growth before it was refused in an earlier run of the test.
 pub fn every_growth_was_refused(alloc: Global) -> Result<(), Fail> {
     Vec::<u8>::with_capacity(alloc, 1)
         .ok()

@@ -1,4 +1,4 @@
-//! Small schedules, all of whose other runs are tried.
+//! Tests of small schedules, all of whose other runs are tried.
 
 use crate::calls::{holds, put};
 use crate::recorded::{event_no, found, steps_of};
@@ -14,10 +14,10 @@ use schedule_replay::replay;
 use std::alloc::Global;
 use std::process::Abort;
 
-/// The most events of a run all of whose orders are tried.
+/// The most events of a run whose orders are all tried.
 const MOST: usize = 6;
 
-/// How many orders so many events have.
+/// The number of orders that this number of events has.
 fn orders(many: usize) -> usize {
     let mut orders = 1usize;
     for number in 0..many {
@@ -26,8 +26,8 @@ fn orders(many: usize) -> usize {
     orders
 }
 
-/// Puts one of the events that are left behind the run, the one that an order's number says. What is left of the number
-/// is answered.
+/// Moves one of the remaining events to the end of the run: the one that the number of the order selects. It returns
+/// the rest of the number.
 fn take_one(
     rt: &impl Abort,
     left: &mut Vec<LaneEvent>,
@@ -42,7 +42,7 @@ fn take_one(
     order / many
 }
 
-/// The events in the order of this number.
+/// The events in the order with this number.
 fn ordered(rt: &impl Abort, alloc: Global, events: &[LaneEvent], order: usize) -> Vec<LaneEvent> {
     let mut left = Vec::new(alloc);
     left.extend_from_slice(events).expect(rt, "memory");
@@ -54,7 +54,7 @@ fn ordered(rt: &impl Abort, alloc: Global, events: &[LaneEvent], order: usize) -
     run
 }
 
-/// All runs with the same events and causes within so many slots.
+/// All runs with the same events and causes within this number of slots.
 fn other_runs(
     rt: &impl Abort,
     alloc: Global,
@@ -108,7 +108,7 @@ fn share_region(step: &Step, other: &Step) -> bool {
     }
 }
 
-/// Whether a run within so many slots is found, which is then gone over.
+/// Whether a run within this number of slots is found. If so, it asserts that the run is a witness.
 pub fn has_witness(
     rt: &impl Abort,
     alloc: Global,
@@ -128,8 +128,8 @@ pub fn has_witness(
     }
 }
 
-/// Of this receive and another step a run is found within so many slots exactly where one of these has the receive
-/// first. For how many steps one is found is answered.
+/// Asserts, for this receive and each step, that a run within these slots is found exactly if one of `runs` has the
+/// receive first. It returns for how many steps one is found.
 fn finds_of_receive(
     rt: &impl Abort,
     alloc: Global,
@@ -155,7 +155,8 @@ fn is_receive(steps: &[Step], number: usize) -> bool {
     matches!(steps.get(number), Some(Step::Receive { .. }))
 }
 
-/// For each receive and other step a run is found within so many slots exactly where one has the receive first.
+/// Asserts, for each receive and each step, that a run within these slots is found exactly if some run has the receive
+/// first. It returns for how many pairs one is found.
 fn finds_what_runs_do(rt: &impl Abort, alloc: Global, steps: &[Step], slots: usize) -> usize {
     let events = events_of(rt, alloc, steps);
     let runs = other_runs(rt, alloc, events.as_slice(), slots);
@@ -170,7 +171,8 @@ fn finds_what_runs_do(rt: &impl Abort, alloc: Global, steps: &[Step], slots: usi
     many
 }
 
-/// Of a receive and another step a run is found exactly where the search has no order. Answers whether one is.
+/// Asserts that a run with the receive before another step is found exactly if the search has no order of the two. It
+/// returns whether one is found.
 fn is_found_unordered(
     rt: &impl Abort,
     alloc: Global,
@@ -200,7 +202,7 @@ fn has_race_of(
     has_race(reports, later, earlier)
 }
 
-/// Whether the other step's event stands above the receive on its line, and not in its coregion.
+/// Whether the other step's event is above the receive on its line, and not in its coregion.
 fn may_race(rt: &impl Abort, steps: &[Step], receive: usize, number: usize) -> bool {
     let earlier = event_no(rt, steps, number);
     let later = event_no(rt, steps, receive);
@@ -211,8 +213,8 @@ fn may_race(rt: &impl Abort, steps: &[Step], receive: usize, number: usize) -> b
     }
 }
 
-/// Of this receive and another step a run is found exactly where the search has no order, and the race is reported
-/// exactly where one is found and both may race.
+/// Asserts, for this receive and each step, that a run is found exactly if the search has no order. The race is
+/// reported exactly if one is found and both may race.
 fn finds_reported(
     rt: &impl Abort,
     alloc: Global,
@@ -229,8 +231,8 @@ fn finds_reported(
     }
 }
 
-/// Where lanes have room, a run is found exactly where the search has no order: of earlier events of the line, these
-/// are the reported races and what a coregion alone hides.
+/// Asserts that with the most slots a run is found exactly if the search has no order. For earlier events of the line
+/// these are the reported races, and the pairs that only a coregion hides.
 fn finds_what_is_reported(rt: &impl Abort, alloc: Global, chart: &Chart, steps: &[Step]) {
     let closure = Closure::of(alloc, chart).expect(rt, "a closure");
     let reports = closure.races().expect(rt, "the reports");
@@ -241,7 +243,7 @@ fn finds_what_is_reported(rt: &impl Abort, alloc: Global, chart: &Chart, steps: 
     }
 }
 
-/// What is found of the steps of a chart's run, whose lanes have so many slots, as `finds_all` says.
+/// The same as `finds_all`, for the steps of a chart's run whose lanes have this number of slots.
 fn finds_in(rt: &impl Abort, alloc: Global, chart: &Chart, steps: &[Step], slots: usize) -> usize {
     if steps.len() > MOST {
         return 0;
@@ -253,7 +255,8 @@ fn finds_in(rt: &impl Abort, alloc: Global, chart: &Chart, steps: &[Step], slots
     any
 }
 
-/// What is found of a schedule's steps, unless they are more than so many. How many pairs are turned round is answered.
+/// Compares what is found for a schedule's steps with all runs, unless there are more than `MOST` steps. It returns for
+/// how many pairs a run with the opposite order is found.
 pub fn finds_all(rt: &impl Abort, alloc: Global, schedule: &Schedule) -> usize {
     let outcome = replay(alloc, schedule).expect(rt, "an outcome");
     let steps = steps_of(rt, alloc, schedule, &outcome);
@@ -261,7 +264,7 @@ pub fn finds_all(rt: &impl Abort, alloc: Global, schedule: &Schedule) -> usize {
     finds_in(rt, alloc, outcome.chart(), steps.as_slice(), slots)
 }
 
-/// The commands that are drawn from; a command that isn't accepted makes no step.
+/// The commands of random schedules. A command that isn't accepted makes no step.
 static COMMANDS: [&[u8]; 14] = [
     b"a send b x\n",
     b"a send c y\n",
@@ -286,7 +289,7 @@ static FRONTS: [&[u8]; 4] = [
     b"instances a b c\ncapacity 64\n",
 ];
 
-/// A piece that the word draws.
+/// The piece that a random word selects.
 fn piece<'a>(pieces: &'a [&'static [u8]], word: u32) -> &'a [u8] {
     match pieces.get(word as usize % pieces.len().max(1)) {
         Some(piece) => piece,
@@ -294,7 +297,7 @@ fn piece<'a>(pieces: &'a [&'static [u8]], word: u32) -> &'a [u8] {
     }
 }
 
-/// The schedule of so many commands that a seed draws.
+/// The random schedule with this number of commands, for a seed.
 pub fn drawn_schedule(rt: &impl Abort, alloc: Global, seed: u64, commands: usize) -> Schedule {
     let mut generator = Lcg64Xsh32::seed_from_u64(seed);
     let mut text = Vec::new(alloc);

@@ -1,6 +1,6 @@
-//! Tests of replays and of what they stand on, by what is public: that they come to what the plain model in Python
-//! says, recorders among nine instances, ranges of races, audits, and writers; and of witnesses, against all runs of
-//! small schedules, and over worked schedules.
+//! Tests of replays and of the crates below them, through their public items. Replays are compared with the plain model
+//! in Python. Recorders among nine instances, ranges of races, audits and writers have tests of their own. Witnesses
+//! are compared with all runs of small schedules, and are found for worked schedules.
 //!
 //! They are in a crate of their own, since a crate with tests is proved twice.
 #![tactic(auto)]

@@ -1,4 +1,4 @@
-//! That a run of events is one range, which no contract says.
+//! Tests that neighbouring events are one range, which no contract states.
 use crate::calls::{are, event, holds, instance, name, put};
 use chart::{Event, EventNo, EventRanges, Line};
 use online_races::{race_ranges, races};
@@ -28,7 +28,7 @@ fn event_ranges(rt: HostRuntime) {
     );
 }
 
-/// A line that received from these instances.
+/// A line with receives from these instances.
 fn line_from(rt: &impl Abort, alloc: Global, senders: &[usize]) -> Line {
     let mut line = Line::new(alloc, instance(rt, 1));
     for sender in senders {
@@ -42,7 +42,8 @@ fn line_from(rt: &impl Abort, alloc: Global, senders: &[usize]) -> Line {
     line
 }
 
-/// Before so many events and past this entry, the first range is of so many events, and so many ranges there are.
+/// Asserts, for the first `before` events of the line and this entry, how many events the first range has, and how many
+/// ranges there are.
 fn has_ranges(
     rt: &impl Abort,
     alloc: Global,
@@ -61,7 +62,7 @@ fn has_ranges(
     are(rt, "events of the first range", first.count, count);
 }
 
-/// Events 2 to 4 and 6, and earlier on the line 3 and 4.
+/// Among all six events the races are 2 to 4 and 6. Among the first four, with another entry, they are 3 and 4.
 #[test]
 fn runs_of_races(rt: HostRuntime) {
     let line = line_from(&rt, rt.alloc(), &[2, 3, 3, 3, 2, 4]);

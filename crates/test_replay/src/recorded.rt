@@ -1,4 +1,4 @@
-//! The steps that a schedule's accepted commands make, and what is asked of them.
+//! The steps that the accepted commands of a schedule make, and questions about them.
 
 use crate::calls::put;
 use chart::run_steps::Step;
@@ -16,7 +16,7 @@ pub fn maker(step: &Step) -> InstanceNo {
     }
 }
 
-/// How many of the steps the instance makes.
+/// The number of the steps that the instance makes.
 pub fn made_by(steps: &[Step], instance: InstanceNo) -> usize {
     let mut many = 0usize;
     for step in steps {
@@ -27,7 +27,7 @@ pub fn made_by(steps: &[Step], instance: InstanceNo) -> usize {
     many
 }
 
-/// The instance's event of this number, from 0.
+/// The instance's event with this number, from 0.
 fn event_of(outcome: &Outcome<'_>, instance: InstanceNo, number: usize) -> Option<Event> {
     for line in outcome.chart().lines() {
         if line.instance() == instance {
@@ -52,7 +52,7 @@ fn step_of(maker: InstanceNo, event: Event) -> Step {
     }
 }
 
-/// Whether the command makes a step where it is accepted.
+/// Whether the command makes a step if it is accepted.
 fn may_step(command: &Command) -> bool {
     matches!(
         command.action,
@@ -124,7 +124,7 @@ pub fn event_no(rt: &impl Abort, steps: &[Step], number: usize) -> EventNo {
     EventNo { instance, index }
 }
 
-/// What is found for two steps, where the first receives.
+/// The run that is found for two steps, if the first of them is a receive.
 pub fn found(
     rt: &impl Abort,
     alloc: Global,

@@ -1,5 +1,5 @@
-//! Each call of a recorder among nine instances, whose differences may take memory, with each growth refused: it is
-//! made once more, and then answers in full.
+//! Tests of the calls of a recorder among nine instances, whose differences may take memory. Each growth is refused
+//! once. The call is then made once more, and returns its full answer.
 ghost use Rattle.std.specs.Prelude.{◌≡◌, ◌≢◌, ◌≤◌, length};
 
 use crate::calls::{are, every_growth_was_refused, instance, name};
@@ -10,7 +10,7 @@ use std::alloc::Global;
 use std::process::Abort;
 use std::test::Fail;
 
-/// How many instances there are, of which the first three do something.
+/// The number of instances. Only the first three make calls.
 const MANY: usize = 9;
 
 const A: usize = 1;
@@ -19,23 +19,23 @@ const B: usize = 2;
 
 const C: usize = 3;
 
-/// What is done in a schedule, and what has to come of it. A clock is told by its place: messages are counted from 0 on
-/// as they are sent.
+/// A step of a schedule, and its expected result. A clock is named by the place of its message: messages are counted
+/// from 0 in the order of their sends.
 #[derive(Clone, Copy)]
 enum Step {
     /// A send of one instance to another: the letter of its name, and the entries of its clock.
     Send(usize, usize, u8, &'static [u32]),
-    /// Two at once: the letters of their names.
+    /// Two sends at once: the letters of their names.
     SendTwo(usize, usize, u8, u8),
     /// A receive of one instance from another: the letter of its name, its clock, and the earlier events of its report.
     Receive(usize, usize, u8, usize, &'static [u32]),
-    /// What an instance knows.
+    /// The entries that an instance knows.
     Knows(usize, &'static [u32]),
 }
 
 use Step::{Knows, Receive, Send, SendTwo};
 
-/// The recorder of one of the instances, asked for once more where the growth was refused.
+/// The recorder of one of the instances. It is requested once more if the growth was refused.
 fn one_of(rt: &impl Abort, alloc: Global, p: usize) -> Recorder {
     let p = instance(rt, p);
     assert!(rt; p.number() <= MANY);
@@ -45,7 +45,7 @@ fn one_of(rt: &impl Abort, alloc: Global, p: usize) -> Recorder {
     }
 }
 
-/// Another of the recorder's instances.
+/// Another one of the recorder's instances.
 fn other(rt: &impl Abort, recorder: &Recorder, number: usize) -> InstanceNo
     ensures among { result ≤ length recorder.now.knowledge }
     ensures not_itself { result ≢ recorder.now.line.instance }
@@ -56,7 +56,7 @@ fn other(rt: &impl Abort, recorder: &Recorder, number: usize) -> InstanceNo
     to
 }
 
-/// The clock's entries are these.
+/// Asserts that these are the clock's entries.
 fn has_entries(rt: &impl Abort, clock: &Clock, entries: &[u32]) {
     assert!(rt; clock.len() == entries.len());
     for (place, entry) in entries.iter().enumerate() {
@@ -65,7 +65,7 @@ fn has_entries(rt: &impl Abort, clock: &Clock, entries: &[u32]) {
     }
 }
 
-/// A send whose clock has these entries, made once more where the growth was refused.
+/// A send whose clock has these entries. It is made once more if the growth was refused.
 fn send(rt: &impl Abort, recorder: &mut Recorder, to: usize, letter: u8, entries: &[u32]) -> Clock {
     let to = other(rt, recorder, to);
     let message = name(rt, &[letter]);
@@ -77,7 +77,7 @@ fn send(rt: &impl Abort, recorder: &mut Recorder, to: usize, letter: u8, entries
     clock
 }
 
-/// The same of two sends at once.
+/// The same for two sends at once.
 fn send_two(rt: &impl Abort, recorder: &mut Recorder, to: usize, names: &[Name]) -> Vec<Clock> {
     let to = other(rt, recorder, to);
     match recorder.send_many(to, names) {
@@ -86,12 +86,12 @@ fn send_two(rt: &impl Abort, recorder: &mut Recorder, to: usize, names: &[Name])
     }
 }
 
-/// It is this event of the instance.
+/// Asserts that this is the event with this number of the instance.
 fn is_event(rt: &impl Abort, event: &EventNo, instance: InstanceNo, index: u32) {
     assert_eq!(rt; *event, EventNo { instance, index });
 }
 
-/// The report is of the receive of this index, and has these earlier events.
+/// Asserts that the report is that of the receive with this number, and has these earlier events.
 fn reports(rt: &impl Abort, report: &Report, receive: usize, earlier: &[u32]) {
     let own = report.receive();
     are(rt, "the receive", own.index as usize, receive);
@@ -101,7 +101,7 @@ fn reports(rt: &impl Abort, report: &Report, receive: usize, earlier: &[u32]) {
     }
 }
 
-/// A receive with these races, made once more where the growth was refused.
+/// A receive with these races. It is made once more if the growth was refused.
 fn receive(
     rt: &impl Abort,
     recorder: &mut Recorder,

@@ -1,4 +1,4 @@
-//! Runs whose events are told by lane and turn, and what it takes to be another run of the same events.
+//! Runs whose events are identified by lane and turn, and the conditions for another run of the same events.
 
 use crate::calls::put;
 use chart::InstanceNo;
@@ -6,7 +6,7 @@ use chart::run_steps::Step;
 use std::alloc::Global;
 use std::process::Abort;
 
-/// An event, told by its lane and its turn there, from 1.
+/// An event, identified by its lane and its turn there, from 1.
 #[derive(Clone, Copy, PartialEq, Eq)]
 pub struct LaneEvent {
     from: InstanceNo,
@@ -16,7 +16,7 @@ pub struct LaneEvent {
 }
 
 impl LaneEvent {
-    /// The step as the first of its lane.
+    /// The event of a step, with turn 1.
     fn first(step: &Step) -> LaneEvent {
         match step {
             Step::Send { from, to, .. } => LaneEvent {
@@ -42,7 +42,7 @@ impl LaneEvent {
         self.from == other.from && self.to == other.to
     }
 
-    /// Whether a recorded run has this event directly before a later one by more than luck.
+    /// Whether this event comes directly before a later one in its recorded run, and not only by luck.
     fn causes(&self, later: &LaneEvent) -> bool {
         if later.receives {
             self.has_lane_of(later) && (self.receives || self.turn == later.turn)
@@ -63,7 +63,7 @@ pub fn events_of(rt: &impl Abort, alloc: Global, steps: &[Step]) -> Vec<LaneEven
     events
 }
 
-/// How many events there are of the lane of this one, receives or sends.
+/// The number of receives or of sends on the lane of this event.
 fn count(events: &[LaneEvent], event: &LaneEvent, receives: bool) -> usize {
     let mut many = 0usize;
     for other in events {
@@ -74,14 +74,14 @@ fn count(events: &[LaneEvent], event: &LaneEvent, receives: bool) -> usize {
     many
 }
 
-/// An event of a recorded run, and where it stands in another one.
+/// An event of a recorded run, and its place in another run.
 #[derive(Clone, Copy)]
 pub struct Moved {
     event: LaneEvent,
     place: usize,
 }
 
-/// Where the recorded events stand in the run, if they all do.
+/// The recorded events with their places in the run, if it has all of them.
 fn events_in(
     rt: &impl Abort,
     alloc: Global,
@@ -106,7 +106,7 @@ fn place_of(run: &[LaneEvent], event: &LaneEvent) -> Option<usize> {
     None
 }
 
-/// Whether each recorded event comes after all that was directly before it by more than luck.
+/// Whether each recorded event comes after all events that were directly before it, and not only by luck.
 fn keep_causes(all: &[Moved]) -> bool {
     for later in 0..all.len() {
         for earlier in 0..later {
@@ -119,7 +119,7 @@ fn keep_causes(all: &[Moved]) -> bool {
     true
 }
 
-/// Whether each message is received after it was sent, and no more wait on a lane than there are slots.
+/// Whether each message is received after it was sent, and no more messages wait on a lane than it has slots.
 fn is_within(run: &[LaneEvent], slots: usize) -> bool {
     for place in 0..run.len() {
         let event = &run[place];
@@ -134,7 +134,7 @@ fn is_within(run: &[LaneEvent], slots: usize) -> bool {
     true
 }
 
-/// The recorded events in the other run, where this is one with the same events and causes within so many slots.
+/// The recorded events in the other run, if this is a run with the same events and causes within this number of slots.
 pub fn as_other_run(
     rt: &impl Abort,
     alloc: Global,
@@ -149,7 +149,7 @@ pub fn as_other_run(
     keep_causes(all.as_slice()).then_some(all)
 }
 
-/// Whether the other run has the receive before the other event.
+/// Whether the receive comes before the other event in the other run.
 pub fn overtakes(all: &[Moved], receive: usize, earlier: usize) -> bool {
     match (all.get(receive), all.get(earlier)) {
         (Some(receive), Some(earlier)) => receive.place < earlier.place,
@@ -167,7 +167,8 @@ fn has_steps(all: &[Moved], steps: &[Step], run: &[Step]) -> bool {
     true
 }
 
-/// Whether a run has the same events and causes as the recorded one, so many slots, and the receive before the event.
+/// Whether a run has the same events and causes as the recorded one, stays within these slots, and has the receive
+/// before the event.
 pub fn is_witness(
     rt: &impl Abort,
     alloc: Global,

@@ -1,4 +1,4 @@
-//! Worked schedules: each reported race has a witness.
+//! Tests of worked schedules: each reported race has a witness.
 
 use crate::calls::{are, holds};
 use crate::every_run::{finds_all, has_witness};
@@ -10,7 +10,7 @@ use schedule_replay::replay;
 use std::alloc::Global;
 use std::process::Abort;
 
-/// A schedule, how many races it has, and how many of them another run with as many slots turns round.
+/// A schedule, the number of its races, and the number of those whose order another run with as many slots reverses.
 pub type Worked = (&'static [u8], usize, usize);
 
 pub static WORKED: [Worked; 7] = [
@@ -51,7 +51,8 @@ pub static WORKED: [Worked; 7] = [
     ),
 ];
 
-/// How many races are reported, and how many of them have a witness with as many slots; each has one with the most.
+/// The number of reported races, and of those that have a witness with as many slots. Each race has a witness with the
+/// most slots.
 fn witnessed(rt: &impl Abort, alloc: Global, schedule: &Schedule) -> (usize, usize) {
     let outcome = replay(alloc, schedule).expect(rt, "an outcome");
     let steps = steps_of(rt, alloc, schedule, &outcome);
@@ -69,7 +70,7 @@ fn witnessed(rt: &impl Abort, alloc: Global, schedule: &Schedule) -> (usize, usi
     (races, within)
 }
 
-/// The race has a witness with the most slots. Whether it has one with so many is answered.
+/// Asserts that the race has a witness with the most slots. It returns whether it has one with `slots`.
 fn has_both(
     rt: &impl Abort,
     alloc: Global,
@@ -83,7 +84,8 @@ fn has_both(
     has_witness(rt, alloc, steps, slots, receive, earlier)
 }
 
-/// The schedule has so many races and witnesses, and all is found of its steps.
+/// Asserts that the schedule has these numbers of races and witnesses. It compares what is found for its steps with all
+/// runs.
 fn is_witnessed(rt: &impl Abort, alloc: Global, worked: &Worked) {
     let (text, races, within) = *worked;
     let schedule = Schedule::read(alloc, text).expect(rt, "a schedule");

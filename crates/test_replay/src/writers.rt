@@ -1,4 +1,5 @@
-//! Writers that fail in mid-stream or are interrupted, which of its faults a sink tells, and the words of an error.
+//! Tests of writers that fail in mid-stream or are interrupted, of the fault that a sink reports, and of the words of
+//! an error.
 use crate::calls::{are, are_bytes, every_growth_was_refused, holds};
 use msc_text::reader::read;
 use msc_text::write;
@@ -11,7 +12,7 @@ use texts::{Cause, Fault, MemoryOut, Out, OutFault, StreamOut, WriteError};
 const CHART: &[u8] =
     b"msc run;\ninstance a;\nout ping to b;\nendinstance;\ninstance b;\nin ping from a;\nendinstance;\nendmsc;\n";
 
-/// The chart's text is written so.
+/// Asserts the result of writing the chart's text.
 fn writes<W: Out>(rt: &impl Abort, alloc: Global, out: &mut W, wanted: Result<(), WriteError>) {
     let (names, chart) = read(alloc, CHART).expect(rt, "a chart");
     assert_eq!(rt; write(&names, &chart, out), wanted);
@@ -27,7 +28,7 @@ fn a_full_stream_fails(rt: HostRuntime) {
     are_bytes(&rt, "its front", place.as_slice(), &CHART[..20]);
 }
 
-/// Is interrupted by a signal so many times, and then takes one byte a call.
+/// A writer that a signal interrupts this number of times, and that then takes one byte with each call.
 #[derive(Drop)]
 struct Interrupted {
     times: u8,
@@ -72,7 +73,7 @@ fn prints_a_fault(rt: HostRuntime) {
     are_bytes(&rt, "its words", text.as_str().as_bytes(), words);
 }
 
-/// Puts bytes where there are none, once more where memory was refused: then there were none still.
+/// Puts bytes into an empty text, and once more if memory was refused. The refusal left the text empty.
 fn puts(rt: &impl Abort, out: &mut MemoryOut, bytes: &[u8]) {
     if let Err(fault) = out.put(bytes) {
         holds(rt, "memory was refused", fault == OutFault::Memory);

@@ -1,4 +1,4 @@
-//! Tests of behaviours that drive instances, by what is public of them.
+//! Tests of behaviours that drive instances, through their public items.
 
 #[cfg(test)]
 mod before_acts;

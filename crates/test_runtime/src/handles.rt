@@ -1,5 +1,5 @@
-//! Tests of posts in the memory of another language, by what is public: messages both ways, calls on what keeps no
-//! post, and each growth refused.
+//! Tests of posts in the memory of another language, through their public items. They pass messages both ways, make
+//! calls on handles without a post, and refuse each growth.
 
 #[cfg(test)]
 mod calls;

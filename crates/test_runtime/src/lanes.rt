@@ -1,4 +1,4 @@
-//! Tests of a lane's two ends, by what is public of them.
+//! Tests of a lane's two ends, through their public items.
 
 #[cfg(test)]
 mod ends;

@@ -1,5 +1,5 @@
-//! Tests of boards that carry on where others ended, by what is public: three worked ones, and a hundred
-//! wild boards one after another.
+//! Tests of boards that take over from others, through their public items: three worked boards, and a hundred wild
+//! boards one after another.
 
 #[cfg(test)]
 mod boards;

@@ -1,4 +1,4 @@
--- Loops over bytes: what is left of them, a byte at a time.
+-- Loops over bytes: the remaining bytes, one byte at a time.
 use Rattle.std.proofs.Common.{◌≡◌, ℕ, zero, suc, ◌+◌, ◌<◌, ◌≤◌, ◌==◌, ◌&&◌, Bool, true, false, arith, List, [], ◌∷◌, length, drop, get_or, Option, None, Some, option_map, refl, ap, ◌∙◌, add-one, if◌then◌else◌}
 use Rattle.std.proofs.Math.Seq.{drop-cons}
 use Rattle.texts.specs.Words.{kept, kept_by}
@@ -13,7 +13,7 @@ drop_all [] (suc i) h = refl
 drop_all (x ∷ xs) zero h = absurd (omega arith)
 drop_all (x ∷ xs) (suc i) h = drop_all xs i (omega arith)
 
--- how many bytes are kept, where so many of the first i are, and so many of those behind them
+-- the number of bytes that are kept, given how many of the first i are, and how many of those after them
 abbrev pub kept_in : ℕ → ℕ → ℕ → ℕ
 kept_in so_far i zero = so_far
 kept_in so_far i (suc k) = i + suc k
@@ -30,7 +30,7 @@ kept_next bytes so_far i lt = ap (λ l. kept_in so_far i (kept l)) (drop_next by
 pub kept_all : (bytes : List ℕ) (so_far i : ℕ) → length bytes ≤ i → kept_in so_far i (kept (drop i bytes)) ≡ so_far
 kept_all bytes so_far i h = ap (λ l. kept_in so_far i (kept l)) (drop_all bytes i h)
 
--- a place that is one more further on
+-- a place that is one further on
 pub moved_on : (n : ℕ) (place : Option ℕ) → option_map (λ k. n + k) (option_map suc place) ≡ option_map (λ k. n + 1 + k) place
 moved_on n None = refl
 moved_on n (Some k) = ap Some (omega arith)

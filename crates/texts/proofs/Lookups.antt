@@ -1,4 +1,4 @@
--- Instances that are looked up by their names, and named again.
+-- Instances that are looked up by their names, and the names of instances.
 use Rattle.std.proofs.Common.{◌≡◌, ℕ, zero, suc, ◌≤◌, ◌<◌, Bool, true, false, cond, List, [], length, get_or, Option, Some, None, All, refl, sym, ap, subst, ◌∙◌, arith}
 use Rattle.std.specs.Prelude.{bytes_eq, option_map, slice_get}
 use Rattle.std.specs.List.{position, position_or_len}
@@ -52,7 +52,7 @@ found_again names i (Some k) are within is =
     let there : slice_get names k ≡ Some name = slice_get-get_or names k [] at.0 ∙ ap Some (sym (same_bytes name (get_or names k []) at.1)) in
     ap (λ j. Some (suc j)) (are.distinct k i name there (slice_get-get_or names i [] within))
 
--- no two instances have one name, so the look-up of an instance's name finds it again
+-- no two instances have the same name, so the look-up of an instance's name finds the instance again
 pub instance_again : (names : List (List ℕ)) (p : ℕ) → AreNames names → 1 ≤ p → p ≤ length names → instance_of names (name_at names p) ≡ Some p
 instance_again names zero are first last = absurd (omega arith)
 instance_again names (suc i) are first last =
@@ -60,7 +60,7 @@ instance_again names (suc i) are first last =
     let name = unwrap_or-slice_get names i [] in
     ap (instance_of names) name ∙ found_again names i (position (bytes_eq (get_or names i [])) names) are within refl
 
--- what each name has, that of an instance has
+-- a fact that holds of each name holds of an instance's name
 pub name_at_all : (P : List ℕ → Type 0) (names : List (List ℕ)) (p : ℕ) → All P names → 1 ≤ p → p ≤ length names → P (name_at names p)
 name_at_all P names zero h first last = absurd (omega arith)
 name_at_all P names (suc i) h first last = subst P (sym (unwrap_or-slice_get names i [])) (h i [] (omega arith))

@@ -24,19 +24,19 @@ is_new names name absent = by (list_any (bytes_eq name) names) refl
     by true e = absurd (absent (Contains-found names name e))
     by false e = e
 
--- what becomes of a name: it goes behind the others
+-- the name is new: it is added after the others
 pub with_name-ok : (names : List (List ℕ)) (name : List ℕ) → (Contains names name → ⊥) → (length names ≡ MAX_INSTANCES → ⊥) → with_name names name ≡ Ok (names ++ name ∷ [])
 with_name-ok names name absent room = rw (is_new names name absent, ne_eqb (length names) MAX_INSTANCES room) refl
 
--- it was given before
+-- the name was given before
 pub with_name-given : (names : List (List ℕ)) (name : List ℕ) → Contains names name → with_name names name ≡ Err Duplicate
 with_name-given names name there = rw (is_given names name there) refl
 
--- it is one too many
+-- the name is one too many
 pub with_name-full : (names : List (List ℕ)) (name : List ℕ) → (Contains names name → ⊥) → length names ≡ MAX_INSTANCES → with_name names name ≡ Err Instances
 with_name-full names name absent full = rw (is_new names name absent, eq-eqb (length names) MAX_INSTANCES full) refl
 
--- names with a new one are names, with it behind the others
+-- names with a new one are names, with it after the others
 pub with_name-names : (names : List (List ℕ)) (name : List ℕ) (new : List (List ℕ)) → AreNames names → with_name names name ≡ Ok new → AreNames new × (new ≡ names ++ name ∷ [])
 with_name-names names name new old e =
     let a = guard_ok (list_any (bytes_eq name) names) Duplicate (cond (eqb (length names) MAX_INSTANCES) (Err Instances) (Ok (names ++ name ∷ []))) new e in
@@ -47,7 +47,7 @@ with_name-names names name new old e =
     let same : names ++ name ∷ [] ≡ new = ok_is (names ++ name ∷ []) new b.1 in
     (subst AreNames same (AreNames-push names name old room (not_there names name a.0)), sym same)
 
--- it is behind the others, whatever these are
+-- it is after the others, whatever these are
 pub with_name-is : (names : List (List ℕ)) (name : List ℕ) (new : List (List ℕ)) → with_name names name ≡ Ok new → names ++ name ∷ [] ≡ new
 with_name-is names name new e =
     let a = guard_ok (list_any (bytes_eq name) names) Duplicate (cond (eqb (length names) MAX_INSTANCES) (Err Instances) (Ok (names ++ name ∷ []))) new e in

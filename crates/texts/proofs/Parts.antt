@@ -1,4 +1,4 @@
--- Lines and words: what the parts round a byte are.
+-- Lines and words: the parts between the occurrences of a byte.
 use Rattle.std.proofs.Common.{◌≡◌, ℕ, ◌+◌, ◌<◌, ◌≤◌, Bool, true, false, ◌||◌, cond, eqb, List, [], ◌∷◌, ◌++◌, Some, None, refl, sym, ap, ◌∙◌, arith, length, take, drop, append_assoc, append-nil}
 use Rattle.std.specs.List.{slice_split, onto_first, position, position_or_len, flat_map, join_with_byte, list_any, AllByRecursion}
 use Rattle.std.proofs.lemmas.Bool.{ltb-false, eq-eqb}
@@ -34,7 +34,7 @@ last_of-append : (xs ys : List (List ℕ)) → Cons ys → last_of (xs ++ ys) �
 last_of-append [] ys c = refl
 last_of-append (x ∷ xs) ys c = last_of-cons x (xs ++ ys) (append_cons xs ys c) ∙ last_of-append xs ys c
 
--- ---- the parts round a byte
+-- ---- the parts between the occurrences of a byte
 
 onto_first_cons : {X : Type 0} (b : Bool) (x : X) (ps : List (List X)) → Cons (cond b ([] ∷ ps) (onto_first x ps))
 onto_first_cons true x ps = record { first = []; others = ps; is = refl }
@@ -60,7 +60,7 @@ is_not_there : (b : Bool) (k : ℕ) → cond b (Some k) None ≡ None → b ≡ 
 is_not_there true k e = cc
 is_not_there false k e = refl
 
--- with no such byte there is one part
+-- without such a byte there is only one part
 pub parts_whole : (byte : ℕ) (bytes : List ℕ) → position (λ b. eqb b byte) bytes ≡ None → parts byte bytes ≡ bytes ∷ []
 parts_whole byte bytes e =
     let p : ℕ → Bool = λ b. eqb b byte in
@@ -75,7 +75,7 @@ append_onto_first byte false x [] more rest c e h = absurd (let is = c.is in cc)
 append_onto_first byte false x (p ∷ []) more rest c e h = ap (onto_first x) h ∙ sym (ap (λ b. cond b ([] ∷ parts byte (p ++ rest)) (onto_first x (parts byte (p ++ rest)))) e)
 append_onto_first byte false x (p ∷ q ∷ ps) more rest c e h = ap (onto_first x) h
 
--- what follows the bytes goes on with their last part
+-- further bytes continue the last part
 pub parts_append : (byte : ℕ) (bytes rest : List ℕ) → parts byte (bytes ++ rest) ≡ all_but_last (parts byte bytes) ++ parts byte (last_of (parts byte bytes) ++ rest)
 parts_append byte [] rest = refl
 parts_append byte (x ∷ xs) rest = append_onto_first byte (eqb x byte) x (parts byte xs) (parts byte (xs ++ rest)) rest (parts_cons byte xs) refl (parts_append byte xs rest)
@@ -102,7 +102,7 @@ neither : (x y : Bool) → (x || y) ≡ false → (x ≡ false) × (y ≡ false)
 neither true y e = cc
 neither false y e = (refl, e)
 
--- by a test of each byte: `lacks_if 32 (codes "send") refl`
+-- the bytes lack a byte, by a test of each: `lacks_if 32 (codes "send") refl`
 pub lacks_if : (byte : ℕ) (bytes : List ℕ) → list_any (λ b. eqb b byte) bytes ≡ false → Lacks byte bytes
 lacks_if byte [] e = tt
 lacks_if byte (b ∷ bs) e =
@@ -146,7 +146,7 @@ pub words_cons : (line : List ℕ) → Cons (words_of line)
 unfolding words_of
 words_cons line = parts_cons 32 line
 
--- four words one by one, and more behind them
+-- four words one by one, and more after them
 pub five_words : {w x y z rest : List (List ℕ)} {a b c d : List ℕ} → w ≡ a ∷ x → x ≡ b ∷ y → y ≡ c ∷ z → z ≡ d ∷ rest → Cons rest → FiveOrMore w
 five_words {a = a} {b = b} {c = c} {d = d} p q r s more = record {
   first = a;
@@ -223,7 +223,7 @@ pub end_again : (lines : List (List ℕ)) → AllByRecursion (Lacks 10) lines �
 unfolding end_of
 end_again lines h = ap last_of (parts_ended lines h) ∙ last_of-append lines ([] ∷ []) (one_part [])
 
--- the lines of one text behind another: the end of the first goes on
+-- the lines of two texts, one after the other: the end of the first is continued
 pub lines_onto : (bytes rest : List ℕ) → lines_of (bytes ++ rest) ≡ lines_of bytes ++ lines_of (end_of bytes ++ rest)
 unfolding lines_of end_of
 lines_onto bytes rest = ap all_but_last (parts_append 10 bytes rest) ∙ all_but_last-append (all_but_last (parts 10 bytes)) _ (parts_cons 10 (last_of (parts 10 bytes) ++ rest))
@@ -232,7 +232,7 @@ pub end_onto : (bytes rest : List ℕ) → end_of (bytes ++ rest) ≡ end_of (en
 unfolding end_of
 end_onto bytes rest = ap last_of (parts_append 10 bytes rest) ∙ last_of-append (all_but_last (parts 10 bytes)) _ (parts_cons 10 (last_of (parts 10 bytes) ++ rest))
 
--- the same behind a text that ends with a line feed, or is empty
+-- the same if the first text ends with a line feed, or is empty
 pub lines_append : (bytes rest : List ℕ) → end_of bytes ≡ [] → lines_of (bytes ++ rest) ≡ lines_of bytes ++ lines_of rest
 lines_append bytes rest e = lines_onto bytes rest ∙ ap (λ l. lines_of bytes ++ lines_of (l ++ rest)) e
 
@@ -243,6 +243,6 @@ last_ended : (bytes : List ℕ) → Lacks 10 bytes → end_of (ended bytes) ≡ 
 unfolding end_of
 last_ended bytes h = ap last_of (slice_split_at (λ b. eqb b 10) bytes 10 [] (All-from_recursion _ bytes h) refl)
 
--- a text with a line feed at its end has nothing behind its lines
+-- a text with a line feed at its end has nothing after its lines
 pub end_ended : (bytes : List ℕ) → end_of (ended bytes) ≡ []
 end_ended bytes = end_onto bytes (10 ∷ []) ∙ last_ended (end_of bytes) (end_lacks bytes)

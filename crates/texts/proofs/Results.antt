@@ -1,4 +1,4 @@
--- What a chain of checks had on its way, where it succeeded and where it failed, and what a name's bytes are.
+-- The intermediate results of a chain of checks, if it succeeded and if it failed; and what a name's bytes are.
 use Rattle.std.proofs.Common.{◌≡◌, ℕ, ◌≤◌, Bool, true, false, not, ◌||◌, cond, eqb, List, [], ◌∷◌, Option, Some, None, Result, Ok, Err, ◌⊎◌, inl, inr, refl, sym, ap, ◌∙◌, arith, length}
 use Rattle.std.specs.Prelude.{option_map}
 use Rattle.std.specs.List.{position, position_or_len, AllByRecursion}
@@ -34,11 +34,11 @@ pub chosen : {A : Type 0} (b : Bool) (x y z : A) → cond b x y ≡ z → ((b �
 chosen true x y z e = inl (refl, e)
 chosen false x y z e = inr (refl, e)
 
--- what is read, of a type that is known
+-- a successful result, of a known type
 abbrev done : {A E : Type 0} → A → Result A E
 done x = Ok x
 
--- what is read is one thing
+-- a successful result has only one value
 pub ok_is : {A E : Type 0} (x y : A) → done {E = E} x ≡ done y → x ≡ y
 ok_is x y e = cc
 
@@ -47,11 +47,11 @@ pub bind_err : {A B E : Type 0} (r : Result A E) (f : A → Result B E) (d : E) 
 bind_err (Ok x) f d e = inr (x, refl, e)
 bind_err (Err c) f d e = inl cc
 
--- what follows a value is only what it is followed by
+-- after a success only the next step matters
 pub bind_at : {A B E : Type 0} (r : Result A E) (f : A → Result B E) (x : A) → r ≡ Ok x → (r >>= f) ≡ f x
 bind_at r f x e = ap (λ s. s >>= f) e
 
--- what failed is not followed
+-- after a failure there is no next step
 pub stops : {A B E : Type 0} (r : Result A E) (f : A → Result B E) (d : E) → r ≡ Err d → (r >>= f) ≡ Err d
 stops r f d e = ap (λ s. s >>= f) e
 
@@ -67,7 +67,7 @@ fails_in_line n errors.Memory r f h = tt
 fails_in_line n (errors.Fault fault) (Ok x) f h = cc
 fails_in_line n (errors.Fault fault) (Err d) f h = cc
 
--- a line that is read is read, whatever its number
+-- a line that is read is read with any number
 pub in_line_ok : {A : Type 0} (n : ℕ) (r : Result A Cause) (x : A) → in_line n r ≡ Ok x → r ≡ Ok x
 in_line_ok n (Ok y) x e = cc
 in_line_ok n (Err d) x e = cc
@@ -86,7 +86,7 @@ name_is w v e =
     let same = name_of_same w v (named_ok (name_of w) v e) in
     (same, named_ok (name_of w) v e ∙ ap Ok same)
 
--- it has a byte
+-- a name has a byte
 pub name_some : (w : List ℕ) → IsName w → eqb (length w) 0 ≡ false
 unfolding name_of
 name_some w e = grind arith
@@ -135,7 +135,7 @@ good_lacks byte [] bad h = tt
 good_lacks byte (b ∷ bs) bad h =
     (ne_eqb b byte (λ same. false≢true (sym bad ∙ ap is_name_byte (sym same) ∙ h.0)), good_lacks byte bs bad h.1)
 
--- for a byte that doesn't belong in a name: `name_lacks 32 w refl h` says that the name has no space
+-- for a byte that doesn't belong in a name: `name_lacks 32 w refl h` proves that the name has no space
 pub name_lacks : (byte : ℕ) (w : List ℕ) → is_name_byte byte ≡ false → IsName w → Lacks byte w
 name_lacks byte w bad h = good_lacks byte w bad (name_bytes w h)
 

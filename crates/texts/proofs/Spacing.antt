@@ -14,18 +14,18 @@ use Rattle.texts.proofs.Results.{name_has_no_space, name_has_no_line_feed}
 abbrev pub IsPlain : List ℕ → Type 0
 IsPlain word = Lacks 32 word × Lacks 10 word
 
--- each of them
+-- each of the words is plain
 abbrev pub ArePlain : List (List ℕ) → Type 0
 ArePlain words = AllByRecursion IsPlain words
 
 pub plain_name : (word : List ℕ) → IsName word → IsPlain word
 plain_name word h = (name_has_no_space word h, name_has_no_line_feed word h)
 
--- by a test of each byte: `plain_literal (codes "send") refl refl`
+-- a word is plain, by a test of each byte: `plain_literal (codes "send") refl refl`
 pub plain_literal : (word : List ℕ) → list_any (λ b. eqb b 32) word ≡ false → list_any (λ b. eqb b 10) word ≡ false → IsPlain word
 plain_literal word space line_feed = (lacks_if 32 word space, lacks_if 10 word line_feed)
 
--- a word that the chart text keeps for itself
+-- a reserved word of the chart text
 pub plain_keyword : (word : Keyword) → IsPlain (spelled word)
 unfolding spelled
 plain_keyword Msc = plain_literal (spelled Msc) refl refl
@@ -58,10 +58,10 @@ no_line_feeds (word ∷ words) h = (h.0.1, no_line_feeds words h.1)
 pub spaced_again : (word : List ℕ) (words : List (List ℕ)) → ArePlain (word ∷ words) → words_of (join_with_byte 32 (word ∷ words)) ≡ word ∷ words
 spaced_again word words h = words_again word words (no_spaces (word ∷ words) h)
 
--- and make a line
+-- such words make a line
 pub spaced_lacks : (words : List (List ℕ)) → ArePlain words → Lacks 10 (join_with_byte 32 words)
 spaced_lacks words h = joined_lacks 10 32 words refl (no_line_feeds words h)
 
--- a line is its words
+-- a line is its words, with spaces between them
 pub is_spaced : (line : List ℕ) → line ≡ join_with_byte 32 (words_of line)
 is_spaced line = sym (words_joined line)

@@ -1,4 +1,4 @@
--- How the parts of a write make a whole. S is what is written to, sink what is known of it.
+-- How the parts of a write make a whole. S is the output, and sink is what is known of it.
 use Rattle.std.proofs.Common.{◌≡◌, ℕ, ◌+◌, ◌<◌, List, [], ◌++◌, Option, None, Some, Result, Ok, Err, true, refl, sym, ap, ◌∙◌, subst, append_assoc, append-nil, take, drop, length, get_or, take-append-drop}
 use Rattle.std.proofs.lemmas.List.{take_more, flat_map_more}
 use Rattle.std.proofs.lemmas.List.Concat.{flat_map-append}
@@ -10,14 +10,14 @@ use Rattle.texts.specs.Outs.{Sink, one_more}
 use Rattle.texts.specs.Writing.{Puts, Breaks, Wrote, Buffers, Stops, Adds}
 use Rattle.texts.specs.declared.text_buffer.TextBuffer.{TextBuffer}
 
--- what stayed as it was, and grew then
+-- contents that stayed as they were, and then grew
 pub kept_then : (a b c : Option (List ℕ)) (bytes : List ℕ) → Keeps a b → Appends b c bytes → Appends a c bytes
 kept_then None b c bytes p q = tt
 kept_then (Some x) None c bytes p q = absurd p
 kept_then (Some x) (Some y) None bytes p q = absurd q
 kept_then (Some x) (Some y) (Some z) bytes p q = q ∙ ap (λ l. l ++ bytes) p
 
--- two parts of one text, of which the first left a rest that is held
+-- two parts of one text, after the first of which some bytes are held
 splits_then : (h i j p q s t : List ℕ) → h ++ s ≡ p ++ i → i ++ t ≡ q ++ j → h ++ (s ++ t) ≡ (p ++ q) ++ j
 splits_then h i j p q s t first second =
     sym (append_assoc h s t) ∙ ap (λ l. l ++ t) first ∙ append_assoc p i t ∙ ap (λ l. p ++ l) second ∙ sym (append_assoc p q j)
@@ -29,7 +29,7 @@ module _ {S : Type 0} {sink : S → Sink} where
   pub puts_then : {a b c : S} {s t : List ℕ} → Puts sink a b s → Puts sink b c t → Puts sink a c (s ++ t)
   puts_then {a} {b} {c} p q = record { appends = Appends-trans (sink a).contents (sink b).contents (sink c).contents _ _ p.appends q.appends; none_failed = q.none_failed ∙ p.none_failed }
 
-  -- a put of nothing more, and a failure
+  -- a successful put, and then a failure
   pub breaks_then : {a b c : S} {s t : List ℕ} → Puts sink a b s → Breaks sink b c t → Breaks sink a c (s ++ t)
   breaks_then {a} {b} {c} {s} {t} p q = record {
     put = s ++ q.put;
@@ -39,7 +39,7 @@ module _ {S : Type 0} {sink : S → Sink} where
     one_failed = q.one_failed ∙ ap one_more p.none_failed;
   }
 
-  -- what broke in a part broke in the whole
+  -- a failure in a part is a failure in the whole
   pub breaks_early : {a b : S} {s : List ℕ} (t : List ℕ) → Breaks sink a b s → Breaks sink a b (s ++ t)
   breaks_early t p = record {
     put = p.put;
@@ -60,7 +60,7 @@ module _ {S : Type 0} {sink : S → Sink} where
     same_out = q.same_out ∙ p.same_out;
   }
 
-  -- a part that was added, and a failure in what comes after it
+  -- a part that was added, and a failure in the next one
   breaks_after : {a b : TextBuffer S} (c : TextBuffer S) {s : List ℕ} (t : List ℕ) → Buffers sink a b s → Breaks sink b.out.now c.out.now (b.held ++ t)
       → Breaks sink a.out.now c.out.now (a.held ++ (s ++ t))
   breaks_after {a} {b} c {s} t p q = record {
@@ -81,7 +81,7 @@ module _ {S : Type 0} {sink : S → Sink} where
     same_out = p.same_out;
   }
 
-  -- what was held is put, and then the text is, or some of it
+  -- the held bytes are put, and then the text, or a part of it
   pub adds_put : {T E : Type 0} (a b c : TextBuffer S) (r : Result T E) (t : List ℕ) → Puts sink a.out.now b.out.now a.held → b.out.ghost_name ≡ a.out.ghost_name
       → Wrote sink b.out.now c.out.now r t → c.held ≡ [] → c.out.ghost_name ≡ b.out.ghost_name → Adds sink a c r t
   adds_put a b c (Ok x) t p same q none kept = record {
@@ -102,11 +102,11 @@ module _ {S : Type 0} {sink : S → Sink} where
   wrote_whole {a = a} {s = s} c (Ok x) none p q = subst (Puts sink a.out.now c) (sym p.splits ∙ ap (λ l. l ++ s) none) (puts_then p.puts q)
   wrote_whole {a = a} {s = s} c (Err e) none p q = subst (Breaks sink a.out.now c) (sym p.splits ∙ ap (λ l. l ++ s) none) (breaks_then p.puts q)
 
-  -- of a text that was begun at `start`
+  -- for a text that began at `start`
   pub wrote_then : {T E : Type 0} {a b : TextBuffer S} {s : List ℕ} (start c : S) (r : Result T E) → a.out.now ≡ start → a.held ≡ [] → Buffers sink a b s → Wrote sink b.out.now c r b.held → Wrote sink start c r s
   wrote_then {s = s} start c r begun none p q = subst (λ x. Wrote sink x c r s) begun (wrote_whole c r none p q)
 
-  -- the exit of a `?` at a part: what stops in it stops in the whole
+  -- the exit of a `?` at a part: a stop in the part is a stop in the whole
   pub adds_early : {T E : Type 0} {a b : TextBuffer S} {s : List ℕ} (r : Result T E) (t : List ℕ) → is_err r ≡ true → Stops sink a b s → Adds sink a b r (s ++ t)
   adds_early (Ok x) t e p = cc
   adds_early (Err x) t e p = stops_early t p
@@ -116,7 +116,7 @@ module _ {S : Type 0} {sink : S → Sink} where
   wrote_early {b = b} {s = s} start (Err x) e begun none p =
       subst (λ x. Breaks sink x b.out.now s) begun (subst (Breaks sink _ b.out.now) (ap (λ l. l ++ s) none) p.breaks)
 
-  -- ---- for loops over a list, of whose elements f is the text
+  -- ---- for loops over a list, where f is the text of each element
 
   pub buffers_more : {X : Type 0} (f : X → List ℕ) {a b c : TextBuffer S} (xs : List X) (k : ℕ) (d : X) → k < length xs
       → Buffers sink a b (flat_map f (take k xs)) → Buffers sink b c (f (get_or xs k d)) → Buffers sink a c (flat_map f (take (k + 1) xs))
@@ -139,7 +139,8 @@ module _ {S : Type 0} {sink : S → Sink} where
   adds_in f (Ok x) xs k d e below p q = cc
   adds_in f (Err x) xs k d e below p q = stops_in f xs k d below p q
 
-  -- the same two where the loop reads the element as x, and c.x-item.is says so: at elements that are no numbers and no references
+  -- the same two if the loop reads the element as x, and c.x-item.is states so: for elements that are no numbers and no
+  -- references
 
   pub buffers_more_read : {X : Type 0} (f : X → List ℕ) {a b c : TextBuffer S} (xs : List X) (k : ℕ) (x : X) → k < length xs → x ≡ get_or xs k x
       → Buffers sink a b (flat_map f (take k xs)) → Buffers sink b c (f x) → Buffers sink a c (flat_map f (take (k + 1) xs))
@@ -149,5 +150,6 @@ module _ {S : Type 0} {sink : S → Sink} where
       → Buffers sink a b (flat_map f (take k xs)) → Stops sink b c (f x) → Adds sink a c r (flat_map f xs)
   adds_in_read f {b = b} {c = c} r xs k x e below is p q = adds_in f r xs k x e below p (subst (λ y. Stops sink b c (f y)) is q)
 
-  -- for callers, by `using`: what joins the parts of a write, where the text is `first ++ (second ++ (third ++ ..))`
+  -- for callers, by `using`: the lemmas that join the parts of a write, if the text is `first ++ (second ++ (third ++
+  -- ..))`
   pub ruleset joining = (adds_then, adds_early, buffers_then, wrote_then, wrote_early)

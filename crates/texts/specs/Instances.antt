@@ -1,4 +1,5 @@
--- The instances of a text by their names: what becomes of a new name, the instance that a name has, and an instance's name.
+-- The instances of a text by their names: the addition of a name, the instance with a name, and the name of an
+-- instance.
 use Rattle.std.specs.Prelude.{ℕ, zero, suc, ◌==◌, List, [], ◌∷◌, ◌++◌, length, slice_get, Option, None, Some, unwrap_or, Result, Ok, Err, bytes_eq, if◌then◌else◌}
 use Rattle.std.specs.List.{list_any}
 use Rattle.chart.specs.Words.{Name}
@@ -7,7 +8,7 @@ use Rattle.chart.specs.declared.instance.TheConstants.{MAX_INSTANCES}
 use Rattle.texts.specs.declared.fault.Cause.{Cause}
 use Rattle.texts.specs.declared.fault.Cause.TheVariants.{Instances, Duplicate, UnknownInstance}
 
--- a new name goes behind the names before it
+-- a new name is added after the earlier names
 abbrev pub with_name : List Name → Name → Result (List Name) Cause
 with_name names name =
     if list_any (bytes_eq name) names then Err Duplicate else (

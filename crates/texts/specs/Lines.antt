@@ -7,7 +7,7 @@ use Rattle.chart.specs.declared.name.NameError.{NameError}
 use Rattle.texts.specs.declared.fault.Cause.{Cause}
 use Rattle.texts.specs.declared.fault.Cause.TheVariants as causes
 
--- the parts round a byte
+-- the parts between the occurrences of a byte
 abbrev pub parts : ℕ → Text → List Text
 parts byte bytes = slice_split (λ b. b == byte) bytes
 
@@ -27,19 +27,19 @@ last_of (x ∷ y ∷ ys) = last_of (y ∷ ys)
 unfoldable pub lines_of : Text → List Text
 lines_of bytes = all_but_last (parts 10 bytes)
 
--- what follows the last line feed
+-- the bytes after the last line feed
 unfoldable pub end_of : Text → Text
 end_of bytes = last_of (parts 10 bytes)
 
--- the words of a line: the parts round its spaces
+-- the words of a line: the parts between its spaces
 unfoldable pub words_of : Text → List Text
 words_of line = parts 32 line
 
--- a word has a byte at least
+-- a word has at least one byte
 abbrev pub is_word : List ℕ → Bool
 is_word word = not (length word == 0)
 
--- the byte isn't there
+-- the bytes don't have this byte
 abbrev pub Lacks : ℕ → Text → Type 0
 Lacks byte bytes = AllByRecursion (λ b. (b == byte) ≡ false) bytes
 
@@ -53,7 +53,7 @@ pub record FiveOrMore (words : List Text) : Type 0 where
   pub others : List Text
   pub are : words ≡ first ∷ second ∷ third ∷ fourth ∷ fifth ∷ others
 
--- what is read as a name, with its fault as the line's
+-- the result of reading a name, with its fault as the line's
 abbrev pub named : Result Name NameError → Result Name Cause
 named (Ok name) = Ok name
 named (Err fault) = Err (causes.Name fault)

@@ -1,11 +1,11 @@
--- The words of a line, told apart by how many there are.
+-- The words of a line, by their number.
 use Rattle.std.specs.Prelude.{◌≡◌, List, [], ◌∷◌}
 use Rattle.chart.specs.Words.{Text}
 use Rattle.texts.specs.Lines.{FiveOrMore}
 use Rattle.texts.specs.declared.word.Words.{Words}
 use Rattle.texts.specs.declared.word.Words.TheVariants.{One, Two, Three, Four, More}
 
--- these are the words, all of them
+-- these are all the words
 abbrev pub AreWords : Words → List Text → Type 0
 AreWords (One a) words = words ≡ a.now ∷ []
 AreWords (Two a b) words = words ≡ a.now ∷ b.now ∷ []

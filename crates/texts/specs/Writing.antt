@@ -1,4 +1,4 @@
--- What a writer does to what it writes to: S is what is written to, sink what is known of it.
+-- The effect of a writer on its output: S is the output, and sink is what is known of it.
 use Rattle.std.specs.Prelude.{◌≡◌, [], ◌++◌, Result, Ok, Err}
 use Rattle.std.specs.Io.KnownBytes.{Appends}
 use Rattle.chart.specs.Words.{Text}
@@ -18,12 +18,12 @@ pub record Breaks {S : Type 0} (sink : S → Sink) (old new : S) (text : Text) :
   pub appends : Appends (sink old).contents (sink new).contents put
   pub one_failed : (sink new).failures ≡ one_more (sink old).failures
 
--- a whole write: all of the text, or a beginning of it
+-- a whole write: all of the text was put, or a beginning of it
 abbrev pub Wrote : {S T E : Type 0} → (S → Sink) → S → S → Result T E → Text → Type 0
 Wrote sink old new (Ok x) text = Puts sink old new text
 Wrote sink old new (Err e) text = Breaks sink old new text
 
--- the text was added to what was held: all but what is held now was put, and no put failed
+-- the text was added to the held bytes: all bytes that are no longer held were put, and no put failed
 pub record Buffers {S : Type 0} (sink : S → Sink) (old new : TextBuffer S)
     (text : Text) : Type 0 where
   pub put : Text
@@ -31,14 +31,14 @@ pub record Buffers {S : Type 0} (sink : S → Sink) (old new : TextBuffer S)
   pub puts : Puts sink old.out.now new.out.now put
   pub same_out : new.out.ghost_name ≡ old.out.ghost_name
 
--- a beginning of what was held and the text was put, one put failed, and nothing is held now
+-- a beginning of the held bytes and the text was put, one put failed, and nothing is held now
 pub record Stops {S : Type 0} (sink : S → Sink) (old new : TextBuffer S)
     (text : Text) : Type 0 where
   pub breaks : Breaks sink old.out.now new.out.now (old.held ++ text)
   pub empty : new.held ≡ []
   pub same_out : new.out.ghost_name ≡ old.out.ghost_name
 
--- one part of a write: the text is put or held, or the write stops
+-- a part of a write: the text is put or held, or the write stops
 abbrev pub Adds : {S T E : Type 0} → (S → Sink) → TextBuffer S → TextBuffer S → Result T E → Text
     → Type 0
 Adds sink old new (Ok x) text = Buffers sink old new text

@@ -1,7 +1,7 @@
-//! The bytes of other tools' texts: their kinds, words in any letters, and where they stand.
+//! The bytes of other tools' texts: their kinds, case-insensitive words, and places.
 //!
-//! What is promised: each function of bytes answers what its definition says (`specs/Bytes/Classes`,
-//! `specs/Bytes/Words`, `specs/Bytes/Lines`, `specs/Bytes/Places`), for any bytes. Nothing here takes memory.
+//! What is promised: each function returns what its definition states (`specs/Bytes/Classes`, `specs/Bytes/Words`,
+//! `specs/Bytes/Lines`, `specs/Bytes/Places`), for any bytes. Nothing here takes memory.
 
 mod classes;
 mod lines;

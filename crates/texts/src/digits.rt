@@ -1,7 +1,7 @@
 //! Numbers in decimal digits.
 //!
-//! What is promised ([`number_in`], `specs/Digits/Numbers`): the number is a function of the bytes, and bytes that
-//! say none of 32 bits give none.
+//! What is promised ([`number_in`], `specs/Digits/Numbers`): the number is a function of the bytes. Bytes that aren't
+//! the digits of a number of 32 bits give none.
 
 mod numbers;
 

@@ -9,10 +9,10 @@ use thiserror::Error;
 /// What is wrong with a line: the first of its faults.
 #[derive(Clone, Copy, Debug, PartialEq, Eq, Error)]
 pub enum Cause {
-    /// F1 to F4: a name is no name.
+    /// F1 to F4: a word is no name.
     #[error("{0}")]
     Name(NameError),
-    /// F7: the instance's line would get more events than a line holds.
+    /// F7: the instance's line would have more events than a line may have.
     #[error("an instance has too many events")]
     LineFull,
     /// F8: there are fewer than two instances, or more than the limit.
@@ -24,7 +24,7 @@ pub enum Cause {
     /// F13: an instance sends to itself.
     #[error("an instance sends to itself")]
     ToItself,
-    /// F20: the line has no form that is allowed where it stands.
+    /// F20: the line has no form that is allowed at its place.
     #[error("the line has no form that is allowed here")]
     Syntax,
     /// F22: an instance's name was given before.

@@ -1,13 +1,13 @@
-//! Bytes of a text that are not yet put.
+//! Bytes of a text that haven't been put yet.
 ghost use Rattle.std.specs.Prelude.{◌≡◌, ◌≤◌, ◌<◌, ◌+◌, ◌++◌, List, ℕ, [], take, length, slice_set};
 ghost use Rattle.texts.specs.declared.held.TheConstants.{BUFFERED};
 
 use std::marker::Model;
 
-/// The most bytes that are held.
+/// The most bytes that are held at a time.
 pub const BUFFERED: usize = 4096;
 
-/// Bytes that are not yet put. A contract sees their list.
+/// Bytes that haven't been put yet. A contract sees their list.
 #[derive(Drop)]
 pub struct Held {
     bytes: [u8; BUFFERED],
@@ -39,7 +39,7 @@ impl Held {
         }
     }
 
-    /// How many bytes more there is room for.
+    /// The number of bytes for which there still is room.
     #[inline(always)]
     pub fn room(&self) -> usize
         ensures { result + length self.now ≡ BUFFERED }
@@ -55,7 +55,7 @@ impl Held {
         &self.bytes[..self.len]
     }
 
-    /// Lets go of all bytes.
+    /// Drops all bytes.
     pub fn clear(&mut self)
         ensures { self.new ≡ [] }
     {
@@ -73,7 +73,7 @@ impl Held {
         self.len = end;
     }
 
-    /// Adds the piece with another byte in this place of it.
+    /// Adds the piece, with the byte at this place of it replaced.
     #[inline(always)]
     pub fn push_with(&mut self, piece: &[u8], place: usize, byte: u8)
         requires room { length self.old + length piece.now ≤ BUFFERED }

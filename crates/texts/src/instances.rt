@@ -1,4 +1,4 @@
-//! The instances of a text by their names, and a line's fault with its number, for the readers.
+//! The instances of a text by their names, and a line's fault with its number, for readers of texts.
 ghost use Rattle.std.specs.Prelude.{◌≡◌, ◌≤◌, length};
 ghost use Rattle.texts.specs.Faults.{Gives, in_line};
 ghost use Rattle.texts.specs.Instances.{with_name, known_of, name_at};
@@ -13,7 +13,7 @@ pub fn fault_at(number: u64, cause: Cause) -> TextError
     TextError::Fault(Fault::Line(number, cause))
 }
 
-/// What a line is read as, with its number on its fault.
+/// The result of reading a line, with the line's number added to a fault.
 pub fn at_line<T>(number: u64, read: Result<T, Cause>) -> Result<T, TextError>
     ensures { Gives (λ x. x) result (in_line number read) }
 {
@@ -23,7 +23,8 @@ pub fn at_line<T>(number: u64, read: Result<T, Cause>) -> Result<T, TextError>
     }
 }
 
-/// The name is the next instance's. On this line, F22 refuses a name that was given before, and then F8 one too many.
+/// Adds the name as the next instance's. On this line, F22 refuses a name that was given before, and then F8 one too
+/// many.
 pub fn add_name(number: u64, names: &mut Names, name: Name) -> Result<(), TextError>
     ensures { Gives (λ _. names.new) result (in_line number (with_name names.old name)) }
 {

@@ -2,15 +2,14 @@
 //!
 //! What is promised:
 //!
-//! - A text goes to an [`Out`] through a buffer of a fixed size ([`TextBuffer`]), without memory. Where a put
-//!   fails, a beginning of the text was put, exactly one put failed, and none was tried after it.
-//! - A text is cut into the lines and words that it has ([`next_line`], [`words_in`], [`next_word`]). A line's
-//!   fault is told with its number ([`at_line`]).
-//! - Words at the beginning and the end of bytes are those of a definition ([`stripped`], [`place_of`],
-//!   `specs/Words`).
+//! - A text goes to an [`Out`] through a buffer of a fixed size ([`TextBuffer`]), without memory. If a put fails, a
+//!   beginning of the text was put, exactly one put failed, and none was tried after it.
+//! - A text is cut into its lines and words ([`next_line`], [`words_in`], [`next_word`]). A line's fault is reported
+//!   with its number ([`at_line`]).
+//! - Words at the beginning and the end of bytes are those of a definition ([`stripped`], [`place_of`], `specs/Words`).
 //!
-//! [`reading`] reads long texts quickly, [`bytes`] has the bytes of other tools' texts, [`pieces`] puts texts
-//! together, and [`digits`] reads numbers.
+//! [`reading`] reads long texts quickly. [`bytes`] handles the bytes of other tools' texts. [`pieces`] builds texts
+//! from parts. [`digits`] reads numbers.
 #![tactic(auto)]
 
 pub mod bytes;

@@ -9,7 +9,7 @@ fn place_of(byte: u8, bytes: &[u8]) -> Option<usize>
     bytes.iter().position(|b| *b == byte)
 }
 
-/// What stands before the first such byte and what stands behind it; `None` where there is none.
+/// The bytes before the first such byte, and the bytes after it; `None` if there is none.
 pub(crate) fn cut_at(byte: u8, bytes: &[u8]) -> Option<(&[u8], &[u8])>
     ensures cut { IfSome result (λ cut. parts byte bytes.now ≡ cut.0.now ∷ parts byte cut.1.now) }
     ensures shorter { IfSome result (λ cut. length cut.1.now < length bytes.now) }
@@ -21,7 +21,7 @@ pub(crate) fn cut_at(byte: u8, bytes: &[u8]) -> Option<(&[u8], &[u8])>
     }
 }
 
-/// The next whole line without its line feed, and what follows it; `None` where no line feed is left.
+/// The next whole line without its line feed, and the bytes after it; `None` if no line feed is left.
 pub fn next_line(bytes: &[u8]) -> Option<(&[u8], &[u8])>
     ensures line { IfSome result (λ next. lines_of bytes.now ≡ next.0.now ∷ lines_of next.1.now) }
     ensures end { IfSome result (λ next. end_of bytes.now ≡ end_of next.1.now) }

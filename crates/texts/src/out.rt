@@ -1,4 +1,4 @@
-//! Where a text is put.
+//! Outputs that take a text.
 ghost use Rattle.std.specs.Prelude.{◌≡◌, ◌≤◌, ◌<◌, [], take, length, Some, IfOk, OnErr};
 ghost use Rattle.std.specs.Io.KnownBytes.{Appends};
 ghost use Rattle.texts.specs.Outs.{Sink, Stored, Streamed, one_more};
@@ -23,13 +23,13 @@ pub enum OutFault {
     Full,
 }
 
-/// What takes the bytes of a text, some at a time.
+/// An output that takes the bytes of a text, some at a time.
 pub trait Out {
-    /// What is known of it: its bytes, where it tells them, and how many puts have failed.
+    /// What a contract knows of the output: its bytes, if it reveals them, and the number of failed puts.
     ghost sink: { Self → Sink };
 
-    /// Takes a beginning of the bytes, and answers how many they are: of a piece that isn't empty at least
-    /// one byte. A fault takes none.
+    /// Takes a beginning of the bytes, and returns its length, which is at least 1 unless the bytes are empty. On a
+    /// fault no byte is taken.
     fn put(&mut self, bytes: &[u8]) -> Result<usize, OutFault>
         ensures count { IfOk result (λ k. (k ≤ length bytes.now) × (0 < length bytes.now → 1 ≤ k)) }
         ensures taken { IfOk result (λ k. Appends (sink self.old).contents (sink self.new).contents (take k bytes.now)
@@ -38,7 +38,7 @@ pub trait Out {
             × ((sink self.new).failures ≡ one_more (sink self.old).failures)) };
 }
 
-/// An [`Out`] over memory, which tells its bytes. A put fails where there is no memory left for it.
+/// An [`Out`] in memory, which reveals its bytes. A put fails if there is no memory left for it.
 #[derive(Drop)]
 pub struct MemoryOut {
     bytes: Vec<u8>,
@@ -52,7 +52,7 @@ impl Model for MemoryOut {
 }
 
 impl MemoryOut {
-    /// One with no bytes. It takes no memory yet.
+    /// An output with no bytes. It takes no memory yet.
     pub fn new(alloc: Global) -> MemoryOut
         ensures { result ≡ record { bytes = []; failures = 0 } }
     {
@@ -90,8 +90,8 @@ impl Out for MemoryOut {
     }
 }
 
-/// An [`Out`] over any writer. Each error of the writer is a fault, and so is its taking no byte; but a write that a
-/// signal interrupts is tried again.
+/// An [`Out`] over any writer. Each error of the writer is a fault, and so is a write that takes no byte. But a write
+/// that a signal interrupts is tried again.
 #[derive(Drop)]
 pub struct StreamOut<W> {
     writer: W,

@@ -1,7 +1,7 @@
-//! Parts that several texts are put together from: pieces of bytes and numbers, and races in words.
+//! Parts of which several texts are built: pieces of bytes and numbers, and races in words.
 //!
-//! What is promised: each call adds exactly the text that its contract gives; where a put fails (F24), a beginning of
-//! it was put. Nothing here takes memory.
+//! What is promised: each call adds exactly the text that its contract states. If a put fails (F24), a beginning of it
+//! was put. Nothing here takes memory.
 
 mod pieces;
 mod race_words;

@@ -1,8 +1,8 @@
-//! What the readers of charts' and schedules' texts share, so that a long text is read quickly.
+//! Shared parts of the readers of charts' and schedules' texts, which read a long text quickly.
 //!
-//! What is promised: a line's end is found many bytes at a time ([`next_line`]), what begins as expected goes on
-//! behind that ([`behind`]), and a word that was read before is known again without a look at each of its bytes
-//! ([`Guesses`]). What a word is, or what is wrong with it, is what `msc_text` says.
+//! What is promised: a line's end is found many bytes at a time ([`next_line`]). Bytes that begin as expected continue
+//! after that ([`behind`]). A word that was read before is recognized without a look at each of its bytes
+//! ([`Guesses`]). What a word is, and what is wrong with it, is defined in `specs/Lines`.
 
 mod guesses;
 mod lines;

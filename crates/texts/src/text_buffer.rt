@@ -1,4 +1,4 @@
-//! Texts that are being written: pieces are held in a buffer and put a buffer at a time.
+//! Texts that are being written: pieces are held in a buffer, which is put when it is full.
 ghost use Rattle.std.specs.Prelude.{◌≡◌, ◌≤◌, ◌<◌, ◌+◌, ◌++◌, [], length, slice_set, decimal};
 ghost use Rattle.texts.specs.declared.held.TheConstants.{BUFFERED};
 ghost use Rattle.std.specs.List.{flat_map};
@@ -12,21 +12,21 @@ use thiserror::Error;
 /// Why a text was not written.
 #[derive(Clone, Copy, Debug, PartialEq, Eq, Error)]
 pub enum WriteError {
-    /// F24: what it is written to failed. A beginning of the text is written.
+    /// F24: the output failed. A beginning of the text was written.
     #[error("the text could not be written: {0}")]
     Put(#[from] OutFault),
 }
 
 /// A text that is being written to an [`Out`], which it borrows until it is dropped. It takes no memory. Pieces are
-/// held until the next one doesn't fit beside them, and are put then and by `finish`: so a text of many short pieces
-/// takes few puts. After an error nothing is held, so that nothing more of the text can be put.
+/// held until the next one doesn't fit, or until `finish`, and are put then. So a text of many short pieces takes few
+/// puts. After an error nothing is held, so nothing more of the text can be put.
 #[derive(Drop)]
 pub struct TextBuffer<'a, W> {
     out: &'a mut W,
     held: Held,
 }
 
-/// Puts all of the bytes, in as many calls as it takes.
+/// Puts all of the bytes, in as many calls as needed.
 fn put_all<W: Out>(out: &mut W, bytes: &[u8]) -> Result<(), WriteError>
     ensures { Wrote W.sink out.old out.new result bytes.now }
 {
@@ -39,7 +39,7 @@ fn put_all<W: Out>(out: &mut W, bytes: &[u8]) -> Result<(), WriteError>
 }
 
 impl<'a, W: Out> TextBuffer<'a, W> {
-    /// A text of which nothing is written yet.
+    /// A text of which nothing has been written yet.
     pub fn new(out: &'a mut W) -> TextBuffer<'a, W>
         ensures out { (result.out.ghost_name ≡ out.entry.ghost_name) × (result.out.now ≡ out.old) }
         ensures empty { result.held ≡ [] }
@@ -66,7 +66,7 @@ impl<'a, W: Out> TextBuffer<'a, W> {
         put_all(self.out, piece)
     }
 
-    /// Adds the piece to the text, with another byte in this place of it.
+    /// Adds the piece to the text, with the byte at this place of it replaced.
     #[inline(always)]
     pub fn add_with(&mut self, piece: &[u8], place: usize, byte: u8) -> Result<(), WriteError>
         requires place { place < length piece.now }
@@ -94,7 +94,7 @@ impl<'a, W: Out> TextBuffer<'a, W> {
         self.add(third)
     }
 
-    /// Adds three pieces to the text, in their order: most often by one look at the room.
+    /// Adds three pieces to the text, in order. Mostly this takes only one check of the room.
     pub fn add_three(&mut self, first: &[u8], second: &[u8], third: &[u8]) -> Result<(), WriteError>
         ensures { Adds W.sink self.old self.new result (first.now ++ (second.now ++ third.now)) }
     {
@@ -111,7 +111,7 @@ impl<'a, W: Out> TextBuffer<'a, W> {
         self.add_one_by_one(first, second, third)
     }
 
-    /// Adds five short pieces to the text, in their order, by one look at the room.
+    /// Adds five short pieces to the text, in order, with one check of the room.
     #[inline(always)]
     pub fn add_five(
         &mut self,
@@ -138,7 +138,7 @@ impl<'a, W: Out> TextBuffer<'a, W> {
         Ok(())
     }
 
-    /// Adds the pieces to the text, in their order.
+    /// Adds the pieces to the text, in order.
     pub fn add_all(&mut self, pieces: &[&[u8]]) -> Result<(), WriteError>
         ensures { Adds W.sink self.old self.new result (flat_map (λ p. p.now) pieces.now) }
     {
@@ -156,7 +156,7 @@ impl<'a, W: Out> TextBuffer<'a, W> {
         self.add(buffer.format(number).as_bytes())
     }
 
-    /// Puts all that is held.
+    /// Puts all bytes that are held.
     pub fn finish(&mut self) -> Result<(), WriteError>
         ensures wrote { Wrote W.sink self.old.out.now self.new.out.now result self.old.held }
         ensures empty { self.new.held ≡ [] }

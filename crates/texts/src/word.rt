@@ -7,7 +7,8 @@ use crate::fault::Cause;
 use crate::lines::cut_at;
 use chart::Name;
 
-/// The words of a line that has few. A word may be empty, where two spaces stand beside one another.
+/// The words of a line with few words. A word may be empty: between two adjacent spaces, or beside a space at an end of
+/// the line.
 #[derive(Clone, Copy, Debug)]
 pub enum Words<'a> {
     One(&'a [u8]),

@@ -7,7 +7,7 @@ ghost use Rattle.texts.specs.Bytes.Words.{is_spelled};
 
 use crate::bytes::{is_blank, is_spelled};
 
-/// The place of the first byte that is no blank.
+/// The place of the first byte that isn't a blank.
 fn first_other(bytes: &[u8]) -> Option<usize>
     ensures value { result ≡ position (λ b. not (is_blank b)) bytes.now }
     ensures within { IfSome result (λ place. place < length bytes.now) }
@@ -15,7 +15,7 @@ fn first_other(bytes: &[u8]) -> Option<usize>
     bytes.iter().position(|byte| !is_blank(*byte))
 }
 
-/// With how many blanks the bytes begin.
+/// The number of blanks at the beginning of the bytes.
 #[tactic(auto, unfolding(crate::specs::Words::blank_length))]
 pub fn blank_length(bytes: &[u8]) -> usize
     ensures value { result ≡ blank_length bytes.now }
@@ -27,7 +27,7 @@ pub fn blank_length(bytes: &[u8]) -> usize
     }
 }
 
-/// What stands behind the blanks with which the bytes begin.
+/// The bytes after the blanks at their beginning.
 #[tactic(auto, unfolding(crate::specs::Words::behind_blanks))]
 pub fn behind_blanks(bytes: &[u8]) -> &[u8]
     ensures value { result.now ≡ behind_blanks bytes.now }
@@ -36,7 +36,7 @@ pub fn behind_blanks(bytes: &[u8]) -> &[u8]
     &bytes[blank_length(bytes)..]
 }
 
-/// How many bytes are kept with the byte at this place, where so many before it are.
+/// The number of bytes that are kept with the byte at this place, if `so_far` of those before it are.
 fn kept_with(so_far: usize, place: usize, byte: u8) -> usize
     requires { place + 1 < 2 ^ 64 }
     ensures { result ≡ (if is_blank byte then so_far else place + 1) }
@@ -44,7 +44,7 @@ fn kept_with(so_far: usize, place: usize, byte: u8) -> usize
     if is_blank(byte) { so_far } else { place + 1 }
 }
 
-/// How many bytes stand up to the last one that is no blank.
+/// The number of bytes up to the last one that isn't a blank.
 #[tactic(auto, using(crate::proofs::ByteLoops::kept_next, crate::proofs::ByteLoops::kept_all))]
 fn kept(bytes: &[u8]) -> usize
     ensures value { result ≡ kept bytes.now }
@@ -57,7 +57,7 @@ fn kept(bytes: &[u8]) -> usize
     so_far
 }
 
-/// The bytes without the blanks behind the last one that is none.
+/// The bytes without the blanks after the last other byte.
 #[tactic(auto, unfolding(crate::specs::Words::end_stripped))]
 pub fn end_stripped(bytes: &[u8]) -> &[u8]
     ensures value { result.now ≡ end_stripped bytes.now }
@@ -66,7 +66,7 @@ pub fn end_stripped(bytes: &[u8]) -> &[u8]
     &bytes[..kept(bytes)]
 }
 
-/// The bytes without the blanks at their ends.
+/// The bytes without the blanks at both ends.
 #[tactic(auto, unfolding(crate::specs::Words::stripped))]
 pub fn stripped(bytes: &[u8]) -> &[u8]
     ensures value { result.now ≡ stripped bytes.now }
@@ -75,7 +75,7 @@ pub fn stripped(bytes: &[u8]) -> &[u8]
     end_stripped(behind_blanks(bytes))
 }
 
-/// Whether the bytes begin with this word, in any letters.
+/// Whether the bytes begin with this word. ASCII case is ignored.
 #[tactic(auto, unfolding(crate::specs::Words::begins))]
 pub fn begins(known: &[u8], bytes: &[u8]) -> bool
     ensures value { result ≡ begins known.now bytes.now }
@@ -84,7 +84,7 @@ pub fn begins(known: &[u8], bytes: &[u8]) -> bool
     known.len() <= bytes.len() && is_spelled(known, &bytes[..known.len()])
 }
 
-/// What stands behind this word, if the bytes begin with it, in any letters.
+/// The bytes after this word, if they begin with it. ASCII case is ignored.
 #[tactic(auto, unfolding(crate::specs::Words::behind_word))]
 pub fn behind_word<'a>(known: &[u8], bytes: &'a [u8]) -> Option<&'a [u8]>
     ensures rest { Finds (λ rest. rest.now) result (behind_word known.now bytes.now) }
@@ -97,7 +97,7 @@ pub fn behind_word<'a>(known: &[u8], bytes: &'a [u8]) -> Option<&'a [u8]>
     }
 }
 
-/// Whether nothing or a blank comes next.
+/// Whether the bytes are empty or begin with a blank.
 pub fn ends_word(bytes: &[u8]) -> bool
     ensures { result ≡ ends_word bytes.now }
 {
@@ -107,14 +107,14 @@ pub fn ends_word(bytes: &[u8]) -> bool
     }
 }
 
-/// A comma.
+/// Whether the byte is a comma.
 pub fn is_comma(byte: u8) -> bool
     ensures { result ≡ is_comma byte }
 {
     byte == b','
 }
 
-/// Whether a blank comes next.
+/// Whether the bytes begin with a blank.
 pub fn begins_blank(bytes: &[u8]) -> bool
     ensures { result ≡ begins_blank bytes.now }
 {
@@ -124,7 +124,7 @@ pub fn begins_blank(bytes: &[u8]) -> bool
     }
 }
 
-/// What stands behind this word, if the bytes begin with it and nothing or a blank comes next.
+/// The bytes after this word, if they begin with it, and nothing or a blank follows it. ASCII case is ignored.
 #[tactic(auto, unfolding(crate::specs::Words::behind_keyword))]
 pub fn behind_keyword<'a>(known: &[u8], bytes: &'a [u8]) -> Option<&'a [u8]>
     ensures rest { Finds (λ rest. rest.now) result (behind_keyword known.now bytes.now) }
@@ -136,7 +136,8 @@ pub fn behind_keyword<'a>(known: &[u8], bytes: &'a [u8]) -> Option<&'a [u8]>
     }
 }
 
-/// What stands behind the first of these words that the bytes begin with, where nothing or a blank comes next.
+/// The bytes after the first of these words with which they begin, and which nothing or a blank follows. ASCII case is
+/// ignored.
 pub fn behind_keyword_of<'a>(words: &[&[u8]], bytes: &'a [u8]) -> Option<&'a [u8]>
     ensures rest { Finds (λ rest. rest.now) result (behind_keyword_of (map (λ known. known.now) words.now) bytes.now) }
     ensures within { IfSome result (λ rest. length rest.now ≤ length bytes.now) }
@@ -149,7 +150,7 @@ pub fn behind_keyword_of<'a>(words: &[&[u8]], bytes: &'a [u8]) -> Option<&'a [u8
     None
 }
 
-/// What stands behind this word if it comes next, in any letters; else the bytes.
+/// The bytes after this word, if they begin with it; otherwise all bytes. ASCII case is ignored.
 #[tactic(auto, unfolding(crate::specs::Words::skip_word))]
 pub fn skip_word<'a>(known: &[u8], bytes: &'a [u8]) -> &'a [u8]
     ensures rest { result.now ≡ skip_word known.now bytes.now }
@@ -161,7 +162,7 @@ pub fn skip_word<'a>(known: &[u8], bytes: &'a [u8]) -> &'a [u8]
     }
 }
 
-/// The place of the first byte that is this one.
+/// The place of the first occurrence of this byte.
 pub fn first_place(known: u8, bytes: &[u8]) -> Option<usize>
     ensures value { result ≡ first_place known bytes.now }
     ensures within { IfSome result (λ place. place < length bytes.now) }
@@ -177,7 +178,7 @@ pub fn begins_with(bytes: &[u8], known: &[u8]) -> bool
     bytes.starts_with(known)
 }
 
-/// The place where these bytes first stand.
+/// The place of the first occurrence of the known bytes.
 #[tactic(auto, unfolding(crate::specs::Words::place_of), using(crate::proofs::ByteLoops::moved_on))]
 pub fn place_of(known: &[u8], bytes: &[u8]) -> Option<usize>
     ensures value { result ≡ place_of known.now bytes.now }

@@ -1,4 +1,4 @@
--- What was left by a legal history, carried over: it is legal again, and leaves each lane as it was.
+-- What a legal history left, carried over: the carried history is legal too, and leaves each lane as it was.
 use Rattle.std.proofs.Common.{◌≡◌, ℕ, ◌+◌, ◌<◌, ◌≤◌, ◌==◌, ◌||◌, ⊎_elim, Bool, true, false, cond, List, [], ◌∷◌, ◌++◌, length, map, drop, refl, sym, ap, ◌∙◌, subst, subst₂, arith, append-nil, length-append, length-drop}
 use Rattle.std.specs.Prelude.{filter}
 use Rattle.std.proofs.lemmas.Bool.{false≢true, true≢false, eqb-true, and_parts}
@@ -16,7 +16,7 @@ use Rattle.board.specs.LongRuns.CarriedHistories.{sends_again, all_again, carrie
 use Rattle.board.proofs.LongRunsLemmas.LaneCounts.{is_it, one_if, times, one_there, none_there, lane_is, once, never_twice, times-filter}
 use Rattle.board.proofs.LongRunsLemmas.PostedSends.{again_first, sent-sends, sent-closes, received-closes, closed-none, closed-some, line-again, line-closes, ArePosted, posted-sends, received-posted, open-posted, legal-posted, AreLanes, legal-closes}
 
--- Of any legal history: a lane that was used is between two of its instances.
+-- In any legal history, a lane that was used is between two of its instances.
 
 pub two-sent : (n k : ℕ) (h : List Occurrence) → IsLegal n k h → (q p : ℕ) → 0 < length (sent h q p) → AreTwo n q p
 two-sent n k [] legal q p some = absurd (omega (arith, some))
@@ -38,7 +38,7 @@ two-closed n k (Close a b ∷ h) legal q p closed = go (is_lane a b q p) refl cl
     go true same closed before = let ends = and_parts (a == q) (b == p) same in subst₂ (λ x y. AreTwo n x y) (eqb-true a q ends.0) (eqb-true b p ends.1) legal.0.0
     go false same closed before = before closed
 
--- on each lane wait no more messages than it has slots
+-- no more messages wait on a lane than it has slots
 sent-few : (n k : ℕ) (h : List Occurrence) → IsLegal n k h → (q p : ℕ) → length (sent h q p) ≤ received h q p + k
 sent-few n k [] legal q p = omega arith
 sent-few n k (Send a b m ∷ h) legal q p = go (is_lane a b q p) refl (sent-few n k h legal.1 q p)
@@ -72,7 +72,7 @@ none-waits h q p none = go (waiting h q p) (⊎_elim (λ its. absurd (true≢fal
     go [] empty = refl
     go (m ∷ ms) empty = absurd (omega (arith, empty))
 
--- What an instance sent to several lanes, each once, stands on its line.
+-- What an instance sent on several lanes, each listed once, is on its line.
 
 abbrev sent_over : List Occurrence → ℕ → List LaneEnds → ℕ
 sent_over h p [] = 0
@@ -93,7 +93,7 @@ sent_over-same h g p (lane ∷ lanes) same =
     let here = ap (λ (ms : List Content). cond (lane.sender == p) (length ms) 0) (same lane.sender lane.receiver) in
     omega (arith, before, here)
 
--- a send counts once for each time that its lane is among them
+-- a send counts once for each time that its lane is in the list
 module _ (h : List Occurrence) (a b : ℕ) (m : Content) (p : ℕ) where
   one_send : (lane : LaneEnds) → cond (lane.sender == p) (length (sent (Send a b m ∷ h) lane.sender lane.receiver)) 0 ≤ cond (lane.sender == p) (length (sent h lane.sender lane.receiver)) 0 + cond (a == p) (one_if (is_it a b lane)) 0
   one_send lane = go (is_lane a b lane.sender lane.receiver) refl
@@ -153,7 +153,7 @@ sent_over-le n k (Close a b ∷ h) p lanes few =
     let same = sent_over-same h (Close a b ∷ h) p lanes (λ q r. refl) in
     omega (arith, before, same, length-append (chart_of h p) [])
 
--- so an instance sends no more of them again than stand on its line
+-- so an instance sends no more of these messages again than its line has sends
 again-le : (h : List Occurrence) (p : ℕ) (kind : LaneEnds → Bool) (lanes : List LaneEnds) → sent_again_by p (map (left_on h) (filter kind lanes)) ≤ sent_over h p lanes
 again-le h p kind [] = omega arith
 again-le h p kind (lane ∷ lanes) = go (kind lane) (lane.sender == p) (again-le h p kind lanes)
@@ -203,7 +203,7 @@ again-once h q p (lane ∷ lanes) g one =
         later (omega (arith, one, none))
         ∙ ap (λ ms. ms ++ waiting h q p) (front ∙ ap (λ its. sent g q p ++ cond its (waiting h lane.sender lane.receiver) []) same ∙ append-nil (sent g q p))
 
--- The carried history of what was left by a legal one, on lanes of at least as many slots.
+-- The carried history of what a legal one left, on lanes of at least as many slots.
 module _ (n slots k : ℕ) (h : List Occurrence) (legal : IsLegal n slots h) (within : slots ≤ k) (short : (p : ℕ) → length (chart_of h p) ≤ MAX_EVENTS) where
   abbrev left : List LeftView
   left = map (left_on h) (waiting_lanes n h)
@@ -220,7 +220,7 @@ module _ (n slots k : ℕ) (h : List Occurrence) (legal : IsLegal n slots h) (wi
   whole : again ++ [] ≡ again
   whole = append-nil again
 
-  -- what is sent again on a lane is what waited there
+  -- the messages sent again on a lane are those that waited there
   sent_again : (q p : ℕ) → sent again q p ≡ waiting h q p
   sent_again q p = ap (λ f. sent f q p) (sym whole) ∙ go (is_waiting h (lane_to q p)) refl
     where

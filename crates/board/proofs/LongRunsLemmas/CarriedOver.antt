@@ -1,4 +1,4 @@
--- All of carrying over: from posts by which nothing was made yet to posts that have seen just the carried history.
+-- Carrying over as a whole: from posts that made nothing yet to posts that have seen exactly the carried history.
 use Rattle.std.proofs.Common.{◌≡◌, ℕ, zero, suc, ◌+◌, ◌<◌, ◌≤◌, List, [], ◌∷◌, ◌++◌, length, map, get_or, refl, sym, ap, ◌∙◌, subst, arith, append-nil}
 use Rattle.std.specs.Prelude.{slice_get, None, Some}
 use Rattle.std.specs.List.{range_with_len}
@@ -29,7 +29,7 @@ none_there x never = cc
 some_one : {X : Type 0} (x y : X) → Some x ≡ Some y → x ≡ y
 some_one x y same = cc
 
--- Of what was left.
+-- What was left.
 
 pub were_legal : (n k : ℕ) (left : List LeftView) (closed : List LaneEnds) → WereLeft n k left closed → IsLegal n k (carried_history left closed)
 were_legal n k left closed were =
@@ -106,7 +106,7 @@ may_again left closed old new may more i y at_y =
       were = subst (λ (b : BoardView). WereLeft b.size b.capacity left closed) (sym (ap (λ (post : PostView). post.board) rest)) its.were;
     }
 
--- how many sends are told for an instance
+-- the number of sends that the list has for an instance
 pub at_number : (f : ℕ → ℕ) (a n i many : ℕ) → slice_get (map f (range_with_len a n)) i ≡ Some many → many ≡ f (a + i)
 at_number f a zero i many at = absurd (none_there many at)
 at_number f a (suc n) zero many at = let same : a ≡ a + 0 = omega arith in sym (some_one (f a) many at) ∙ ap f same
@@ -116,8 +116,8 @@ all_there : (posts : List PostView) (x : PostView) → slice_get posts 0 ≡ Som
 all_there [] x at all number low high = absurd all
 all_there (y ∷ posts) x at all number low high = all number low (subst (λ (z : PostView). number ≤ z.board.size) (sym (some_one y x at)) high)
 
--- What is carried over, from the posts as they came (old), with room for their sends (now), when they had met (met), to
--- what they are then.
+-- What is carried over: the posts as they came (old), with room for their sends (now), after they had met (met), and at
+-- the end (new).
 module _ (old now met new : List PostView) (x : PostView) (left : List LeftView) (closed : List LaneEnds) (sends : List ℕ)
     (at : slice_get old 0 ≡ Some x) (one : AreOfOneBoard old) (all : AreAll old) (may : MayAllCarry left closed old)
     (counted : sends ≡ map (λ p. sent_again_by p left) (range_with_len 1 x.board.size)) (reserved : HaveReserved sends old now) where
@@ -166,7 +166,7 @@ module _ (old now met new : List PostView) (x : PostView) (left : List LeftView)
         (i, z, at_z, ap (λ (post : PostView). post.number) (reserved.each i y z there at_z).rest ∙ its);
   }
 
-  -- each has room for its sends
+  -- each post has room for its sends
   place_room : HaveRoom g now
   place_room i z at_z =
       let o = origin i z at_z in
@@ -186,7 +186,7 @@ module _ (old now met new : List PostView) (x : PostView) (left : List LeftView)
         let o = origin i z at_z in
         ap (own h) (sym its) ∙ (meeting.joint i z at_z).own ∙ ap (λ (post : PostView). post.made) o.its.rest ∙ (may i o.from o.there).untouched.made
 
-    -- nothing was done before
+    -- nothing was made before
     nothing : h ≡ []
     nothing =
         let within : 0 < length now = let lt = at_within old 0 x at in omega (arith, lt, reserved.as_many) in

@@ -13,7 +13,7 @@ chart_longer (e ∷ more) h p =
     let before = chart_longer more h p in
     omega (arith, before, length-append (chart_of (more ++ h) p) (line_gets (more ++ h) p e))
 
--- they may go on by what the whole history has next
+-- the posts may go on by the next part of the whole history
 pub may_next : (n k : ℕ) (h f g whole : List Occurrence) (old first posts : List PostView) → MayGoOn n k h whole old first → AreOn n k f old posts → Begins g whole → MayGoOn n k f g old posts
 may_next n k h f g whole old first posts go on begins = record {
   on = on;
@@ -24,13 +24,13 @@ may_next n k h f g whole old first posts go on begins = record {
       omega (arith, room, longer);
 }
 
--- a list, by what of it came so far, what comes now, and the rest
+-- a list: the part so far, the current element, and the rest
 pub parted_at : {X Y : Type 0} (f : X → Y) (xs : List X) (i : ℕ) (x : X) → i < length xs → x ≡ get_or xs i x → map f xs ≡ map f (take i xs) ++ (f x ∷ map f (drop (suc i) xs))
 parted_at f [] i x within is = absurd (omega (arith, within))
 parted_at f (y ∷ xs) zero x within is = ap (λ z. f z ∷ map f xs) (sym is)
 parted_at f (y ∷ xs) (suc i) x within is = ap (λ zs. f y ∷ zs) (parted_at f xs i x (omega (arith, within)) is)
 
--- a list has no more where its length says so
+-- a list of length 0 is empty
 pub nothing_left : {X : Type 0} (xs : List X) → length xs ≡ 0 → xs ≡ []
 nothing_left [] none = refl
 nothing_left (x ∷ xs) none = absurd (omega (arith, none))

@@ -31,25 +31,25 @@ none_there y never = cc
 some_one : (x y : PostView) → Some x ≡ Some y → x ≡ y
 some_one x y same = cc
 
--- what was put at a place is there
+-- the element that was put at a place is there
 set_there : (xs : List PostView) (i : ℕ) (e : PostView) → i < length xs → slice_get (set xs i e) i ≡ Some e
 set_there [] i e within = absurd (omega arith)
 set_there (x ∷ xs) zero e within = refl
 set_there (x ∷ xs) (suc i) e within = set_there xs i e (omega arith)
 
--- what is there in a mapped list comes of what was there
+-- an element of a mapped list is the image of one at the same place
 pub map_there : (f : PostView → PostView) (xs : List PostView) (j : ℕ) (y : PostView) → slice_get (map f xs) j ≡ Some y → (x : PostView) × (slice_get xs j ≡ Some x) × (f x ≡ y)
 map_there f [] j y at = absurd (none_there y at)
 map_there f (x ∷ xs) zero y at = (x, refl, some_one (f x) y at)
 map_there f (x ∷ xs) (suc j) y at = map_there f xs j y at
 
--- what is read at a place is there
+-- the element that is read at a place is there
 pub indexed : (posts : List PostView) (i : ℕ) (r x : PostView) (s : ℕ) → slice_get posts i ≡ Some x → x.number ≡ s → (slice_get posts i ≡ Some (get_or posts i r)) × ((get_or posts i r).number ≡ s)
 indexed posts i r x s at number =
     let there = slice_get-get_or posts i r (at_within posts i x at) in
     (there, ap (λ (post : PostView). post.number) (one_ahead posts i (get_or posts i r) x there at) ∙ number)
 
--- what the post at a place has come from
+-- what the post at a place was at first
 pub record HasCome (n k : ℕ) (h : List Occurrence) (old : List PostView) (i : ℕ) (y : PostView) : Type 0 where
   pub from : PostView
   pub at : slice_get old i ≡ Some from
@@ -81,7 +81,7 @@ module _ (n k : ℕ) (h : List Occurrence) (old posts : List PostView) (on : Are
       let b = come j y at_j in
       a.carried.same.board ∙ on.are.one i j a.from b.from a.at b.at ∙ sym b.carried.same.board
 
--- A post of these that may send isn't refused.
+-- A post that may send isn't refused.
 pub not_refused : (n k : ℕ) (h : List Occurrence) (s r : ℕ) (m : Content) (x y z : PostView) (error : SendError) → y.number ≡ s → y.board.size ≡ n → y.board.capacity ≡ k → y.seen ≡ h → y.made ≡ own h s → y.region ≡ 0
     → MayFollow n k h (Send s r m) → Sound y z → Stays y z → (error ≡ Memory → ⊥) → IsUnsent y r 1 error z → ⊥
 not_refused n k h s r m x y z NoSuchInstance number size capacity seen made region may sound stays memory why = omega (arith, why, size, may.0.3)
@@ -101,14 +101,14 @@ not_refused n k h s r m x y z Full number size capacity seen made region may sou
     omega (arith, why.3.before, ap length line, capacity, may.2)
 not_refused n k h s r m x y z Memory number size capacity seen made region may sound stays memory why = memory refl
 
--- A lane that may be closed is.
+-- A post that may close a lane isn't refused.
 pub closes : (n k : ℕ) (h : List Occurrence) (s r : ℕ) (y : PostView) (error : CloseError) → y.number ≡ s → y.board.size ≡ n → y.made ≡ own h s → MayFollow n k h (Close s r) → IsUnclosed y r error → ⊥
 closes n k h s r y unclosed.NoSuchInstance number size made may why = omega (arith, why, size, may.0.3)
 closes n k h s r y unclosed.ToItself number size made may why = may.0.4 (sym number ∙ sym why)
 closes n k h s r y unclosed.Closed number size made may why =
     false≢true (sym may.1 ∙ sym (closed_own h s r) ∙ ap (λ g. is_closed g s r) (sym made) ∙ ap (λ p. is_closed y.made p r) (sym number) ∙ why.1)
 
--- One post made an event, and all have met.
+-- One post made an event, and all posts have met.
 module _ (n k : ℕ) (h : List Occurrence) (e : Occurrence) (s : ℕ) (old posts now new : List PostView) (on : AreOn n k h old posts) (i : ℕ) (y w : PostView) (at : slice_get posts i ≡ Some y) (number : y.number ≡ s)
     (before : List Occurrence) (sound : Sound y w) (makes : Makes y before (e ∷ []) w) (its : by e ≡ s) (put : now ≡ set posts i w) where
   y_from : HasCome n k h old i y
@@ -120,7 +120,7 @@ module _ (n k : ℕ) (h : List Occurrence) (e : Occurrence) (s : ℕ) (old posts
   pub others_there : (j : ℕ) (z : PostView) → (j ≡ i → ⊥) → slice_get now j ≡ Some z → slice_get posts j ≡ Some z
   others_there j z ne there = sym (set_apart posts i j w ne) ∙ ap (λ xs. slice_get xs j) (sym put) ∙ there
 
-  -- each of them is of the board, and has seen what the one has that made the event
+  -- each of these posts is of the board, and has seen no more than the post that made the event
   w_begins : Begins h w.seen
   w_begins = subst (λ g. Begins g w.seen) y_from.carried.seen sound.later
 
@@ -143,7 +143,7 @@ module _ (n k : ℕ) (h : List Occurrence) (e : Occurrence) (s : ℕ) (old posts
     ],
   )
 
-  -- Their one history is the one before and the event, and nothing else.
+  -- Their common history is the one before with the event, and nothing else.
   module _ (met : HaveMet now new) where
     abbrev g : List Occurrence
     g = met.history
@@ -160,7 +160,7 @@ module _ (n k : ℕ) (h : List Occurrence) (e : Occurrence) (s : ℕ) (old posts
     mine : own g s ≡ e ∷ own h s
     mine = ap (own g) (sym w_number) ∙ w_joint.own ∙ makes.made ∙ ap (λ x. e ∷ x) (y_from.carried.made ∙ ap (own h) number)
 
-    -- what another made is as before
+    -- the events of another post are as before
     its_own : (j : ℕ) (z : PostView) → (j ≡ i → ⊥) → slice_get posts j ≡ Some z → own g z.number ≡ own h z.number
     its_own j z ne there = (met.joint j z (ap (λ xs. slice_get xs j) put ∙ set_apart posts i j w ne ∙ there)).own ∙ (come n k h old posts on j z there).carried.made
 
@@ -213,7 +213,7 @@ module _ (n k : ℕ) (h : List Occurrence) (e : Occurrence) (s : ℕ) (old posts
 grown : (h : List Occurrence) (s r : ℕ) (m : Content) → length (chart_of (Send s r m ∷ h) s) ≡ length (chart_of h s) + 1
 grown h s r m = ap length (ap (λ b. chart_of h s ++ cond b (send_event r m.name ∷ []) []) (eq-eqb s s refl)) ∙ length-append (chart_of h s) (send_event r m.name ∷ [])
 
--- The sender of the next message isn't refused, and then they have gone on by it.
+-- The sender of the next message isn't refused, and then the posts have gone on by this send.
 module _ (n k : ℕ) (h : List Occurrence) (s r : ℕ) (m : Content) (old posts : List PostView) (go : MayGoOn n k h (Send s r m ∷ h) old posts) (i : ℕ) (y : PostView) (at : slice_get posts i ≡ Some y) (number : y.number ≡ s) where
   y_come : HasCome n k h old i y
   y_come = come n k h old posts go.on i y at
@@ -236,7 +236,7 @@ module _ (n k : ℕ) (h : List Occurrence) (s r : ℕ) (m : Content) (old posts 
       goes_on n k h (Send s r m) s old posts now new go.on i y w at number before sound makes refl put met go.on.unreceived
       (λ x was. let line = ap (λ p. length (chart_of h p)) number in let more = grown h s r m in omega (arith, room, was, line, more))
 
--- And so it is with the next close.
+-- The same holds for the next close.
 module _ (n k : ℕ) (h : List Occurrence) (s r : ℕ) (old posts : List PostView) (go : MayGoOn n k h (Close s r ∷ h) old posts) (i : ℕ) (y : PostView) (at : slice_get posts i ≡ Some y) (number : y.number ≡ s) where
   closing : HasCome n k h old i y
   closing = come n k h old posts go.on i y at

@@ -1,4 +1,4 @@
--- How often a lane is among lanes.
+-- How often a lane is in a list of lanes.
 use Rattle.std.proofs.Common.{◌≡◌, ◌≢◌, ℕ, zero, suc, ◌+◌, ◌<◌, ◌≤◌, ◌==◌, ◌⊎◌, inl, inr, ⊎_elim, Bool, true, false, cond, List, [], ◌∷◌, ◌++◌, map, refl, sym, ap, ap₂, ◌∙◌, arith}
 use Rattle.std.specs.Prelude.{filter}
 use Rattle.std.specs.List.{range_with_len, flat_map}
@@ -8,7 +8,7 @@ use Rattle.chart.specs.Histories.{is_lane}
 use Rattle.chart.proofs.Histories.{is_lane-same, is_lane-from, is_lane-to}
 use Rattle.board.specs.Gathering.{LaneEnds, lane_to, lanes_of, all_lanes}
 
--- it is the lane from q to p
+-- the lane is the one from q to p
 abbrev pub is_it : ℕ → ℕ → LaneEnds → Bool
 is_it q p lane = is_lane lane.sender lane.receiver q p
 
@@ -16,7 +16,7 @@ abbrev pub one_if : Bool → ℕ
 one_if true = 1
 one_if false = 0
 
--- how often the lane from q to p is among these
+-- how often the lane from q to p is in the list
 abbrev pub times : ℕ → ℕ → List LaneEnds → ℕ
 times q p [] = 0
 times q p (lane ∷ lanes) = one_if (is_it q p lane) + times q p lanes
@@ -25,7 +25,7 @@ pub times-append : (q p : ℕ) (xs ys : List LaneEnds) → times q p (xs ++ ys) 
 times-append q p [] ys = omega arith
 times-append q p (x ∷ xs) ys = let before = times-append q p xs ys in omega (arith, before)
 
--- the ends of a lane that is it
+-- the ends of such a lane
 pub lane_is : (q p : ℕ) (lane : LaneEnds) → is_it q p lane ≡ true → lane ≡ lane_to q p
 lane_is q p lane its =
     let ends = and_parts (lane.sender == q) (lane.receiver == p) its in
@@ -41,7 +41,7 @@ at_most_one : (b : Bool) → one_if b ≤ 1
 at_most_one true = omega arith
 at_most_one false = omega arith
 
--- Among all lanes each is once.
+-- The list of all lanes has each lane once.
 
 abbrev row : ℕ → ℕ → ℕ → List LaneEnds
 row s a many = map (lane_to s) (range_with_len a many)
@@ -136,7 +136,7 @@ once q p n q_first q_last p_first p_last = rows_in q p n 1 n p_first p_last q_fi
 pub never_twice : (q p n : ℕ) → times q p (all_lanes n) ≤ 1
 never_twice q p n = rows_few q p n 1 n
 
--- Those of some kind are as often among the lanes of this kind.
+-- A lane of some kind is as often in the list of all lanes of this kind.
 pub times-filter : (kind : LaneEnds → Bool) (q p : ℕ) (lanes : List LaneEnds) → times q p (filter kind lanes) ≡ cond (kind (lane_to q p)) (times q p lanes) 0
 times-filter kind q p [] = go (kind (lane_to q p))
   where

@@ -1,4 +1,4 @@
--- Histories that end in sends of messages that were left, and in closes.
+-- Histories that end with sends of messages that were left, and with closes.
 use Rattle.std.proofs.Common.{◌≡◌, ℕ, ◌+◌, ◌≤◌, ◌==◌, ◌||◌, Bool, true, false, cond, List, [], ◌∷◌, ◌++◌, length, map, refl, sym, ap, ◌∙◌, subst, arith, append_assoc, append-nil, length-append, length-drop}
 use Rattle.std.proofs.lemmas.Bool.{eq-eqb}
 use Rattle.std.proofs.lemmas.List.{reverse-append, length_push}
@@ -15,7 +15,7 @@ use Rattle.board.specs.Sending.{sends_of}
 use Rattle.board.specs.LongRuns.CarriedHistories.{sends_again, all_again, closes_again, sent_again_by}
 use Rattle.board.proofs.LongRunsLemmas.LaneCounts.{is_it, one_if, times, one_there, none_there}
 
--- One more at the front of what is sent or closed comes first, as in the list.
+-- One more send or close at the front of the list is the first to come.
 
 pub sends_first : (s r : ℕ) (m : Content) (ms : List Content) (h : List Occurrence) → sends_of s r (m ∷ ms) ++ h ≡ sends_of s r ms ++ Send s r m ∷ h
 sends_first s r m ms h =
@@ -31,7 +31,7 @@ closes_first lane lanes h =
 pub again_first : (left : LeftView) (more : List LeftView) (h : List Occurrence) → all_again (left ∷ more) ++ h ≡ all_again more ++ (sends_again left ++ h)
 again_first left more h = append_assoc (all_again more) (sends_again left) h
 
--- And one in the middle comes in the middle.
+-- One in the middle of the list comes in the middle.
 
 pub sends_split : (s r : ℕ) (xs rest : List Content) (m : Content) (h : List Occurrence) → sends_of s r (xs ++ m ∷ rest) ++ h ≡ sends_of s r rest ++ (Send s r m ∷ (sends_of s r xs ++ h))
 sends_split s r [] rest m h = sends_first s r m rest h
@@ -69,7 +69,7 @@ pub sent-closes : (lanes : List LaneEnds) (q p : ℕ) (h : List Occurrence) → 
 sent-closes [] q p h = refl
 sent-closes (lane ∷ lanes) q p h = ap (λ g. sent g q p) (closes_first lane lanes h) ∙ sent-closes lanes q p (Close lane.sender lane.receiver ∷ h)
 
--- Nothing is received by it.
+-- Nothing is received.
 
 pub received-sends : (s r q p : ℕ) (ms : List Content) (h : List Occurrence) → received (sends_of s r ms ++ h) q p ≡ received h q p
 received-sends s r q p [] h = refl
@@ -95,7 +95,7 @@ closed-again [] q p h = refl
 closed-again (left ∷ more) q p h =
     ap (λ g. is_closed g q p) (again_first left more h) ∙ closed-again more q p (sends_again left ++ h) ∙ closed-sends left.lane.sender left.lane.receiver q p left.messages h
 
--- a lane that isn't among these stays as it was
+-- a lane that isn't in the list stays as it was
 pub closed-none : (lanes : List LaneEnds) (q p : ℕ) (h : List Occurrence) → times q p lanes ≡ 0 → is_closed (closes_again lanes ++ h) q p ≡ is_closed h q p
 closed-none [] q p h none = refl
 closed-none (lane ∷ lanes) q p h none =
@@ -105,7 +105,7 @@ closed-none (lane ∷ lanes) q p h none =
     go true same = let one = one_there q p lane same in absurd (omega (arith, none, one))
     go false same = refl
 
--- and one that is among them is closed
+-- a lane in the list is closed
 pub closed-some : (lanes : List LaneEnds) (q p : ℕ) (h : List Occurrence) → 1 ≤ times q p lanes → is_closed (closes_again lanes ++ h) q p ≡ true
 closed-some [] q p h some = absurd (omega (arith, some))
 closed-some (lane ∷ lanes) q p h some = ap (λ g. is_closed g q p) (closes_first lane lanes h) ∙ go (is_it q p lane) refl (λ more. closed-some lanes q p (Close lane.sender lane.receiver ∷ h) more)
@@ -117,7 +117,7 @@ closed-some (lane ∷ lanes) q p h some = ap (λ g. is_closed g q p) (closes_fir
     go true same later = closed_begins next (closes_again lanes ++ next) (closes_again lanes, refl) q p (ap (λ b. b || is_closed h q p) same)
     go false same later = let none = none_there q p lane same in later (omega (arith, some, none))
 
--- How long the lines get.
+-- The lengths of the lines.
 
 abbrev if_sender : ℕ → ℕ → ℕ → ℕ
 if_sender s p many = cond (s == p) many 0
@@ -146,7 +146,7 @@ pub line-closes : (lanes : List LaneEnds) (p : ℕ) (h : List Occurrence) → ch
 line-closes [] p h = refl
 line-closes (lane ∷ lanes) p h = ap (λ g. chart_of g p) (closes_first lane lanes h) ∙ line-closes lanes p (Close lane.sender lane.receiver ∷ h) ∙ append-nil (chart_of h p)
 
--- Sends alone, few enough for each lane and line, are a legal history.
+-- A history of sends only is legal if they are few enough for each lane and line.
 
 abbrev pub ArePosted : ℕ → List Occurrence → Type 0
 ArePosted n [] = Unit {0}
@@ -189,7 +189,7 @@ legal-posted n k (Send a b m ∷ h) posted few short =
 legal-posted n k (Receive a b c ∷ h) posted few short = absurd posted
 legal-posted n k (Close a b ∷ h) posted few short = absurd posted
 
--- Lanes that are open, each once, may be closed.
+-- Open lanes, each listed once, may be closed.
 abbrev pub AreLanes : ℕ → List LaneEnds → Type 0
 AreLanes n [] = Unit {0}
 AreLanes n (lane ∷ lanes) = AreTwo n lane.sender lane.receiver × AreLanes n lanes

@@ -14,7 +14,7 @@ use Rattle.board.specs.LongRuns.CarryingSteps.{HasReserved, HaveReserved, AreRes
 use Rattle.board.proofs.LongRunsLemmas.CarriedLanes.{again_by-append}
 use Rattle.board.proofs.LongRunsLemmas.CarryingLoops.{parted_at}
 
--- One lane more.
+-- One more lane.
 module _ (p : ℕ) (left : List Left) (i : ℕ) (lane : Left) (within : i < length left) (is : lane ≡ get_or left i lane) where
   pub counted_next : sent_again_by p (map left_view (take (i + 1) left)) ≡ sent_again_by p (map left_view (take i left)) + cond (lane.sender == p) (length lane.messages.items) 0
   counted_next =
@@ -29,7 +29,7 @@ module _ (p : ℕ) (left : List Left) (i : ℕ) (lane : Left) (within : i < leng
       let sum = again_by-append p (map left_view (take i left)) (left_view lane ∷ map left_view (drop (suc i) left)) in
       omega (arith, cut, sum)
 
--- One post more.
+-- One more post.
 
 pub none_reserved : (sends : List ℕ) (posts : List PostView) → AreReserved sends 0 posts posts
 none_reserved sends posts = record { as_many = refl; each = λ i x y lt at_x at_y. absurd (omega (arith, lt)); others = λ i le. refl }
@@ -64,7 +64,7 @@ reserved_all sends old now i so all = record {
   each = λ j x y at_x at_y. so.each j x y (let within = at_within old j x at_x in omega (arith, within, all)) at_x at_y;
 }
 
--- more room is all that was made
+-- the posts have more room, and nothing else has changed
 pub reserved_room : (sends : List ℕ) (old now : List PostView) (i : ℕ) → AreReserved sends i old now → HaveMoreRoom old now
 reserved_room sends old now i so = record {
   as_many = so.as_many;
@@ -79,7 +79,7 @@ reserved_room sends old now i so = record {
         let same : x ≡ y = one_ahead now j x y (so.others j le ∙ at_x) at_y in
         subst (λ (z : PostView). HasMoreRoom x z) same (record { rest = refl; room = omega arith })
 
--- also where a post was read and put back
+-- the same holds after a post was read and put back
 pub put_back : (old now : List PostView) (i : ℕ) (r y : PostView) → HaveMoreRoom old now → slice_get now i ≡ Some r → y ≡ r → HaveMoreRoom old (set now i y)
 put_back old now i r y more at same = record {
   as_many = length-set now i y ∙ more.as_many;

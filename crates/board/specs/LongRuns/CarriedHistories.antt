@@ -10,7 +10,7 @@ use Rattle.board.specs.Sending.{sends_of}
 abbrev pub sends_again : LeftView → List Occurrence
 sends_again left = sends_of left.lane.sender left.lane.receiver left.messages
 
--- those of several lanes, one lane after another
+-- the same for several lanes, one lane after another
 abbrev pub all_again : List LeftView → List Occurrence
 all_again [] = []
 all_again (left ∷ more) = all_again more ++ sends_again left
@@ -23,13 +23,12 @@ closes_again lanes = reverse (map (λ (lane : LaneEnds). Close lane.sender lane.
 abbrev pub carried_history : List LeftView → List LaneEnds → List Occurrence
 carried_history left closed = closes_again closed ++ all_again left
 
--- how many of these messages an instance sends again
+-- how many of these messages instance p sends again
 abbrev pub sent_again_by : ℕ → List LeftView → ℕ
 sent_again_by p [] = 0
 sent_again_by p (left ∷ more) = (if left.lane.sender == p then length left.messages else 0) + sent_again_by p more
 
--- a board of n instances has left this after the history: the messages that wait on its lanes, and the lanes that were
--- closed
+-- a board of n instances has left this after the history: the messages that wait on its lanes, and its closed lanes
 pub record IsLeftBy (n : ℕ) (history : List Occurrence) (left : List LeftView) (closed : List LaneEnds) : Type 0 where
   pub waited : left ≡ map (left_on history) (waiting_lanes n history)
   pub shut : closed ≡ closed_lanes n history
@@ -42,7 +41,7 @@ pub record WereLeft (n k : ℕ) (left : List LeftView) (closed : List LaneEnds) 
   pub legal : IsLegal n slots history
   pub left_by : IsLeftBy n history left closed
 
--- on each lane the same messages wait by both histories, and both have the same lanes closed
+-- on each lane the same messages wait after both histories, and both have the same closed lanes
 pub record HaveSameLanes (h g : List Occurrence) : Type 0 where
   pub waits : (q p : ℕ) → waiting g q p ≡ waiting h q p
   pub closed : (q p : ℕ) → is_closed g q p ≡ is_closed h q p

@@ -1,4 +1,4 @@
--- What the steps of carrying over tell each other (this project's profile).
+-- What the steps of carrying over state to each other (this project's profile).
 use Rattle.std.specs.Prelude.{◌≡◌, ℕ, suc, ◌<◌, ◌≤◌, max, List, length, slice_get, Some}
 use Rattle.chart.specs.Words.{Counts}
 use Rattle.chart.specs.declared.history.Occurrence.{Occurrence}
@@ -13,7 +13,7 @@ pub record AreAllOf (n k : ℕ) (posts : List PostView) : Type 0 where
   pub size : (i : ℕ) (post : PostView) → slice_get posts i ≡ Some post → (post.board.size ≡ n) × (post.board.capacity ≡ k)
   pub all : (number : ℕ) → 1 ≤ number → number ≤ n → HasPost posts number
 
--- they have come from the first of these to the second, and have seen just this history, in which nothing was received;
+-- the posts `old` have become the posts `new`, which have seen exactly this history; nothing was received in it, and
 -- each of its sends took a place of its sender's room
 pub record AreOn (n k : ℕ) (h : List Occurrence) (old new : List PostView) : Type 0 where
   pub are : AreAllOf n k old
@@ -22,17 +22,17 @@ pub record AreOn (n k : ℕ) (h : List Occurrence) (old new : List PostView) : T
   pub each : (i : ℕ) (x y : PostView) → slice_get old i ≡ Some x → slice_get new i ≡ Some y
       → HasCarried h (length (chart_of h y.number)) x y
 
--- at first each post had room for so many events as its line gets by the history
+-- at first each post had room for as many events as its line has in the history
 abbrev pub HaveRoom : List Occurrence → List PostView → Type 0
 HaveRoom h old = (i : ℕ) (x : PostView) → slice_get old i ≡ Some x → length (chart_of h x.number) ≤ x.room
 
--- the history may be made of this one by such posts
+-- these posts, which have seen the history h, may go on to the history g
 pub record MayGoOn (n k : ℕ) (h g : List Occurrence) (old new : List PostView) : Type 0 where
   pub on : AreOn n k h old new
   pub legal : IsLegal n k g
   pub room : HaveRoom g old
 
--- the post has room for as many events as this list has for its instance, and nothing else has changed
+-- the post has room for the number of events that this list has for its instance, and nothing else has changed
 pub record HasReserved (sends : Counts) (old new : PostView) : Type 0 where
   pub place : ℕ
   pub many : ℕ
@@ -45,7 +45,7 @@ pub record HaveReserved (sends : Counts) (old new : List PostView) : Type 0 wher
   pub as_many : length new ≡ length old
   pub each : (i : ℕ) (x y : PostView) → slice_get old i ≡ Some x → slice_get new i ≡ Some y → HasReserved sends x y
 
--- room was made for the first so many, and nothing else has changed
+-- room was made for the first `many` posts, and nothing else has changed
 pub record AreReserved (sends : Counts) (many : ℕ) (old new : List PostView) : Type 0 where
   pub as_many : length new ≡ length old
   pub each : (i : ℕ) (x y : PostView) → i < many → slice_get old i ≡ Some x → slice_get new i ≡ Some y → HasReserved sends x y

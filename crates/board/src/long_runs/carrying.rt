@@ -1,4 +1,4 @@
-//! How what a board left is carried over to a new one.
+//! How a new board takes over what another one left.
 ghost use Rattle.std.specs.Prelude.{◌≡◌, ℕ, suc, ◌<◌, ◌≤◌, List, map, length, slice_get, Some, IfOk, OnOk};
 ghost use Rattle.std.specs.List.{range_with_len};
 ghost use Rattle.chart.specs.declared.line.TheConstants.{MAX_EVENTS};
@@ -17,16 +17,16 @@ use thiserror::Error;
 /// What was carried over.
 #[derive(Debug, Drop)]
 pub struct Carried {
-    /// How many sends each instance carried, by instance. They are the first events of its line.
+    /// How many of the carried sends each instance made, by instance. They are the first events of its line.
     ///
-    /// A race whose earlier event is one of them may be enforced by what was seen on the earlier board.
+    /// A race whose earlier event is a carried send may be enforced by what was seen on the earlier board.
     pub sends: Vec<usize>,
 }
 
 /// Why nothing is carried over: the first of these that applies.
 #[derive(Clone, Copy, Debug, PartialEq, Eq, Error)]
 pub enum CarryCause {
-    /// F15: the posts are none, or not all of their board.
+    /// F15: there are no posts, or not all of their board.
     #[error("not all posts of the board")]
     NotAllPosts,
     /// F6: a growth was refused.
@@ -34,14 +34,14 @@ pub enum CarryCause {
     Memory,
 }
 
-/// Nothing is carried over: what was left comes back as it was.
+/// Nothing was carried over: what was left comes back as it was.
 #[derive(Debug, Drop)]
 pub struct CarryError {
     pub left: Vec<Left>,
     pub cause: CarryCause,
 }
 
-/// How many of the messages that were left an instance sends again.
+/// How many of the messages in `left` an instance sends again.
 fn count_sends(left: &[Left], sender: usize) -> usize
     requires { sent_again_by sender (map left_view left.now) ≤ MAX_EVENTS }
     ensures { result ≡ sent_again_by sender (map left_view left.now) }
@@ -55,7 +55,7 @@ fn count_sends(left: &[Left], sender: usize) -> usize
     sends
 }
 
-/// How many of the messages that were left each instance sends again. F6: it fails only where there is no memory.
+/// How many of the messages in `left` each instance sends again. F6: it fails only if there is no memory.
 fn count_all_sends(alloc: Global, left: &[Left], instances: usize) -> Result<Vec<usize>, AllocError>
     requires { (p : ℕ) → sent_again_by p (map left_view left.now) ≤ MAX_EVENTS }
     ensures { IfOk result (λ sends. sends.items
@@ -68,7 +68,7 @@ fn count_all_sends(alloc: Global, left: &[Left], instances: usize) -> Result<Vec
     Ok(sends)
 }
 
-/// Where the post's instance is among those of its board.
+/// The place of the post's instance among those of its board.
 fn place_on_board(post: &Post) -> usize
     ensures number { post.now.number ≡ suc result }
     ensures among { result < post.now.board.size }
@@ -78,7 +78,7 @@ fn place_on_board(post: &Post) -> usize
     place
 }
 
-/// Makes room on the line of each post for so many sends, by instance. F6: it fails only where there is no memory.
+/// Makes room on the line of each post for its instance's number of sends. F6: it fails only if there is no memory.
 fn reserve_sends(posts: &mut [Post], sends: &[usize]) -> Result<(), Memory>
     requires sized { (i : ℕ) (post : PostView) → slice_get posts.old i ≡ Some post
         → post.board.size ≡ length sends.now }
@@ -93,14 +93,15 @@ fn reserve_sends(posts: &mut [Post], sends: &[usize]) -> Result<(), Memory>
     Ok(())
 }
 
-/// Carries what a board left over to all posts of a new one, which has as many instances, and lanes of at least as many
-/// slots: each message that was left is sent again by its sender, lane by lane, in the order in which it waited. Then
-/// each lane that was closed is closed again, also where nothing waits. So on each lane waits what was left there.
+/// Carries over to all posts of a new board what another board left. The new board has as many instances, and its lanes
+/// have at least as many slots. Each message that was left is sent again by its sender, lane by lane, in the order in
+/// which it waited. Then each lane that was closed is closed again, even if nothing waits on it. So the same messages
+/// wait on each lane as were left there.
 ///
-/// The posts may come in any order; they have all met afterwards. The first of F15 and F6 refuses it, and then nothing
-/// was sent, and what was left comes back as it was: all memory is there before the first message is sent.
+/// The posts may come in any order; they have all met afterwards. The first of F15 and F6 that applies refuses it. Then
+/// nothing was sent, and what was left comes back as it was: all memory is there before the first message is sent.
 ///
-/// Races whose earlier event is a carried send may be enforced by what the earlier board saw: see [`Carried`].
+/// A race whose earlier event is a carried send may be enforced by what was seen on the earlier board: see [`Carried`].
 pub fn carry_over(
     alloc: Global,
     posts: &mut [Post],

@@ -1,8 +1,9 @@
-//! What follows from the definitions: the contracts of functions that do nothing.
+//! Consequences of the definitions, as contracts of functions that do nothing.
 ghost use Rattle.board.specs.LongRuns.Laws.{FirstLaw, GatheredLaw, NewPostsLaw, AgainLaw, LegalLaw, LanesLaw};
 
-/// What may be carried over: nothing, to a first board; and what a whole board was gathered to, to the posts of a new
-/// board of as many instances, with lanes of at least as many slots; and once more to the same posts, after F6.
+/// What may be carried over: empty lists to a first board, and the lists from gathering a whole board to the posts of a
+/// new board. The new board has as many instances, and its lanes have at least as many slots. After F6 the lists may be
+/// carried over to the same posts once more.
 pub fn premise_law()
     ensures first { FirstLaw }
     ensures gathered { GatheredLaw }
@@ -10,7 +11,7 @@ pub fn premise_law()
     ensures again { AgainLaw }
 {}
 
-/// What is carried over is a legal history, in which each lane is as it was left.
+/// The carried history is legal, and each lane is in it as it was left.
 pub fn carried_law()
     ensures legal { LegalLaw }
     ensures lanes { LanesLaw }

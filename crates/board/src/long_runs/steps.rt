@@ -1,5 +1,5 @@
-//! What posts do one after another where what a board left is carried over. After each event they meet: so all of
-//! them have seen one history, which has it last.
+//! What posts do, one after another, to carry over what a board left. They meet after each event, so all of them have
+//! seen one history, whose newest event it is.
 ghost use Rattle.std.specs.Prelude.{ℕ, ◌++◌, ◌∷◌, List, map, IfSome, IfNone};
 ghost use Rattle.chart.specs.declared.history.Occurrence.{Occurrence};
 ghost use Rattle.chart.specs.declared.history.Occurrence.TheVariants.{Send, Close};
@@ -13,7 +13,8 @@ ghost use Rattle.board.specs.LongRuns.CarryingSteps.{AreOn, MayGoOn};
 use crate::{ClosedLane, Left, Post, meet_at};
 use chart::{InstanceNo, Message};
 
-/// Where the post of this number is: at its own place, if they come in order, and else the first that there is.
+/// The place of the post with this number: the number's own place if the post there has it, and otherwise the first
+/// such place.
 fn place_of(posts: &[Post], number: InstanceNo) -> Option<usize>
     ensures some { IfSome result (λ place. IsAt posts.now place number) }
     ensures none { IfNone result (HasNoPost posts.now number) }
@@ -82,7 +83,7 @@ fn close_again(posts: &mut [Post], lane: ClosedLane)
     meet_at(posts, place);
 }
 
-/// What was left on these lanes is sent again, lane by lane, each message by its sender.
+/// Sends again what was left on these lanes, lane by lane, each message by its sender.
 pub(crate) fn send_left(posts: &mut [Post], left: Vec<Left>)
     requires may { (n k : ℕ) × (h : List Occurrence) × (old : List PostView)
         × MayGoOn n k h (all_again (map left_view left.items) ++ h) old posts.old }
@@ -95,7 +96,7 @@ pub(crate) fn send_left(posts: &mut [Post], left: Vec<Left>)
     }
 }
 
-/// These lanes are closed again, one after another, each by its sender.
+/// Closes these lanes again, one after another, each by its sender.
 pub(crate) fn close_lanes(posts: &mut [Post], closed: &[ClosedLane])
     requires may { (n k : ℕ) × (h : List Occurrence) × (old : List PostView)
         × MayGoOn n k h (closes_again (map closed_view closed.now) ++ h) old posts.old }

@@ -1,4 +1,4 @@
--- Lanes on which messages wait, looked for one after another.
+-- Lanes on which messages wait, searched one after another.
 use Rattle.std.proofs.Common.{◌≡◌, ℕ, ◌+◌, ◌≤◌, List, [], length, drop, ap, ◌∙◌}
 use Rattle.std.specs.Prelude.{slice_get, Bool, true, false, Some, if◌then◌else◌}
 use Rattle.board.specs.declared.gathering.Left.{Left}

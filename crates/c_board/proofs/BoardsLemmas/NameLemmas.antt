@@ -18,7 +18,7 @@ next_word bytes lengths more names start many n so_far next = so_far
     ∙ ap (λ (ns : List ℕ). names ++ words_in (drop start bytes) ns) next
     ∙ ap (λ (r : List ℕ). names ++ take many (drop start bytes) ∷ words_in r more) (sym (drop_more bytes start many))
 
--- so are all names so far
+-- all words so far are names
 pub names_next : (names new : List (List ℕ)) (word : List ℕ) → ((i : ℕ) (name : List ℕ) → slice_get names i ≡ Some name → IsName name) → IsName word → new ≡ names ++ word ∷ []
     → (i : ℕ) (name : List ℕ) → slice_get new i ≡ Some name → IsName name
 names_next names new word all its added i name at = go names all i (subst (λ (ns : List (List ℕ)). slice_get ns i ≡ Some name) added at)
@@ -35,7 +35,7 @@ names_next names new word all its added i name at = go names all i (subst (λ (n
     go (n ∷ ns) all zero there = all 0 name there
     go (n ∷ ns) all (suc i) there = go ns (λ j m at. all (suc j) m at) i there
 
--- it is refused
+-- the word is refused
 pub word_refused : (words : List (List ℕ)) (names rest new : List (List ℕ)) (word : List ℕ) (refusal : Refusal) → words ≡ names ++ word ∷ rest
     → ((i : ℕ) (name : List ℕ) → slice_get names i ≡ Some name → IsName name) → AddsName names word (Err refusal) new → ReadsNames words (Err refusal)
 word_refused words names rest new word (why.Naming error) splits all its = (names, word, record { rest = rest; splits = splits; names = all }, its)
@@ -74,7 +74,7 @@ names_refused (why.Taking error) chart names room each its = absurd its
 names_refused (why.Closing error) chart names room each its = absurd its
 names_refused (why.Region error) chart names room each its = absurd its
 
--- one name more
+-- one more name
 pub words_more : (bytes lengths : List ℕ) (names new : List (List ℕ)) (word : List ℕ) (start many n : ℕ) → words_in bytes lengths ≡ names ++ words_in (drop start bytes) (drop n lengths)
     → n < length lengths → many ≡ get_or lengths n 0 → word ≡ take many (drop start bytes) → new ≡ names ++ word ∷ [] → words_in bytes lengths ≡ new ++ words_in (drop (start + length word) bytes) (drop (n + 1) lengths)
 words_more bytes lengths names new word start many n so_far less is word_is_it added =
@@ -82,7 +82,7 @@ words_more bytes lengths names new word start many n so_far less is word_is_it a
     subst (λ (w : List ℕ). words_in bytes lengths ≡ names ++ w ∷ words_in (drop (start + length w) bytes) (drop (n + 1) lengths)) (sym word_is_it) (next_word bytes lengths (drop (n + 1) lengths) names start many n so_far next)
     ∙ sym (append_assoc names (word ∷ []) (words_in (drop (start + length word) bytes) (drop (n + 1) lengths))) ∙ ap (λ (ns : List (List ℕ)). ns ++ words_in (drop (start + length word) bytes) (drop (n + 1) lengths)) (sym added)
 
--- what is handed on
+-- a refusal that is passed on
 pub text_refused : (chart : List LineView) (names : List (List ℕ)) (room : List ℕ) (result : Result ℕ Refusal) (error : Refusal) → IsErrAnd result (λ e. e ≡ error) → WritesText chart names room (Err error) room → WritesText chart names room result room
 text_refused chart names room (Ok many) error never its = absurd never
 text_refused chart names room (Err e) error same its = subst (λ (x : Refusal). WritesText chart names room (Err x) room) (sym same) its

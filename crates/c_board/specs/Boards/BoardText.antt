@@ -1,4 +1,4 @@
--- What copying the text of a gathered board's chart out answers (this project's profile).
+-- What copying out the text of a gathered board's chart answers (this project's profile).
 use Rattle.std.specs.Prelude.{◌≡◌, ℕ, List, length, slice_get, Option, None, Some, Result, Ok, Err}
 use Rattle.chart.specs.Charts.{LineView}
 use Rattle.chart.specs.Names.{IsName}
@@ -11,7 +11,7 @@ use Rattle.c_board.specs.declared.refusal.Refusal.TheVariants as why
 use Rattle.c_board.specs.Copying.{put_over}
 use Rattle.c_board.specs.Boards.Naming.{ReadsNames}
 
--- the instances have these names, one each and no two the same, and the text is copied out
+-- each instance has one of these names, no two have the same, and the text is copied out
 pub record IsWritten (chart : List LineView) (names : List (List ℕ)) (room : List ℕ) (many : ℕ)
     (out : List ℕ) : Type 0 where
   pub each : length names ≡ length chart
@@ -20,7 +20,7 @@ pub record IsWritten (chart : List LineView) (names : List (List ℕ)) (room : L
   pub output : many ≡ length (chart_text names chart)
   pub copied : out ≡ put_over (chart_text names chart) room
 
--- the text by these names; a refusal is one of the names, and comes of as many names as instances
+-- the text with these names; a refusal is one of the names, and comes only if there are as many names as instances
 abbrev pub WritesText : List LineView → List (List ℕ) → List ℕ → Result ℕ Refusal → List ℕ → Type 0
 WritesText chart names room (Ok many) out = IsWritten chart names room many out
 WritesText chart names room (Err why.Misuse) out = (out ≡ room) × (length names ≡ length chart → ⊥)

@@ -1,4 +1,4 @@
--- The names of a board's instances, as another language gives them: bytes, and how long each name is (this project's
+-- The names of a board's instances, as another language gives them: bytes, and the length of each name (this project's
 -- profile).
 use Rattle.std.specs.Prelude.{◌≡◌, ℕ, List, [], ◌∷◌, ◌++◌, take, drop, slice_get, Contains, Some, Result, Ok, Err}
 use Rattle.chart.specs.Names.{name_of, IsName}
@@ -18,13 +18,13 @@ AddsName old word (Err why.NameTwice) new = IsName word × Contains old word
 AddsName old word (Err why.Memory) new = IsName word
 AddsName old word (Err _) new = ⊥
 
--- the word is the first that is refused: those before it are names
+-- the word is the first refused one: those before it are names
 pub record IsFirst (words : List (List ℕ)) (before : List (List ℕ)) (word : List ℕ) : Type 0 where
   pub rest : List (List ℕ)
   pub splits : words ≡ before ++ word ∷ rest
   pub names : (i : ℕ) (name : List ℕ) → slice_get before i ≡ Some name → IsName name
 
--- these words are the names, or why they are none
+-- these words are the names, or why they aren't
 abbrev pub ReadsNames : List (List ℕ) → Result (List (List ℕ)) Refusal → Type 0
 ReadsNames words (Ok names) = (names ≡ words) × ((i : ℕ) (name : List ℕ) → slice_get words i ≡ Some name → IsName name)
 ReadsNames words (Err (why.Naming error)) = (before : List (List ℕ)) × (word : List ℕ) × IsFirst words before word

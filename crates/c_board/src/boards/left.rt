@@ -1,4 +1,4 @@
-//! What a gathered board left, message by message.
+//! The messages that a gathered board left, one by one.
 ghost use Rattle.std.specs.Prelude.{◌≡◌, IfSome, IfNone, slice_get, Some, [], ℕ};
 ghost use Rattle.board.specs.declared.gathering.Left.{Left};
 ghost use Rattle.c_board.specs.Copying.{put_over};
@@ -10,19 +10,19 @@ use board::Left;
 use chart::Message;
 use std::alloc::Global;
 
-/// Where a message waits on a gathered board.
+/// The place of a waiting message on a gathered board.
 #[repr(C)]
 #[derive(Clone, Copy)]
 pub struct Place {
-    /// Its lane's sender.
+    /// The sender of its lane.
     pub from: u32,
-    /// Its lane's receiver.
+    /// The receiver of its lane.
     pub to: u32,
-    /// Its number there, from 1.
+    /// Its number on the lane, from 1.
     pub number: usize,
 }
 
-/// What is told of a message that waits on a lane of a gathered board.
+/// The description of a message that waits on a lane of a gathered board.
 #[derive(Clone, Copy)]
 pub struct Waiting {
     /// How many bytes its name has.
@@ -38,7 +38,7 @@ fn is_on(lane: &Left, from: u32, to: u32) -> bool
     lane.sender.number() == from as usize && lane.receiver.number() == to as usize
 }
 
-/// Where the lane with these ends is, if messages wait on it.
+/// The place of the lane with these ends, if messages wait on it.
 fn place_of_lane(left: &[Left], from: u32, to: u32) -> Option<usize>
     ensures some { IfSome result (λ place. (lane : Left) × (slice_get left.now place ≡ Some lane)
         × (messages_on left.now from to ≡ lane.messages.items)) }
@@ -52,7 +52,7 @@ fn place_of_lane(left: &[Left], from: u32, to: u32) -> Option<usize>
     None
 }
 
-/// What is told of a message; its name and its body are copied out, as much as there is room for.
+/// Describes a message, and copies out its name and its body, as much as there is room for.
 fn copy_message(message: &Message, name: &mut [u8], body: &mut [u8]) -> Waiting
     ensures output { result ≡ waiting_of message.now }
     ensures names { name.new ≡ put_over message.now.name name.old }
@@ -65,7 +65,7 @@ fn copy_message(message: &Message, name: &mut [u8], body: &mut [u8]) -> Waiting
     }
 }
 
-/// Tells of the message at the place, if one waits there.
+/// Describes the message at this place, if one waits there.
 fn copy_nth(left: &[Left], place: &Place, name: &mut [u8], body: &mut [u8]) -> Option<Waiting>
     ensures { CopiesWaiting (message_at left.now place.now) (record { name = name.old; body = body.old }) result
         (record { name = name.new; body = body.new }) }
@@ -81,7 +81,7 @@ fn copy_nth(left: &[Left], place: &Place, name: &mut [u8], body: &mut [u8]) -> O
     Some(copy_message(&messages[number - 1], name, body))
 }
 
-/// The same where a board is kept.
+/// The same, if a board is kept.
 fn copy_kept(
     kept: &Kept,
     place: &Place,
@@ -97,8 +97,8 @@ fn copy_kept(
     }
 }
 
-/// Tells of the message at the place, if one waits there. Its name and its body are copied out, as much as there is
-/// room for.
+/// Describes the message at this place, if one waits there. The call copies out its name and its body, as much as there
+/// is room for.
 pub fn waiting_at(
     alloc: Global,
     board: &mut Handle,

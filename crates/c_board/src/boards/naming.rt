@@ -7,7 +7,7 @@ use crate::{Refusal, word_at};
 use chart::{MAX_INSTANCES, Name, Names, NamesError};
 use std::alloc::Global;
 
-/// Gives the next instance the name that these bytes are. The first of F1 to F4, F22 and F6 refuses it.
+/// Gives the next instance the name with these bytes. The first of F1 to F4, F22 and F6 that applies refuses it.
 fn add_name(names: &mut Names, word: &[u8]) -> Result<(), Refusal>
     requires { length names.old < MAX_INSTANCES }
     ensures { AddsName names.old word.now result names.new }
@@ -25,8 +25,8 @@ fn add_name(names: &mut Names, word: &[u8]) -> Result<(), Refusal>
     }
 }
 
-/// The names that lie one after another in these bytes, of these lengths. The first of F1 to F4, F22 and F6 that a name
-/// meets refuses them.
+/// The names that are one after another in these bytes, with these lengths. The first of F1 to F4, F22 and F6 that
+/// applies to a name refuses them.
 pub(crate) fn names_in(alloc: Global, bytes: &[u8], lengths: &[usize]) -> Result<Names, Refusal>
     requires { length lengths.now ≤ MAX_INSTANCES }
     ensures { ReadsNames (words_in bytes.now lengths.now) result }

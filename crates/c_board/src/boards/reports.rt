@@ -8,10 +8,10 @@ use crate::{Handle, Kept, Refusal, copy_events};
 use chart::Report;
 use std::alloc::Global;
 
-/// What is told of a report of a gathered board.
+/// The description of a report of a gathered board.
 #[derive(Clone, Copy)]
 pub struct Reported {
-    /// The number of the instance that received, from 1.
+    /// The number of the receiver, from 1.
     pub instance: u32,
     /// The number of the receive on its line, from 1.
     pub event: u32,
@@ -19,7 +19,7 @@ pub struct Reported {
     pub races: usize,
 }
 
-/// What is told of a report; the numbers of its earlier events are copied out, as many as there is room for.
+/// Describes a report, and copies out the numbers of its earlier events, as many as there is room for.
 fn copy_report(report: &Report, out: &mut [u32]) -> Reported
     ensures output { result ≡ reported_of report.now }
     ensures copied { out.new ≡ put_over (indices report.now.earlier) out.old }
@@ -32,7 +32,7 @@ fn copy_report(report: &Report, out: &mut [u32]) -> Reported
     }
 }
 
-/// Tells of the report of this number, from 1.
+/// Describes the report with this number, from 1.
 fn copy_nth(reports: &[Report], number: usize, out: &mut [u32]) -> Result<Reported, Refusal>
     ensures { CopiesReport (ith reports.now number) out.old result out.new }
 {
@@ -42,7 +42,7 @@ fn copy_nth(reports: &[Report], number: usize, out: &mut [u32]) -> Result<Report
     Ok(copy_report(&reports[number - 1], out))
 }
 
-/// Tells of the report of this number, from 1, where a board is kept.
+/// Describes the report with this number, from 1, if a board is kept.
 fn copy_kept(kept: &Kept, number: usize, out: &mut [u32]) -> Result<Reported, Refusal>
     ensures { KeptReports kept.now number out.old result out.new }
 {
@@ -52,9 +52,9 @@ fn copy_kept(kept: &Kept, number: usize, out: &mut [u32]) -> Result<Reported, Re
     }
 }
 
-/// Tells of the report of this number, from 1, of the board, whose receives have one each, by instance and index; and
-/// copies its races out, the numbers of the earlier events, as many as there is room for. F31: the board has fewer
-/// receives.
+/// Describes the board's report with this number, from 1. Each receive has one report, sorted by instance and index.
+/// The call copies out the report's races: the numbers of the earlier events, as many as there is room for. F31: the
+/// board has fewer receives.
 pub fn report_at(
     alloc: Global,
     board: &mut Handle,

@@ -11,7 +11,7 @@ use msc_text::write;
 use std::alloc::Global;
 use texts::MemoryOut;
 
-/// The chart's text in memory, where there is some for it.
+/// The chart's text in memory, if there is memory for it.
 fn text_in_memory(alloc: Global, names: &Names, chart: &Chart) -> Option<MemoryOut>
     requires { length names.now ≡ length chart.now }
     ensures { IfSome result (λ text. text.bytes ≡ chart_text names.now chart.now) }
@@ -23,7 +23,7 @@ fn text_in_memory(alloc: Global, names: &Names, chart: &Chart) -> Option<MemoryO
     }
 }
 
-/// Copies the chart's text out.
+/// Copies out the chart's text.
 fn copy_chart(
     alloc: Global,
     chart: &Chart,
@@ -37,7 +37,7 @@ fn copy_chart(
         return Err(Refusal::Misuse);
     }
     let names = names_in(alloc, names, lengths)?;
-    // (what each list of names keeps is said by a call)
+    // The prover learns the invariant of a list of names from a call on it.
     let _ = names.len();
     match text_in_memory(alloc, &names, chart) {
         Some(text) => Ok(copy_out(text.as_bytes(), out)),
@@ -45,7 +45,7 @@ fn copy_chart(
     }
 }
 
-/// Copies the text of the chart out where a board is kept.
+/// Copies out the text of the chart, if a board is kept.
 fn copy_kept(
     alloc: Global,
     kept: &Kept,
@@ -61,9 +61,9 @@ fn copy_kept(
     }
 }
 
-/// Copies the text of the board's chart out, whose instances have the names that lie one after another in `names`, of
-/// these lengths: as much as there is room for. It tells how long the text is. Another number of names than the board
-/// has instances is a misuse. Then the first of F1 to F4, F22 and F6 refuses it.
+/// Copies out the text of the board's chart, as much as there is room for, and returns how long the text is. The names
+/// of its instances are one after another in `names`, with these lengths. If there aren't as many names as instances,
+/// the call is a misuse. Otherwise the first of F1 to F4, F22 and F6 that applies refuses it.
 pub fn copy_text(
     alloc: Global,
     board: &mut Handle,

@@ -1,4 +1,4 @@
--- What one step more makes of the history.
+-- How one more step changes the history.
 use Rattle.std.proofs.Common.{◌≡◌, ℕ, ◌+◌, List, [], ◌∷◌, ◌++◌, length, take, Some, refl, ap, ◌∙◌, arith}
 use Rattle.std.proofs.lemmas.List.{take_more}
 use Rattle.std.proofs.lemmas.Option.{slice_get_within, get_or_from_slice_get}
@@ -17,21 +17,21 @@ pub after-append : (h : List Occurrence) (xs ys : List Step) → after h (xs ++ 
 after-append h [] ys = refl
 after-append h (x ∷ xs) ys = after-append (occurrence_of x ∷ h) xs ys
 
--- one step more
+-- one more step
 pub history-next : (steps : List Step) (i : ℕ) (x : Step) → slice_get steps i ≡ Some x → history_of (take (i + 1) steps) ≡ occurrence_of x ∷ history_of (take i steps)
 history-next steps i x is = ap history_of (front_next steps i x is) ∙ after-append [] (take i steps) (x ∷ [])
 
--- a step that was put outside of coregions is
+-- a step that was put outside of coregions is outside of them
 pub outside_regions-outside : (x : Step) → IsOutside (outside_regions x)
 outside_regions-outside (Send a b name) = refl
 outside_regions-outside (Receive a b region) = refl
 
--- as many events as steps
+-- each step adds one occurrence
 pub after-length : (h : List Occurrence) (xs : List Step) → length (after h xs) ≡ length h + length xs
 after-length h [] = omega arith
 after-length h (x ∷ xs) = omega (arith, after-length (occurrence_of x ∷ h) xs)
 
--- steps behind a history
+-- steps after a history
 pub after-onto : (h : List Occurrence) (xs : List Step) → after h xs ≡ history_of xs ++ h
 after-onto h xs = go [] xs
   where

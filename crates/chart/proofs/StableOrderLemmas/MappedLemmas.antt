@@ -1,10 +1,10 @@
--- Things by the numbers of what they are taken for.
+-- Things by the numbers of their views.
 use Rattle.std.proofs.Common.{◌≡◌, ℕ, Bool, true, false, cond, List, [], ◌∷◌, refl, ap, ◌∙◌}
 use Rattle.std.specs.Prelude.{nat_lt, fold, map}
 use Rattle.chart.specs.StableOrder.Order.{put_by, in_order_by}
 
 module _ {X Y : Type 0} (view : X → Y) (key : Y → ℕ) where
-  -- a thing's number is that of what it is taken for
+  -- a thing's number is that of its view
   abbrev own : X → ℕ
   own x = key (view x)
 

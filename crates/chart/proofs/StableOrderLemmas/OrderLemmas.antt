@@ -1,4 +1,4 @@
--- Things that stand by their numbers.
+-- Things in the order of their numbers.
 use Rattle.std.proofs.Common.{◌≡◌, ℕ, suc, ◌+◌, ◌<◌, ◌≤◌, ◌==◌, ◌&&◌, not, Bool, true, false, cond, ◌⊎◌, inl, inr, Less, Equal, Greater, List, [], ◌∷◌, ◌++◌, length, drop, get_or, filter, AllPairs, refl, sym, ap, ap₂, ◌∙◌, subst, arith, append_assoc}
 use Rattle.std.specs.Prelude.{nat_lt, fold}
 use Rattle.std.specs.List.Sorted.{IsNonDecreasingBy, IsStableByKey, ties}
@@ -26,7 +26,7 @@ less x y = go (nat_lt x y) (x == y)
     go false true = refl
     go false false = refl
 
--- numbers are one where neither is less
+-- two numbers are equal exactly if neither is less
 neither_less : (x y : ℕ) → (x == y) ≡ not (nat_lt y x) && not (nat_lt x y)
 neither_less x y = go (nat_lt y x) (nat_lt x y) refl refl
   where
@@ -41,12 +41,12 @@ module _ {X : Type 0} (key : X → ℕ) where
   Least t [] = Unit {0}
   Least t (x ∷ xs) = (t ≤ key x) × Least t xs
 
-  -- no thing stands before one of a lower number
+  -- no thing comes before one with a lower number
   unfoldable pub Rising : List X → Type 0
   Rising [] = Unit {0}
   Rising (x ∷ xs) = Least (key x) xs × Rising xs
 
-  -- of these things those of the number
+  -- the things with this number
   abbrev pub of_key : ℕ → List X → List X
   of_key t things = filter (λ (x : X). key x == t) things
 
@@ -55,7 +55,7 @@ module _ {X : Type 0} (key : X → ℕ) where
   least_down t u [] le least = tt
   least_down t u (x ∷ xs) le least = (omega (arith, least.0), least_down t u xs le least.1)
 
-  -- a lower number has no thing
+  -- no thing has a lower number
   none_above : (t u : ℕ) (xs : List X) → t < u → Least u xs → of_key t xs ≡ []
   unfolding Least
   none_above t u [] lt least = refl
@@ -116,7 +116,7 @@ module _ {X : Type 0} (key : X → ℕ) where
       go true less more = first (key e == t) refl (ltb-true (key e) (key x) less) ∙ sym (filter-append (λ (y : X). key y == t) (x ∷ xs) (e ∷ []))
       go false less more = ap (λ l. cond (key x == t) (x ∷ l) l) more
 
-  -- what is put in after what was put in
+  -- things are put in one after another
   fold_rising : (acc things : List X) → Rising acc → Rising (fold (put_by key) acc things)
   fold_rising acc [] rising = rising
   fold_rising acc (e ∷ things) rising = fold_rising (put_by key acc e) things (put_rising acc e rising)
@@ -138,7 +138,7 @@ module _ {X : Type 0} (key : X → ℕ) where
   unfolding Rising in_order_by
   order_kept t things = fold_kept t [] things tt
 
-  -- no thing is lost, and none comes
+  -- no thing is lost or added
   put_length : (xs : List X) (e : X) → length (put_by key xs e) ≡ suc (length xs)
   unfolding put_by
   put_length [] e = refl
@@ -156,9 +156,9 @@ module _ {X : Type 0} (key : X → ℕ) where
   unfolding in_order_by
   order_length things = omega (arith, fold_length [] things)
 
-  -- There is one such list.
+  -- There is only one such list.
 
-  -- the first thing is of no lower number than another list's first where each number has the same things
+  -- if two lists have the same things of each number, neither first thing has a lower number than the other
   no_earlier : (a b : X) (xs ys : List X) → Rising (b ∷ ys) → of_key (key a) (a ∷ xs) ≡ of_key (key a) (b ∷ ys) → key a < key b → ⊥
   unfolding Least Rising
   no_earlier a b xs ys rising same less =
@@ -166,7 +166,7 @@ module _ {X : Type 0} (key : X → ℕ) where
       let some : length (of_key (key a) (a ∷ xs)) ≡ suc (length (of_key (key a) xs)) = rw (eq-eqb (key a) (key a) refl) refl in
       omega (arith, some, ap length (same ∙ none))
 
-  -- things stand by their numbers in one way
+  -- there is only one order of things by their numbers
   pub same_by_key : (xs ys : List X) → Rising xs → Rising ys → ((t : ℕ) → of_key t xs ≡ of_key t ys) → xs ≡ ys
   unfolding Rising
   same_by_key [] [] one other same = refl
@@ -198,7 +198,7 @@ module _ {X : Type 0} (key : X → ℕ) where
   rising_of (x ∷ xs) all =
       (least_of (key x) xs (λ i d within. all 0 (suc i) d (omega arith) (omega arith)), rising_of xs (λ i j d less within. all (suc i) (suc j) d (omega arith) (omega arith)))
 
-  -- the same told of pairs
+  -- the same, stated for pairs
   pub rising_pairs : (xs : List X) → AllPairs (λ (a : X) (b : X). key a ≤ key b) xs → Rising xs
   unfolding Rising
   rising_pairs [] all = tt
@@ -214,7 +214,7 @@ module _ {X : Type 0} (key : X → ℕ) where
       go true e rest = inr (x, eqb-true (key x) t e)
       go false e rest = rest
 
-  -- it keeps the things of each number as they came
+  -- a stable sort keeps the order of the things of each number
   pub key_kept : (came listed : List X) → IsStableByKey key nat_cmp came listed → (t : ℕ) → of_key t listed ≡ of_key t came
   key_kept came listed stable t = go (has_key t listed) (has_key t came)
     where
@@ -232,7 +232,7 @@ module _ {X : Type 0} (key : X → ℕ) where
       go (inl none) (inr its) = with its.0 its.1
       go (inl none) (inl never) = none ∙ sym never
 
-  -- what it leaves
+  -- what a stable sort leaves
   pub by_key : (came listed : List X) → IsNonDecreasingBy key listed → IsStableByKey key nat_cmp came listed → listed ≡ in_order_by key came
   by_key came listed rising stable =
       same_by_key listed (in_order_by key came) (rising_of listed rising) (order_rises came) (λ t. key_kept came listed stable t ∙ sym (order_kept t came))

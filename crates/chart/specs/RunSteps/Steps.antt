@@ -1,4 +1,4 @@
--- Runs as lists of steps, the first one first, and the histories that they make (this project's profile).
+-- Runs as lists of steps, in order, and the histories that they make (this project's profile).
 use Rattle.std.specs.Prelude.{◌≡◌, ℕ, ◌+◌, List, [], ◌∷◌, length, take, slice_get, Some}
 use Rattle.chart.specs.declared.history.Occurrence.{Occurrence}
 use Rattle.chart.specs.declared.history.Occurrence.TheVariants as occurrences
@@ -19,7 +19,7 @@ abbrev pub step_made : ℕ → Event → Step
 step_made p (events.Send q name) = Send p q name
 step_made p (events.Receive q name region) = Receive p q region
 
--- the history after these steps, behind h
+-- the history h, continued by these steps
 abbrev pub after : List Occurrence → List Step → List Occurrence
 after h [] = h
 after h (x ∷ steps) = after (occurrence_of x ∷ h) steps
@@ -38,12 +38,12 @@ abbrev pub place_after : List Step → ℕ → Step → Place
 place_after steps i x =
     at (by (occurrence_of x)) (length (chart_of (history_of (take i steps)) (by (occurrence_of x))) + 1)
 
--- the step outside of coregions
+-- the step, put outside of coregions
 abbrev pub outside_regions : Step → Step
 outside_regions (Send a b name) = Send a b name
 outside_regions (Receive a b region) = Receive a b 0
 
--- it is outside of coregions
+-- the step is outside of coregions
 abbrev pub IsOutside : Step → Type 0
 IsOutside x = outside_regions x ≡ x
 
@@ -52,6 +52,6 @@ abbrev pub maker_of : Step → ℕ
 maker_of (Send a b name) = a
 maker_of (Receive a b region) = a
 
--- at this number a step receives
+-- the step of this number is a receive
 abbrev pub IsReceive : List Step → ℕ → Type 0
 IsReceive steps i = (a b region : ℕ) × (slice_get steps i ≡ Some (Receive a b region))

@@ -5,7 +5,7 @@ ghost use Rattle.chart.specs.Charts.{at, chart_event, chart_lines, IsNumbered};
 
 use crate::{Event, InstanceNo, Line, MAX_EVENTS};
 
-/// How many events a line has.
+/// The number of events of a line.
 pub fn len_of(lines: &[Line], line: usize) -> usize
     requires { line < length lines.now }
     ensures value { result ≡ length (chart_lines lines.now (suc line)) }
@@ -40,7 +40,7 @@ pub fn event_at(lines: &[Line], line: usize, place: usize) -> Event
     events_at(lines, line)[place]
 }
 
-/// The events of an instance's line, none where the chart has no such instance.
+/// The events of an instance's line; none if the chart has no such instance.
 pub fn events_of(lines: &[Line], instance: InstanceNo) -> &[Event]
     ensures events { result.now ≡ chart_lines lines.now instance }
     ensures short { length result.now ≤ MAX_EVENTS }

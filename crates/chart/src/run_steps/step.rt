@@ -4,7 +4,7 @@ ghost use Rattle.chart.specs.RunSteps.Steps.{maker_of, step_made, outside_region
 
 use crate::{Event, InstanceNo, Name};
 
-/// What an instance does in a run: it sends a message of this name, or takes the first message that waits.
+/// What an instance does in a run: it sends a message of this name, or receives the first message that waits.
 #[derive(Clone, Copy, Debug, PartialEq, Eq)]
 pub enum Step {
     Send {
@@ -15,7 +15,7 @@ pub enum Step {
     Receive {
         at: InstanceNo,
         from: InstanceNo,
-        /// The coregion that the receive is in, or 0 outside of one.
+        /// The coregion that the receive is in, or 0 outside of a coregion.
         region: u32,
     },
 }

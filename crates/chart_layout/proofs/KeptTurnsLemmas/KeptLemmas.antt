@@ -1,4 +1,4 @@
--- The rows of a layout, one after the other, and the turns that they have had.
+-- The rows of a layout, one after another, and the turns that they have had.
 use Rattle.std.proofs.Common.{◌≡◌, ℕ, zero, suc, ◌+◌, ◌≤◌, ◌==◌, ◌⊎◌, inl, inr, Bool, true, false, cond, List, [], ◌∷◌, ◌++◌, length, take, drop, Some, refl, sym, ap, ◌∙◌, subst, arith, append_assoc, append-nil, length-append, eq-eqb}
 use Rattle.std.specs.Prelude.{slice_get}
 use Rattle.std.specs.List.{flat_map, range_with_len}
@@ -43,7 +43,7 @@ times-row p (Message s r) =
     times-append p (s.instance ∷ []) (r.instance ∷ [])
     ∙ (let first = times-event p s in let second = times-event p r in let both = length-append (number_on p s) (number_on p r) in omega arith)
 
--- as many turns as events that are drawn
+-- there are as many turns as drawn events
 times-rows : (p : ℕ) (rows : List Row) → times p (actors rows) ≡ length (laid_out rows p)
 unfolding times
 times-rows p [] = refl
@@ -79,7 +79,7 @@ drop_seam : {A : Type 0} (xs ys : List A) → drop (length xs) (xs ++ ys) ≡ ys
 drop_seam [] ys = refl
 drop_seam (x ∷ xs) ys = drop_seam xs ys
 
--- what is picked comes next on its line
+-- the event of a picked row comes next on its line
 picked_next : (c : Chart) (n : ℕ) (rows : List Row) (row : Row) → IsPicked c n rows row → (e : Place) × IsNextEvent c rows e
 picked_next c n rows (Message s r) is = (place_of s, is.1.0.1)
 picked_next c n rows (Event e) (inl highest) = (place_of e, highest.1.next)
@@ -89,11 +89,11 @@ module _ (lines : List LineView) (turns : List ℕ) (run : IsRun (chart_lines li
   abbrev c : Chart
   c = chart_lines lines
 
-  -- where all turns were had, each event is drawn
+  -- if all turns were had, each event is drawn
   all_laid_out : (rows : List Row) → actors rows ++ [] ≡ turns → (p : ℕ) → length (laid_out rows p) ≡ length (c p)
   all_laid_out rows had p = sym (times-rows p rows) ∙ ap (times p) (sym (append-nil (actors rows)) ∙ had) ∙ run.all p
 
-  -- where one is left, its event may come next
+  -- if a turn is left, its event may come next
   alone : (above : List Row) (p : ℕ) (left : List ℕ) → AreInOrder above → actors above ++ p ∷ left ≡ turns → IsNextAlone c above (at p (length (laid_out above p) + 1))
   alone above p left order had = record {
     next = record { event = (omega arith, short); next = refl };
@@ -121,7 +121,7 @@ module _ (lines : List LineView) (turns : List ℕ) (run : IsRun (chart_lines li
           let above_it = times-rows p above in
           omega arith
 
-  -- what no turn is left for isn't picked
+  -- a row for which no turn is left isn't picked
   picked_not : (above : List Row) (row : Row) (left : List ℕ) → AreInOrder above → actors above ++ left ≡ turns
       → ((x : Row) → IsTurn c above left x → ⊥) → IsPicked c (length lines) above row → ⊥
   picked_not above row [] order had none picked =
@@ -131,7 +131,7 @@ module _ (lines : List LineView) (turns : List ℕ) (run : IsRun (chart_lines li
       let e : EventNo = record { instance = p; index = length (laid_out above p) + 1 } in
       none (Event e) (refl, alone above p left order had, λ r has way. none (Message e r) (refl, has, way))
 
-  -- the turns of one row more
+  -- the turns of one more row
   row_turns : (above : List Row) (row : Row) (left : List ℕ) → IsTurn c above left row → (rest : List ℕ) × (left ≡ actors_of row ++ rest)
   row_turns above (Message s r) [] is = absurd is.0
   row_turns above (Message s r) (p ∷ []) is = absurd is.1
@@ -139,7 +139,7 @@ module _ (lines : List LineView) (turns : List ℕ) (run : IsRun (chart_lines li
   row_turns above (Event e) [] is = absurd is.0
   row_turns above (Event e) (p ∷ rest) is = (rest, ap (λ x. x ∷ rest) is.0)
 
-  -- the rows that are left have the turns that are left
+  -- the remaining rows have the remaining turns
   kept : (above rest : List Row) (left : List ℕ) → IsLayout lines turns (above ++ rest) → actors above ++ left ≡ turns → actors rest ≡ left
   kept above [] [] is had = refl
   kept above [] (p ∷ left) is had =

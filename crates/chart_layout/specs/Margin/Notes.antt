@@ -1,8 +1,8 @@
--- What stands in the margin of a picture (this project's own).
+-- The notes in the margin of a picture (this project's own).
 use Rattle.std.specs.Prelude.{ℕ, Bool, List}
 use Rattle.chart_layout.specs.declared.margin.MarginNote.{MarginNote}
 
--- a text beside a row: how many messages are sent above it, its bytes, and whether it parts the rows
+-- a text beside a row: the number of messages that are sent above it, its bytes, and whether it separates the rows
 pub record NoteView : Type 0 where
   pub above : ℕ
   pub text : List ℕ

@@ -2,16 +2,16 @@
 use crate::Word;
 use crate::view::showing::SHOWING;
 
-/// The file that a command may do without.
+/// An optional file.
 const FILE: &[Word] = &[Word::Free("FILE")];
 
-/// Files, all of which a command may do without.
+/// Any number of files, or none.
 const FILES: &[Word] = &[Word::Rest("FILE")];
 
-/// Files, and behind them the words of a `race` line, of which there are three.
+/// Files, followed by the three words of a `race` line.
 const WORDS: &[Word] = &[Word::Rest("WORD")];
 
-/// The options of reading another tool's text. Without `--from` the flag refuses a schedule of which a command did
+/// The options for reading another tool's text. Without `--from`, the flag refuses a schedule in which a command did
 /// nothing.
 const TOOLS: &[Word] = &[
     Word::Option("from", 1),
@@ -20,7 +20,7 @@ const TOOLS: &[Word] = &[
     Word::Repeated("join"),
 ];
 
-/// The options of reading a log.
+/// The options for reading a log.
 const LOGS: &[Word] = &[
     Word::Option("pattern", 1),
     Word::Option("hosts", 1),
@@ -29,7 +29,7 @@ const LOGS: &[Word] = &[
     Word::Option("to-line", 1),
 ];
 
-/// What is drawn, and how.
+/// The options for what is drawn, and how.
 const DRAWING: &[Word] = &[
     Word::Option("only", 1),
     Word::Option("events", 1),
@@ -40,7 +40,7 @@ const DRAWING: &[Word] = &[
     Word::Flag("numbers"),
 ];
 
-/// Which message is added to a chart, or whether for all races.
+/// The message that is added to a chart, and whether one is added for each race.
 const MENDING: &[Word] = &[
     Word::Option("name", 1),
     Word::Flag("verbose"),
@@ -48,7 +48,7 @@ const MENDING: &[Word] = &[
     Word::Option("limit", 1),
 ];
 
-/// Two files, and how what differs is told.
+/// Two files, and whether their differences are printed as JSON.
 const TWO_FILES: &[Word] = &[Word::Flag("json"), Word::Needed("A"), Word::Needed("B")];
 
 /// The commands and their words. Help, the version, no command and an unknown one are all mistakes.

@@ -1,4 +1,4 @@
-//! What the words of `why`, `witness` and `mend` ask for: the last three are those of a `race` line, and all before
+//! The requests of `why`, `witness` and `mend`: the last three words are those of a `race` line, and all words before
 //! them are files.
 use crate::CommandLineError;
 use crate::view::reading::{log_form, log_of, one_file, other_reading, words_of};
@@ -8,7 +8,7 @@ use crate::view::request::{
 use clap::ArgMatches;
 use std::alloc::Global;
 
-/// What a command asks about two events.
+/// The question of a command about two events.
 fn question_of(command: &str) -> Option<Question> {
     match command {
         "witness" => Some(Question::Witness),
@@ -25,7 +25,7 @@ struct PairWords<'a> {
     receive: &'a str,
 }
 
-/// The words of a `race` line, which are the last three: what is left are the files.
+/// The words of a `race` line, which are the last three. The remaining words are the files.
 fn pair_words<'a>(words: &mut Vec<&'a str>) -> Option<PairWords<'a>> {
     let receive = words.pop()?;
     let earlier = words.pop()?;
@@ -37,14 +37,14 @@ fn pair_words<'a>(words: &mut Vec<&'a str>) -> Option<PairWords<'a>> {
     })
 }
 
-/// What is asked about races, and of which files.
+/// A question about races, and its files.
 #[derive(Drop)]
 struct Asked<'a> {
     asked: RaceQuestion<'a>,
     files: Vec<&'a str>,
 }
 
-/// What a command asks about one race, of this file.
+/// The question of a command about one race, of this file.
 fn race_asked<'a>(
     command: &str,
     words: &ArgMatches<'a>,
@@ -76,7 +76,7 @@ fn race_asked<'a>(
     }
 }
 
-/// What the words of `mend --all` ask: neither a name nor `--verbose` goes with it.
+/// The question of `mend --all`. Neither a name nor `--verbose` is allowed with it.
 fn all_asked<'a>(words: &ArgMatches<'a>, file: Option<&'a str>) -> Option<RaceQuestion<'a>> {
     if words.get_str("name").is_some() || words.get_flag("verbose") {
         return None;
@@ -87,8 +87,7 @@ fn all_asked<'a>(words: &ArgMatches<'a>, file: Option<&'a str>) -> Option<RaceQu
     }))
 }
 
-/// What the words of `why`, `witness` or `mend` ask: with `--all` all of them are files, and only with it there is a
-/// limit.
+/// The question of `why`, `witness` or `mend`. With `--all` all words are files. A limit is only allowed with `--all`.
 fn asked_of<'a>(
     alloc: Global,
     command: &str,
@@ -109,7 +108,8 @@ fn asked_of<'a>(
     Ok(Asked { asked, files })
 }
 
-/// Whether a command without `--from` may ask this: a file goes with one race, and `--strict` with `why` alone.
+/// Whether a command without `--from` may ask this question. A question about one race needs a file, and `--strict` is
+/// only allowed with `why`.
 fn may_ask(asked: &Asked<'_>, strict: bool) -> bool {
     match asked.asked {
         RaceQuestion::Pair(pair) => {
@@ -120,7 +120,7 @@ fn may_ask(asked: &Asked<'_>, strict: bool) -> bool {
     }
 }
 
-/// What is asked about the races of a chart or of a schedule.
+/// The question about the races of a chart or of a schedule.
 fn chart_question<'a>(asked: &Asked<'a>, strict: bool) -> Option<Request<'a>> {
     if !may_ask(asked, strict) {
         return None;
@@ -131,7 +131,7 @@ fn chart_question<'a>(asked: &Asked<'a>, strict: bool) -> Option<Request<'a>> {
     })
 }
 
-/// What is asked about the races of one file, which may be another tool's text.
+/// The question about the races of one file, which may be another tool's text.
 fn file_question<'a>(
     alloc: Global,
     asked: &Asked<'a>,
@@ -147,7 +147,7 @@ fn file_question<'a>(
     }
 }
 
-/// What the words of `why`, `witness` or `mend` ask for.
+/// The request of `why`, `witness` or `mend`.
 pub(crate) fn race_question<'a>(
     alloc: Global,
     command: &str,

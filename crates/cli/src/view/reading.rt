@@ -1,4 +1,4 @@
-//! What the words of a command line ask for.
+//! The requests of a command line's words.
 use crate::view::commands::COMMANDS;
 use crate::view::questions::race_question;
 use crate::view::request::{
@@ -11,7 +11,7 @@ use clap::ArgMatches;
 use std::alloc::{AllocError, Global};
 use std::convert::AsStr;
 
-/// The event that the words behind `--around` say.
+/// The event that the words after `--around` name.
 fn around_of<'a>(words: &[&'a str]) -> Option<Rows<'a>> {
     Some(Rows::Around {
         instance: *words.first()?,
@@ -19,7 +19,7 @@ fn around_of<'a>(words: &[&'a str]) -> Option<Rows<'a>> {
     })
 }
 
-/// The rows that the words of `draw` ask for: not both those of two numbers and those round an event.
+/// The rows that the words of `draw` ask for. Rows between two numbers and rows around an event exclude each other.
 fn rows_of<'a>(words: &ArgMatches<'a>) -> Option<Rows<'a>> {
     match (words.get_str("rows"), words.get_strs("around")) {
         (None, None) => Some(Rows::All),
@@ -29,7 +29,7 @@ fn rows_of<'a>(words: &ArgMatches<'a>) -> Option<Rows<'a>> {
     }
 }
 
-/// The chart beside its witness that the words of `draw` ask for, by those behind `--witness`.
+/// The chart beside its witness that the words of `draw` ask for, from the words after `--witness`.
 fn witness_of<'a>(pair: &[&'a str], words: &ArgMatches<'a>) -> Option<Request<'a>> {
     Some(Request::DrawWitness(DrawWitness {
         instance: *pair.first()?,
@@ -42,7 +42,7 @@ fn witness_of<'a>(pair: &[&'a str], words: &ArgMatches<'a>) -> Option<Request<'a
     }))
 }
 
-/// Whether the words of `draw` have an option that goes with one picture alone.
+/// Whether the words of `draw` have an option that is only for a single picture.
 fn is_for_one(words: &ArgMatches<'_>) -> bool {
     words.get_str("events").is_some()
         || words.get_str("rows").is_some()
@@ -67,7 +67,7 @@ fn picture_of<'a>(alloc: Global, words: &ArgMatches<'a>) -> Result<Request<'a>, 
     }))
 }
 
-/// What the words of `draw` ask for.
+/// The request of `draw`.
 fn draw_of<'a>(alloc: Global, words: &ArgMatches<'a>) -> Result<Request<'a>, CommandLineError> {
     match words.get_strs("witness") {
         None => picture_of(alloc, words),
@@ -80,7 +80,7 @@ fn draw_of<'a>(alloc: Global, words: &ArgMatches<'a>) -> Result<Request<'a>, Com
     }
 }
 
-/// What the words of `export` ask for.
+/// The request of `export`.
 fn export_of<'a>(words: &ArgMatches<'a>) -> Option<Request<'a>> {
     Some(Request::Export(Export {
         to: words.get_str("to")?,
@@ -88,7 +88,7 @@ fn export_of<'a>(words: &ArgMatches<'a>) -> Option<Request<'a>> {
     }))
 }
 
-/// The words behind each use of an option.
+/// The words after each use of an option.
 pub(crate) fn words_of<'a>(
     alloc: Global,
     words: &ArgMatches<'a>,
@@ -102,7 +102,7 @@ fn files_of<'a>(alloc: Global, words: &ArgMatches<'a>) -> Result<Vec<&'a str>, A
     words_of(alloc, words, "FILE")
 }
 
-/// How the words of a command say that another tool's text is read.
+/// How another tool's text is read, from the words of a command.
 fn reading_of<'a>(alloc: Global, words: &ArgMatches<'a>) -> Result<Reading<'a>, AllocError> {
     Ok(Reading {
         from: words.get_str("from"),
@@ -112,7 +112,7 @@ fn reading_of<'a>(alloc: Global, words: &ArgMatches<'a>) -> Result<Reading<'a>, 
     })
 }
 
-/// How the lines of a log are written, where the words say that one is read.
+/// How the lines of a log are written, if the words ask for a log.
 pub(crate) fn log_form<'a>(words: &ArgMatches<'a>) -> Option<LogForm<'a>> {
     match (words.get_str("from"), words.get_str("pattern")) {
         (Some("log"), None) => Some(LogForm::Plain),
@@ -172,7 +172,7 @@ fn tool_of<'a>(alloc: Global, words: &ArgMatches<'a>) -> Result<Request<'a>, Com
     }))
 }
 
-/// What the words of `import` ask for.
+/// The request of `import`.
 fn import_of<'a>(alloc: Global, words: &ArgMatches<'a>) -> Result<Request<'a>, CommandLineError> {
     match log_form(words) {
         Some(form) => {
@@ -183,8 +183,8 @@ fn import_of<'a>(alloc: Global, words: &ArgMatches<'a>) -> Result<Request<'a>, C
     }
 }
 
-/// How a command's file is read, if it is another tool's text. G1: without `--from` there is an option of `import`, but
-/// for `--strict`, which is the command's own then.
+/// How a command's file is read, if it is another tool's text. G1: there is an option of `import` without `--from`.
+/// Only `--strict` is allowed then, as an option of the command itself.
 pub(crate) fn other_reading<'a>(
     alloc: Global,
     words: &ArgMatches<'a>,
@@ -199,7 +199,7 @@ pub(crate) fn other_reading<'a>(
     Ok(None)
 }
 
-/// What the words of `compare` ask for.
+/// The request of `compare`.
 fn compare_of<'a>(words: &ArgMatches<'a>) -> Option<Request<'a>> {
     Some(Request::Compare(Compare {
         json: words.get_flag("json"),
@@ -222,7 +222,7 @@ fn file_races_of<'a>(
     }))
 }
 
-/// What the words of `races` ask for.
+/// The request of `races`.
 fn races_of<'a>(alloc: Global, words: &ArgMatches<'a>) -> Result<Request<'a>, CommandLineError> {
     match log_form(words) {
         Some(form) => Ok(Request::LogRaces(LogRaces {
@@ -248,7 +248,7 @@ fn file_page_of<'a>(
     }
 }
 
-/// What the words of `page` ask for.
+/// The request of `page`.
 fn page_of<'a>(alloc: Global, words: &ArgMatches<'a>) -> Result<Request<'a>, CommandLineError> {
     match log_form(words) {
         Some(form) => Ok(Request::LogPage(log_of(alloc, form, words, files_of(alloc, words)?)?)),
@@ -256,7 +256,7 @@ fn page_of<'a>(alloc: Global, words: &ArgMatches<'a>) -> Result<Request<'a>, Com
     }
 }
 
-/// What the words of another command ask for.
+/// The request of another command.
 fn other_of<'a>(command: &str, words: &ArgMatches<'a>) -> Option<Request<'a>> {
     match command {
         "export" => export_of(words),
@@ -267,7 +267,7 @@ fn other_of<'a>(command: &str, words: &ArgMatches<'a>) -> Option<Request<'a>> {
     }
 }
 
-/// What a command's words ask for.
+/// The request of a command's words.
 fn request_of<'a>(
     alloc: Global,
     command: &str,
@@ -283,7 +283,7 @@ fn request_of<'a>(
     }
 }
 
-/// What these words ask for, of which the first is the program's name.
+/// The request of these words, of which the first is the program's name.
 ///
 /// G1: they aren't a command line that the program understands. F6: a growth was refused.
 pub fn requested<'a, S: AsStr>(

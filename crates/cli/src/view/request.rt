@@ -1,7 +1,7 @@
-//! What a command line asks for.
+//! The request of a command line.
 use crate::view::showing::Showing;
 
-/// What is asked about a pair of events.
+/// A question about a pair of events.
 #[derive(Clone, Copy, Debug, PartialEq, Eq)]
 pub enum Question {
     /// `witness FILE INSTANCE EARLIER RECEIVE`.
@@ -10,11 +10,11 @@ pub enum Question {
     Why,
 }
 
-/// What is asked about two events of an instance's line. The numbers are words still.
+/// A question about two events of an instance's line. The numbers are still words.
 #[derive(Clone, Copy, Debug, PartialEq, Eq)]
 pub struct Pair<'a> {
     pub question: Question,
-    /// Whether `--strict` is given, which goes with `why`. With `--from` it is about the tool's text.
+    /// Whether `--strict` is given, which is only for `why`. With `--from` it applies to the tool's text.
     pub strict: bool,
     pub file: &'a str,
     pub instance: &'a str,
@@ -22,89 +22,89 @@ pub struct Pair<'a> {
     pub receive: &'a str,
 }
 
-/// Which rows are to be drawn. The numbers are words still.
+/// The rows to draw. The numbers are still words.
 #[derive(Clone, Copy, Debug, PartialEq, Eq)]
 pub enum Rows<'a> {
     All,
-    /// The numbers behind `--rows`, joined by two dots.
+    /// The numbers after `--rows`, joined by two dots.
     Between(&'a str),
-    /// Those round the event behind `--around`: the name of its instance, and its number.
+    /// The rows around the event after `--around`: the name of its instance, and its number.
     Around { instance: &'a str, event: &'a str },
 }
 
-/// What is to be drawn, and how. The names and the numbers are words still.
+/// What to draw, and how. The names and the numbers are still words.
 #[derive(Debug, Drop)]
 pub struct Draw<'a> {
-    /// The names behind `--only`, joined by commas.
+    /// The names after `--only`, joined by commas.
     pub only: Option<&'a str>,
-    /// The numbers behind `--events`, joined by two dots.
+    /// The numbers after `--events`, joined by two dots.
     pub events: Option<&'a str>,
     pub rows: Rows<'a>,
-    /// The words behind `--title`.
+    /// The words after `--title`.
     pub title: Option<&'a str>,
     /// Whether `--numbers` is given.
     pub numbers: bool,
-    /// With `--from`: how the file is read, which is another tool's text then.
+    /// With `--from`: how the file, another tool's text, is read.
     pub reading: Option<Reading<'a>>,
-    /// Whether `--strict` is given. With `--from` it is about the tool's text.
+    /// Whether `--strict` is given. With `--from` it applies to the tool's text.
     pub strict: bool,
-    /// Without it, and where it is `-`, standard input is read.
+    /// If it is missing or `-`, standard input is read.
     pub file: Option<&'a str>,
 }
 
-/// A page that is to be written.
+/// A page to write.
 #[derive(Clone, Copy, Debug, PartialEq, Eq)]
 pub struct Page<'a> {
     /// Whether `--strict` is given.
     pub strict: bool,
-    /// Without it, and where it is `-`, standard input is read.
+    /// If it is missing or `-`, standard input is read.
     pub file: Option<&'a str>,
 }
 
-/// A chart that is to be drawn beside its witness. The names and the numbers are words still.
+/// A chart to draw beside its witness. The names and the numbers are still words.
 #[derive(Clone, Copy, Debug, PartialEq, Eq)]
 pub struct DrawWitness<'a> {
-    /// The words behind `--witness`.
+    /// The words after `--witness`.
     pub instance: &'a str,
     pub earlier: &'a str,
     pub receive: &'a str,
-    /// The names behind `--only`, joined by commas.
+    /// The names after `--only`, joined by commas.
     pub only: Option<&'a str>,
-    /// The words behind `--title`.
+    /// The words after `--title`.
     pub title: Option<&'a str>,
     /// Whether `--numbers` is given.
     pub numbers: bool,
-    /// Without it, and where it is `-`, standard input is read.
+    /// If it is missing or `-`, standard input is read.
     pub file: Option<&'a str>,
 }
 
-/// What is to be written for another tool.
+/// A text to write for another tool.
 #[derive(Clone, Copy, Debug, PartialEq, Eq)]
 pub struct Export<'a> {
-    /// The word behind `--to`.
+    /// The word after `--to`.
     pub to: &'a str,
-    /// Without it, and where it is `-`, standard input is read.
+    /// If it is missing or `-`, standard input is read.
     pub file: Option<&'a str>,
 }
 
-/// How another tool's text is to be read. The lines and the names are words still.
+/// How to read another tool's text. The lines and the names are still words.
 #[derive(Debug, Drop)]
 pub struct Reading<'a> {
-    /// The word behind `--from`. Without it the text tells the tool.
+    /// The word after `--from`. Without it the text itself shows the tool.
     pub from: Option<&'a str>,
     /// Whether `--strict` is given.
     pub strict: bool,
-    /// The lines behind each `--skip`, joined by two dots, in the order of the command line.
+    /// The lines after each `--skip`, joined by two dots, in the order of the command line.
     pub skipped: Vec<&'a str>,
-    /// The words behind each `--join`, in the order of the command line.
+    /// The words after each `--join`, in the order of the command line.
     pub joined: Vec<&'a str>,
 }
 
-/// What is to be read of another tool.
+/// Another tool's text to read.
 #[derive(Debug, Drop)]
 pub struct Import<'a> {
     pub reading: Reading<'a>,
-    /// Without it, and where it is `-`, standard input is read.
+    /// If it is missing or `-`, standard input is read.
     pub file: Option<&'a str>,
 }
 
@@ -119,23 +119,23 @@ pub enum LogForm<'a> {
     ShiViz,
 }
 
-/// A log that is to be read. The hosts and the numbers are words still.
+/// A log to read. The hosts and the numbers are still words.
 #[derive(Debug, Drop)]
 pub struct ImportLog<'a> {
     pub form: LogForm<'a>,
-    /// The names behind `--hosts`, joined by commas.
+    /// The names after `--hosts`, joined by commas.
     pub hosts: Option<&'a str>,
-    /// The words behind each `--peer`, in the order of the command line.
+    /// The words after each `--peer`, in the order of the command line.
     pub peers: Vec<&'a str>,
-    /// The number behind `--from-line`.
+    /// The number after `--from-line`.
     pub from_line: Option<&'a str>,
-    /// The number behind `--to-line`.
+    /// The number after `--to-line`.
     pub to_line: Option<&'a str>,
-    /// Without any, and where it is one that is `-`, standard input is read.
+    /// If there are none, or `-` is the only one, standard input is read.
     pub files: Vec<&'a str>,
 }
 
-/// Two recordings to be compared.
+/// Two recordings to compare.
 #[derive(Clone, Copy, Debug, PartialEq, Eq)]
 pub struct Compare<'a> {
     /// Whether `--json` is given.
@@ -144,31 +144,31 @@ pub struct Compare<'a> {
     pub second: &'a str,
 }
 
-/// The races of a file that are to be shown.
+/// The races of a file to show.
 #[derive(Debug, Drop)]
 pub struct Races<'a> {
     pub showing: Showing<'a>,
-    /// With `--from`: how the file is read, which is another tool's text then.
+    /// With `--from`: how the file, another tool's text, is read.
     pub reading: Option<Reading<'a>>,
-    /// Whether `--strict` is given. With `--from` it is about the tool's text.
+    /// Whether `--strict` is given. With `--from` it applies to the tool's text.
     pub strict: bool,
-    /// Without it, and where it is `-`, standard input is read.
+    /// If it is missing or `-`, standard input is read.
     pub file: Option<&'a str>,
 }
 
-/// The races of a log that are to be shown.
+/// The races of a log to show.
 #[derive(Debug, Drop)]
 pub struct LogRaces<'a> {
     pub showing: Showing<'a>,
     pub log: ImportLog<'a>,
 }
 
-/// Which races are to go by more messages. The name and the numbers are words still.
+/// The races to mend by additional messages. The name and the numbers are still words.
 #[derive(Clone, Copy, Debug, PartialEq, Eq)]
 pub enum Mend<'a> {
-    /// One.
+    /// One race.
     One {
-        /// The name behind `--name`.
+        /// The name after `--name`.
         name: Option<&'a str>,
         /// Whether `--verbose` is given.
         verbose: bool,
@@ -177,17 +177,17 @@ pub enum Mend<'a> {
         earlier: &'a str,
         receive: &'a str,
     },
-    /// All, with `--all`.
+    /// All races, with `--all`.
     All {
-        /// The number behind `--limit`.
+        /// The number after `--limit`.
         limit: Option<&'a str>,
-        /// Without it, and where it is `-`, standard input is read.
+        /// If it is missing or `-`, standard input is read.
         file: Option<&'a str>,
     },
 }
 
-/// What is asked about the races of a chart. Where the chart is imported first, the import has the files, and the file
-/// here is the first of them, or `-`.
+/// A question about the races of a chart. If the chart is imported first, the import has the files, and the file here
+/// is the first of them, or `-`.
 #[derive(Clone, Copy, Debug, PartialEq, Eq)]
 pub enum RaceQuestion<'a> {
     /// By `why` or `witness`.
@@ -196,21 +196,21 @@ pub enum RaceQuestion<'a> {
     Mend(Mend<'a>),
 }
 
-/// What is asked about the races of another tool's diagram.
+/// A question about the races of another tool's diagram.
 #[derive(Debug, Drop)]
 pub struct ToolQuestion<'a> {
     pub asked: RaceQuestion<'a>,
     pub import: Import<'a>,
 }
 
-/// What is asked about the races of a log.
+/// A question about the races of a log.
 #[derive(Debug, Drop)]
 pub struct LogQuestion<'a> {
     pub asked: RaceQuestion<'a>,
     pub log: ImportLog<'a>,
 }
 
-/// What a command line asks for.
+/// The request of a command line.
 #[derive(Debug, Drop)]
 pub enum Request<'a> {
     /// `why` and `witness`, which ask about two events.
@@ -248,8 +248,8 @@ pub enum Request<'a> {
     /// `why`, `witness` or `mend` with `--from log|shiviz` and the options of `import`, and `[FILE..]` before the words
     /// of a `race` line.
     LogQuestion(LogQuestion<'a>),
-    /// `tidy [FILE]`: without the file, and where it is `-`, standard input is read.
+    /// `tidy [FILE]`: if the file is missing or `-`, standard input is read.
     Tidy(Option<&'a str>),
-    /// `explain [FILE]`: without the file, and where it is `-`, standard input is read.
+    /// `explain [FILE]`: if the file is missing or `-`, standard input is read.
     Explain(Option<&'a str>),
 }

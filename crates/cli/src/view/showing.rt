@@ -1,8 +1,8 @@
-//! Which races are to be shown, and how: the options, what they ask for, and how they are read.
+//! Which races to show, and how: the options, their request, and how they are read.
 use crate::Word;
 use clap::ArgMatches;
 
-/// The options of `races`, but for those of reading another tool's text or a log.
+/// The options of `races`, except for those for reading another tool's text or a log.
 pub(crate) const SHOWING: &[Word] = &[
     Word::Option("only", 1),
     Word::Flag("receives"),
@@ -11,10 +11,10 @@ pub(crate) const SHOWING: &[Word] = &[
     Word::Flag("json"),
 ];
 
-/// Which races are to be shown, and how. The names are words still.
+/// Which races to show, and how. The names are still words.
 #[derive(Clone, Copy, Debug, PartialEq, Eq)]
 pub struct Showing<'a> {
-    /// The names behind `--only`, joined by commas.
+    /// The names after `--only`, joined by commas.
     pub only: Option<&'a str>,
     /// Whether `--receives` is given.
     pub receives: bool,

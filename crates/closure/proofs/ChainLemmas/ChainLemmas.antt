@@ -1,4 +1,4 @@
--- Chains of direct steps: joined, of what is before, and what they show.
+-- Chains of direct steps: joining them, having them, and what they show.
 use Rattle.std.proofs.Common.{◌≡◌, ◌≤◌, List, [], ◌∷◌, ◌++◌, length, refl, sym, subst, arith}
 use Rattle.std.proofs.lemmas.List.{length-append}
 use Rattle.chart.specs.Charts.{Chart, Place}
@@ -26,7 +26,7 @@ step_direct c Message e f belongs = message belongs
 step_direct c BeforeSend e f (earlier, (q, sends)) = to_send q earlier sends
 step_direct c SameSender e f (earlier, (q, from, to)) = same_sender q earlier from to
 
--- what some links lead from is before what they lead to
+-- the event from which some links lead is before the event to which they lead
 pub before_from_lead : (c : Chart) (e r : Place) (links : List Link) → Lead c e r links → 1 ≤ length links → Before c e r
 before_from_lead c e r [] same some = absurd (omega arith)
 before_from_lead c e r (link ∷ []) (is, step, same) some =
@@ -46,7 +46,7 @@ link_of c e f (message belongs) = (record { earlier = record { instance = e.inst
 link_of c e f (to_send q earlier sends) = (record { earlier = record { instance = e.instance; index = e.index }; later = record { instance = f.instance; index = f.index }; rule = BeforeSend } ∷ [], (refl, (earlier, (q, sends)), refl), omega arith)
 link_of c e f (same_sender q earlier from to) = (record { earlier = record { instance = e.instance; index = e.index }; later = record { instance = f.instance; index = f.index }; rule = SameSender } ∷ [], (refl, (earlier, (q, from, to)), refl), omega arith)
 
--- what is before has links
+-- an event that is before another one has links to it
 pub links_of : {c : Chart} {e r : Place} → Before c e r → HasLinks c e r
 links_of {c = c} {e = e} {r = r} (direct step) = link_of c e r step
 links_of {c = c} {e = e} {r = r} (through {d = d} x y) =

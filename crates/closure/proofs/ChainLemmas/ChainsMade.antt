@@ -1,4 +1,4 @@
--- The links that are made along the sends that were reached, and that they are a shortest chain.
+-- The links that are made along the sends that were reached are a shortest chain.
 use Rattle.std.proofs.Common.{◌≡◌, ℕ, ◌+◌, ◌*◌, ◌<◌, ◌≤◌, inl, inr, List, [], ◌∷◌, ◌++◌, length, None, Some, refl, sym, ap, ◌∙◌, subst, arith}
 use Rattle.std.proofs.lemmas.Bool.{cases_eq}
 use Rattle.std.proofs.lemmas.List.{length-append}
@@ -16,11 +16,11 @@ use Rattle.closure.specs.Chain.Reaching.{IsAt, IsTrail, AreAll, IsUnder, AreStep
 use Rattle.closure.proofs.ChainLemmas.ChainLemmas.{lead_more, before_from_lead, links_of}
 use Rattle.closure.proofs.ChainLemmas.Leading.{known_in}
 
--- links that lead to a send, and so many steps more than they have messages on their way
+-- links that lead to a send: with the steps of the send's way they have k steps
 abbrev pub LeadsBy : Chart → Place → Reached → List Link → ℕ → Type 0
 LeadsBy c e y links k = Lead c e (place_of y.send) links × (length links + 2 * y.depth + 1 ≡ k)
 
--- an event under a send has some steps
+-- an event that is a send or above it has a number of steps
 pub some_steps : (x : Reached) (e : Place) → IsUnder x e → (k : ℕ) × AreSteps x e k
 some_steps x e under =
     elim (cases_eq e.index x.send.index) [
@@ -28,7 +28,7 @@ some_steps x e under =
       | inr differs ↦ (2 * x.depth + 2, inr ((let most = under.within in omega arith), refl))
     ]
 
--- a message, and up the line to the send that was found before
+-- a message, and a step to the send that was found before
 pub leads_on : (c : Chart) (r e : Place) (found : List Reached) (i : ℕ) (x z : Reached) (links : List Link) (k : ℕ) → IsTrail c r found → 0 < i → IsAt found i x → IsAt found x.next z → LeadsBy c e x links k
     → (x.next < i) × LeadsBy c e z ((links ++ record { earlier = x.send; later = x.receive; rule = Message } ∷ []) ++ record { earlier = x.receive; later = z.send; rule = BeforeSend } ∷ []) k
 leads_on c r e found i x z links k trail further here next leads =
@@ -62,7 +62,7 @@ leads_to_end c r e found x links k trail here leads =
       | inl w ↦ (lead_more c e (place_of x.send) r links a leads.0 refl way.belongs w.1, omega (arith, length-append links (a ∷ []), leads.1, w.2))
     ]
 
--- two receives of a line from the same sender are one link
+-- two receives of a line from the same sender have a chain of one link
 pub one_is_shortest : (c : Chart) (q : ℕ) (e r : EventNo) → IsEarlierReceive c q (place_of e) (place_of r) → IsReceiveFrom c q (place_of r)
     → Before c (place_of e) (place_of r) × IsShortestChain c (place_of e) (place_of r) (record { earlier = e; later = r; rule = SameSender } ∷ [])
 one_is_shortest c q e r above received =
@@ -70,7 +70,7 @@ one_is_shortest c q e r above received =
     (before_from_lead c (place_of e) (place_of r) (record { earlier = e; later = r; rule = SameSender } ∷ []) lead (omega arith), record { lead = lead; some = omega arith; shortest = λ others leads some. some })
 
 module _ (c : Chart) (r s e : Place) (found : List Reached) (all : AreAll c r found) (belongs : BelongsTo c s r) (other : IsEarlierReceive c s.instance e r → ⊥) where
-  -- where it is above no send that was found, it isn't before
+  -- if e is above no send that was found, it isn't before r
   pub not_before : IsNearest found e (length found) None → Before c e r → ⊥
   not_before none before =
       let w = links_of before in
@@ -79,7 +79,7 @@ module _ (c : Chart) (r s e : Place) (found : List Reached) (all : AreAll c r fo
         | inr (i, x, k, here, under, steps, most) ↦ none i x (slice_get_within found i x here) here under
       ]
 
-  -- by the one with the fewest steps the links are a shortest chain
+  -- the links by the send with the fewest steps are a shortest chain
   pub by_nearest_shortest : (number least : ℕ) (links : List Link) → IsNearest found e (length found) (Some (number, least)) → IsChainBy c r found number e links → Before c e r × IsShortestChain c e r links
   by_nearest_shortest number least links (x, here, under, steps, fewest) by =
       let many : length links ≡ least = by.steps x least here steps in

@@ -1,4 +1,4 @@
--- However links lead to a receive, what they lead from was reached by no more steps.
+-- The event from which any links lead to a receive was reached with no more steps than links.
 use Rattle.std.proofs.Common.{◌≡◌, ℕ, suc, ◌+◌, ◌*◌, ◌<◌, ◌≤◌, ◌⊎◌, inl, inr, List, [], ◌∷◌, length, refl, sym, ap, ◌∙◌, subst, arith, add-one}
 use Rattle.chart.specs.Events.{is_send_to}
 use Rattle.chart.specs.Charts.{Chart, Place, IsSendTo, IsReceiveFrom, BelongsTo}
@@ -13,7 +13,7 @@ use Rattle.closure.specs.declared.chain.reaching.Reached.{Reached}
 use Rattle.closure.specs.Chain.Chains.{IsStepBy, Lead}
 use Rattle.closure.specs.Chain.Reaching.{IsAt, AreAll, IsUnder, AreSteps}
 
--- e was reached by m steps at most
+-- e was reached by at most m steps
 abbrev pub IsReachedIn : List Reached → Place → ℕ → Type 0
 IsReachedIn found e m = (i : ℕ) × (x : Reached) × (k : ℕ) × IsAt found i x × IsUnder x e × AreSteps x e k × (k ≤ m)
 
@@ -22,7 +22,7 @@ module _ (c : Chart) (r : Place) (s : Place) (found : List Reached) (all : AreAl
   abbrev IsKnownIn : Place → ℕ → Type 0
   IsKnownIn e m = (IsEarlierReceive c s.instance e r × (1 ≤ m)) ⊎ IsReachedIn found e m
 
-  -- the first that was found is the send of r
+  -- the first send that was found is the send of r
   first_send : (x : Reached) → IsAt found 0 x → (place_of x.send ≡ s) × (x.depth ≡ 0)
   first_send x here =
       let way = all.trail.each 0 x here in
@@ -31,14 +31,14 @@ module _ (c : Chart) (r : Place) (s : Place) (found : List Reached) (all : AreAl
         | inr w ↦ absurd (omega (arith, w.1))
       ]
 
-  -- an event of a line is under a send of it
+  -- an event earlier than a send that was reached is under it
   under_send : (x : Reached) (e t : Place) → place_of x.send ≡ t → IsEarlier e t → IsUnder x e × (e.index < x.send.index)
   under_send x e t is earlier = (
     record { line = earlier.line ∙ sym (ap (λ (p : Place). p.instance) is); begun = earlier.begun; within = let i = ap (λ (p : Place). p.index) is in omega (arith, earlier.less, i) },
     (let i = ap (λ (p : Place). p.index) is in omega (arith, earlier.less, i)),
   )
 
-  -- the send itself is too
+  -- the send itself is under itself
   under_itself : (x : Reached) (t : Place) (q : ℕ) → place_of x.send ≡ t → IsSendTo c q t → IsUnder x t × (t.index ≡ x.send.index)
   under_itself x t q is sends =
       let event = IsEvent-from_passes c (is_send_to q) t sends in
@@ -78,7 +78,7 @@ module _ (c : Chart) (r : Place) (s : Place) (found : List Reached) (all : AreAl
       let few : 2 * x.depth + 1 ≤ k = elim steps [ inl w ↦ omega (arith, w.1) | inr w ↦ omega (arith, w.1) ] in
       inr (i, x, 2 * x.depth + 2, here, record { line = earlier.line ∙ under.line; begun = earlier.begun; within = omega arith }, inr (less, refl), omega arith)
 
-  -- a step to what was reached
+  -- a step to an event that was reached
   to_reached : (rule : Rule) (e d : Place) (m : ℕ) → IsReachedIn found d m → IsStepBy c rule e d → IsKnownIn e (m + 1)
   to_reached Message e d m (i, x, k, here, under, steps, most) step =
       let way = all.trail.each i x here in
@@ -94,7 +94,7 @@ module _ (c : Chart) (r : Place) (s : Place) (found : List Reached) (all : AreAl
   to_reached BeforeSend e d m reached (earlier, sends) = above_reached e d m reached earlier
   to_reached SameSender e d m reached (earlier, both) = above_reached e d m reached earlier
 
-  -- whatever links lead from
+  -- any event from which links lead to r
   pub known_in : (links : List Link) (e : Place) → Lead c e r links → 1 ≤ length links → IsKnownIn e (length links)
   known_in [] e same some = absurd (omega arith)
   known_in (link ∷ []) e (is, step, same) some =

@@ -1,4 +1,4 @@
--- What comes before a receive, by what is up to its send.
+-- What comes before a receive, given what its send knows.
 use Rattle.std.proofs.Common.{◌≡◌, ℕ, suc, ◌≤◌, inl, inr, List, length, sym, ◌∙◌, subst, arith, le_refl}
 use Rattle.std.specs.Prelude.{slice_index}
 use Rattle.std.proofs.lemmas.Bool.{cases_lt}
@@ -9,7 +9,8 @@ use Rattle.closure.specs.Searches.{IsReached, IsEarlierReceive}
 use Rattle.closure.proofs.BeforeLemmas.{before_received}
 use Rattle.closure.specs.Chain.Pasts.{IsPast, OnePastLaw}
 
--- so many first events of each line are up to the send: then they are what is before its receive, but for receives above
+-- if this many first events of each line are the send or before it, they are what is before its receive, except for
+-- receives above
 pub IsPast-from_reached : (n : ℕ) (c : Chart) (s r : Place) (counts : List ℕ) → length counts ≡ n → BelongsTo c s r → IsReached c s counts → IsPast n c r counts
 IsPast-from_reached n c s r counts whole belongs reached = record {
   whole = whole;
@@ -22,7 +23,7 @@ IsPast-from_reached n c s r counts whole belongs reached = record {
       );
 }
 
--- of a line no more first events are up to a send in one list than in another
+-- one list has no more first events of a line that are a send or before it than another
 no_more : (c : Chart) (s : Place) (a b : List ℕ) → IsReached c s a → IsReached c s b → (p : ℕ) → slice_index a p ≤ slice_index b p
 no_more c s a b of_a of_b p =
     elim (cases_lt (slice_index b p) (slice_index a p)) [
@@ -33,7 +34,7 @@ no_more c s a b of_a of_b p =
       | inr past ↦ past
     ]
 
--- a receive has one past
+-- a receive has only one past
 pub one_past : OnePastLaw
 one_past n c r a b of_a of_b =
     let s : Place = of_a.reached.0 in

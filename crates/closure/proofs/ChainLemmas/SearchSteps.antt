@@ -1,4 +1,4 @@
--- What the search keeps: at its start, when an event was followed, when a send is done with, and at its end.
+-- What the search keeps: at its start, when an event was followed, when a send is finished, and at its end.
 use Rattle.std.proofs.Common.{◌≡◌, ℕ, zero, suc, ◌+◌, ◌<◌, ◌≤◌, ◌⊎◌, inl, inr, List, [], ◌∷◌, ◌++◌, length, set, replicate, refl, sym, ap, ◌∙◌, subst, arith}
 use Rattle.std.specs.Prelude.{slice_get, slice_index}
 use Rattle.std.proofs.lemmas.Bool.{cases_eq}
@@ -18,11 +18,11 @@ use Rattle.closure.proofs.SearchLemmas.{entry-zeros}
 use Rattle.closure.specs.declared.chain.reaching.Reached.{Reached}
 use Rattle.closure.specs.Chain.Reaching.{IsAt, IsOnTheWay, IsFollowed, IsSearching, AreAll, HasFollowed}
 
--- what was found stays where it is
+-- the sends that were found keep their numbers
 at_more : (found : List Reached) (y : Reached) (i : ℕ) (x : Reached) → IsAt found i x → IsAt (found ++ y ∷ []) i x
 at_more found y i x here = slice_get-append found (y ∷ []) i (slice_get_within found i x here) ∙ here
 
--- the first one alone
+-- only the first send was found
 pub searching-first : (c : Chart) (r : Place) (x : Reached) (n : ℕ) → BelongsTo c (place_of x.send) (place_of x.receive) → place_of x.receive ≡ r → x.depth ≡ 0 → IsSearching c r (x ∷ []) (replicate n 0) 0
 searching-first c r x n belongs there none = record {
   trail = record {
@@ -45,7 +45,7 @@ searching-first c r x n belongs there none = record {
         subst (λ w. IsOnTheWay c r (x ∷ []) i w) a.1 (record { belongs = belongs; onward = inl (a.0, there, none); low = omega (arith, none) })
 
 module _ (c : Chart) (r : Place) (found : List Reached) (seen : List ℕ) (head : ℕ) (old : IsSearching c r found seen head) where
-  -- all above the head was seen
+  -- all events above the head were seen
   pub searching-done : (x : Reached) → IsAt found head x → x.send.index ≤ entry seen x.send.instance + 1 → IsSearching c r found seen (head + 1)
   searching-done x here all = record {
     trail = old.trail;
@@ -66,11 +66,11 @@ module _ (c : Chart) (r : Place) (found : List Reached) (seen : List ℕ) (head 
     abbrev k : ℕ
     k = slice_index seen p
 
-    -- the numbers with one event of the line more
+    -- the numbers with one more event of the line
     abbrev more : List ℕ
     more = set seen p (k + 1)
 
-    -- what was seen before, or the event
+    -- an event that was seen before, or this one
     seen_before : (e : Place) → e.index ≤ entry more e.instance → (e.index ≤ entry seen e.instance) ⊎ (e ≡ at (suc p) (k + 1))
     seen_before e within =
         elim (cases_eq e.instance (suc p)) [
@@ -83,7 +83,7 @@ module _ (c : Chart) (r : Place) (found : List Reached) (seen : List ℕ) (head 
               ]
         ]
 
-    -- one that is no receive
+    -- the event is no receive
     pub searching-other : ((q : ℕ) → IsReceiveFrom c q (at (suc p) (k + 1)) → ⊥) → IsSearching c r found more head
     searching-other none = record {
       trail = old.trail;
@@ -114,7 +114,7 @@ module _ (c : Chart) (r : Place) (found : List Reached) (seen : List ℕ) (head 
             low = way.low;
           }
 
-      -- a receive, whose send is found by the head
+      -- the event is a receive, whose send is found from the head
       pub searching-receive : IsSearching c r longer more head
       searching-receive = record {
         trail = record {
@@ -137,7 +137,7 @@ module _ (c : Chart) (r : Place) (found : List Reached) (seen : List ℕ) (head 
           within : head < length found
           within = slice_get_within found head x here
 
-          -- one of those before, or the new one
+          -- one of the earlier sends, or the new one
           which : (i : ℕ) (z : Reached) → IsAt longer i z → IsAt found i z ⊎ ((i ≡ length found) × (z ≡ y))
           which = each-push (λ i z. IsAt found i z ⊎ ((i ≡ length found) × (z ≡ y))) found y (λ i z at_i. inl at_i) (inr (refl, refl))
 
@@ -178,7 +178,7 @@ module _ (c : Chart) (r : Place) (found : List Reached) (seen : List ℕ) (head 
                 | inr w ↦ absurd (omega (arith, w.0, within))
               ]
 
-  -- whatever came of the event
+  -- the event was followed, whatever its kind
   pub searching-followed : (p : ℕ) (x : Reached) (event : EventNo) (new : List Reached) → p < length seen → IsAt found head x → place_of event ≡ at (suc p) (slice_index seen p + 1) → IsEarlier (place_of event) (place_of x.send) → HasFollowed c event head found new
       → IsSearching c r new (set seen p (slice_index seen p + 1)) head
   searching-followed p x event new inside here is above (inl (none, same)) =
@@ -188,14 +188,14 @@ module _ (c : Chart) (r : Place) (found : List Reached) (seen : List ℕ) (head 
       let longer = searching-receive p inside x send event here is belongs above in
       subst (λ (xs : List Reached). IsSearching c r xs (set seen p (slice_index seen p + 1)) head) (ap (λ (w : Reached). found ++ record { send = send; receive = event; next = head; depth = w.depth + 1 } ∷ []) one ∙ sym grown) longer
 
-  -- all were done with
+  -- all sends are finished
   pub AreAll-from_searching : length found ≤ head → AreAll c r found
   AreAll-from_searching whole = record {
     trail = old.trail;
     followed = λ i x here. old.done i x (let w = slice_get_within found i x here in omega arith) here;
   }
 
--- where the send at the head stands
+-- the place of the send at the head
 pub head_place : (lines : List LineView) (r : Place) (found : List Reached) (seen : List ℕ) (head p : ℕ) (x : Reached) → IsSearching (chart_lines lines) r found seen head → IsAt found head x → x.send.instance ≡ suc p
     → (p < length lines) × (1 ≤ x.send.index) × (x.send.index ≤ length (chart_lines lines (suc p)))
 head_place lines r found seen head p x old here is =
@@ -204,7 +204,7 @@ head_place lines r found seen head p x old here is =
     let w = instance_within lines (place_of x.send) event in
     (omega (arith, w.1, w.2, is), event.0, subst (λ q. x.send.index ≤ length (chart_lines lines q)) is event.1)
 
--- one more was found at most
+-- at most one more send was found
 pub followed_length : (c : Chart) (event : EventNo) (number : ℕ) (old new : List Reached) → HasFollowed c event number old new → (length old ≤ length new) × (length new ≤ length old + 1)
 followed_length c event number old new (inl (none, same)) = let e = ap (λ (l : List Reached). length l) same in (omega (arith, e), omega (arith, e))
 followed_length c event number old new (inr (send, x, belongs, here, grown)) =

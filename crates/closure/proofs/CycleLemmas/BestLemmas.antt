@@ -1,4 +1,4 @@
--- The best round so far: through one event more, and through all.
+-- The best round so far: through one more event, and through all events.
 use Rattle.std.proofs.Common.{◌≡◌, ℕ, suc, ◌+◌, ◌<◌, ◌≤◌, inl, inr, List, length, Option, None, Some, sym, subst, arith}
 use Rattle.std.proofs.lemmas.Bool.{cases_eq, cases_lt}
 use Rattle.std.specs.Prelude.{MatchOption}
@@ -13,14 +13,14 @@ use Rattle.closure.proofs.CycleLemmas.LeadLemmas.{round_event}
 use Rattle.closure.proofs.CycleLemmas.ShorterRounds.{few_around}
 use Rattle.closure.proofs.CycleLemmas.UnderLemmas.{round_from_cyclic}
 
--- fewer messages than fewer
+-- a smaller bound
 none_below : (c : Chart) (e : Place) (bound less : ℕ) → less ≤ bound → HasNoRound c e bound → HasNoRound c e less
 none_below c e bound less le none many some low leads = none many some (omega (arith, le, low)) leads
 
 pub none_on_below : (c : Chart) (p k bound less : ℕ) → less ≤ bound → HasNoneOn c p k bound → HasNoneOn c p k less
 none_on_below c p k bound less le none e line begun within = none_below c e bound less le (none e line begun within)
 
--- one event more
+-- one more event
 none_on-next : (c : Chart) (p k bound : ℕ) → HasNoneOn c p k bound → HasNoRound c (at p (suc k)) bound → HasNoneOn c p (k + 1) bound
 none_on-next c p k bound none next e line begun within =
     elim (cases_eq e.index (suc k)) [
@@ -28,11 +28,11 @@ none_on-next c p k bound none next e line begun within =
       | inr differs ↦ none e line begun (omega (arith, within, differs))
     ]
 
--- what is found through an event: no round of so few messages, or one with none that has fewer
+-- what is found through an event: no round below this bound, or one such that none has fewer messages
 abbrev pub IsThrough : Chart → Place → ℕ → Option Round → Type 0
 IsThrough c e most found = MatchOption found (HasNoRound c e (most + 1)) (λ round. IsRound c round.messages (place_of round.send) × (round.messages ≤ most) × HasNoRound c e round.messages)
 
--- the best so far, of the first k events of the line at p too
+-- the best round so far, also of the first k events of the line at p
 abbrev pub IsBest : Chart → ℕ → ℕ → ℕ → Option Round → Option Round → Type 0
 IsBest c n p k before best = IsFoundRound c best × (bound_of n best ≤ bound_of n before) × HasNoneOn c p k (bound_of n best)
 
@@ -44,7 +44,7 @@ best_next c n p k most before best (Some round) bound (around, few, through) (is
   none_on-next c p k round.messages (none_on_below c p k (bound_of n best) round.messages (omega (arith, few, bound)) none) through,
 )
 
--- one line more
+-- one more line
 pub lines_next : (c : Chart) (n k : ℕ) (size : ℕ → ℕ) (before best : Option Round) → bound_of n best ≤ bound_of n before → ((p : ℕ) → p < k → HasNoneOn c (suc p) (size p) (bound_of n before)) → HasNoneOn c (suc k) (size k) (bound_of n best)
     → (p : ℕ) → p < k + 1 → HasNoneOn c (suc p) (size p) (bound_of n best)
 lines_next c n k size before best less old new p within =
@@ -61,7 +61,7 @@ module _ (lines : List LineView) (bound : ℕ) (none : (p : ℕ) → p < length 
       let w = instance_within lines s event in
       none w.0 w.2 s w.1 event.0 (subst (λ q. s.index ≤ length (chart_lines lines q)) w.1 event.1) many round.0 less round.1
 
--- then the best is a shortest one, and without one no event comes before itself
+-- then the best round is a shortest one, and without one no event comes before itself
 pub best_of_all : (lines : List LineView) (best : Option Round) → IsFoundRound (chart_lines lines) best → ((p : ℕ) → p < length lines → HasNoneOn (chart_lines lines) (suc p) (length (chart_lines lines (suc p))) (bound_of (length lines) best))
     → MatchOption best (IsCyclic (chart_lines lines) → ⊥) (IsShortestRound (chart_lines lines))
 best_of_all lines None is none = λ cyclic.

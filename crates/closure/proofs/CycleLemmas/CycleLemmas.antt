@@ -1,4 +1,4 @@
--- Cycles: turned to begin elsewhere, and the links of a round.
+-- Cycles: rotated to begin elsewhere, and the links of a round.
 use Rattle.std.proofs.Common.{◌≡◌, ℕ, zero, suc, ◌+◌, ◌*◌, ◌<◌, ◌≤◌, inl, inr, List, [], ◌∷◌, ◌++◌, length, take, drop, length-take, refl, sym, ap, ◌∙◌, subst, arith}
 use Rattle.std.proofs.lemmas.List.{length-append, take-append-drop}
 use Rattle.std.proofs.lemmas.List.Elements.{All-append, All-drop, All-take}
@@ -22,7 +22,7 @@ use Rattle.closure.specs.declared.cycle.round.Round.{Round}
 use Rattle.closure.proofs.CycleLemmas.LeadLemmas.{leads_send}
 use Rattle.closure.proofs.CycleLemmas.UnderLemmas.{round_in}
 
--- links in two parts
+-- links, split into two parts
 lead_cut : (c : Chart) (e f : Place) (xs ys : List Link) → Lead c e f (xs ++ ys) → (d : Place) × Lead c e d xs × Lead c d f ys
 lead_cut c e f [] ys lead = (e, refl, lead)
 lead_cut c e f (link ∷ xs) ys (is, step, rest) = let w = lead_cut c (place_of link.later) f xs ys rest in (w.0, (is, step, w.1), w.2)
@@ -41,7 +41,7 @@ rotated c place links cycle =
     rotated_length : (n : ℕ) (xs : List Link) → length (drop n xs ++ take n xs) ≡ length xs
     rotated_length n xs = let a = length-append (drop n xs) (take n xs) in let b = length-append (take n xs) (drop n xs) in let d = ap (λ (l : List Link). length l) (take-append-drop n xs) in omega (arith, a, b, d)
 
--- the links of a shortest round, from the least event on, are a shortest cycle
+-- the links of a shortest round, beginning with the least event, are a shortest cycle
 pub shortest_rotated : (c : Chart) (round : Round) (place : ℕ) (links around : List Link) → IsShortestRound c round → AreLinksOf c round links → around ≡ drop place links ++ take place links → BeginsWithLeast around → IsShortestCycle c around
 shortest_rotated c round place links around shortest are is least =
     let some : 1 ≤ length links = omega (arith, shortest.0.0, are.1) in
@@ -56,7 +56,7 @@ shortest_rotated c round place links around shortest are is least =
     same_length : length (drop place links) + length (take place links) ≡ 2 * round.messages
     same_length = let b = length-append (take place links) (drop place links) in let d = ap (λ (l : List Link). length l) (take-append-drop place links) in omega (arith, b, d, are.1)
 
--- a message and the way to the next send, of the line's last that leads on
+-- a message and the way to the next send, the line's last one that leads on
 pub on_round-next : (lines : List LineView) (root : Place) (messages : ℕ) (send receive : EventNo) (left : ℕ) (links after : List Link) (front : List ℕ) (next : EventNo) → IsSend (chart_lines lines) root → IsOnRound (chart_lines lines) root messages (place_of send) (suc left) links
     → BelongsTo (chart_lines lines) (place_of send) (place_of receive) → IsLead lines root left front → place_of next ≡ at receive.instance (entry front receive.instance)
     → after ≡ (links ++ record { earlier = send; later = receive; rule = Message } ∷ []) ++ record { earlier = receive; later = next; rule = BeforeSend } ∷ []
@@ -93,7 +93,7 @@ on_round-next lines root messages send receive left links after front next sends
 abbrev IsNotSooner : Link → Link → Type 0
 IsNotSooner first link = IsSooner (place_of link.earlier) (place_of first.earlier) → ⊥
 
--- links from the one on whose event is the least
+-- links, beginning with the one whose event is the least
 pub begins_with_least : (links : List Link) (place : ℕ) → place < length links → ((first : Link) → slice_get links place ≡ Some first → All (IsNotSooner first) links) → BeginsWithLeast (drop place links ++ take place links)
 begins_with_least links place within least = go (drop place links) refl
   where

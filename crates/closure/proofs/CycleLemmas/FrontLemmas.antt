@@ -1,4 +1,4 @@
--- Fronts: by other words, copied, of nothing, of one event, and of two kinds of events.
+-- Fronts: of an equivalent kind, copied, of no event, of one event, and of two kinds of events.
 use Rattle.std.proofs.Common.{◌≡◌, ℕ, suc, ◌<◌, ◌≤◌, ◌⊎◌, inl, inr, max, List, length, set, replicate, sym, ap, ◌∙◌, subst, arith}
 use Rattle.std.proofs.lemmas.Bool.{cases_lt, cases_eq}
 use Rattle.std.proofs.lemmas.List.{length-set, get_or-set_same, length-replicate}
@@ -9,7 +9,7 @@ use Rattle.closure.specs.Rows.{entry}
 use Rattle.closure.proofs.RunLemmas.{entry-raised}
 use Rattle.closure.proofs.SearchLemmas.{entry-zeros}
 
--- the same events by other words
+-- the same events, described differently
 pub IsFront-same : (n : ℕ) (Has Same : Place → Type 0) (front : List ℕ) → ((e : Place) → Has e → Same e) → ((e : Place) → Same e → Has e) → IsFront n Has front → IsFront n Same front
 IsFront-same n Has Same front on back is = record {
   whole = is.whole;
@@ -25,7 +25,7 @@ IsFront-copied n Has front copy whole same is = record {
   most = λ e has. let m = is.most e has in omega (arith, m, same e.instance);
 }
 
--- where there is no such event, zeros
+-- if there is no such event, the front is zeros
 pub IsFront-none : (n : ℕ) (Has : Place → Type 0) → ((e : Place) → Has e → ⊥) → IsFront n Has (replicate n 0)
 IsFront-none n Has none = record {
   whole = length-replicate n 0;
@@ -33,7 +33,7 @@ IsFront-none n Has none = record {
   most = λ e has. absurd (none e has);
 }
 
--- one event alone
+-- the front of only one event
 pub IsFront-one : (n p i : ℕ) → p < n → IsFront n (λ s. s ≡ at (suc p) i) (set (replicate n 0) p i)
 IsFront-one n p i within = record {
   whole = length-set (replicate n 0) p i ∙ length-replicate n 0;
@@ -47,7 +47,7 @@ IsFront-one n p i within = record {
     own : entry (set (replicate n 0) p i) (suc p) ≡ i
     own = get_or-set_same (replicate n 0) p i 0 (rw length-replicate within)
 
--- the greater ones are the front of both kinds
+-- the greater numbers are the front of both kinds
 pub IsFront-raised : (n : ℕ) (A B : Place → Type 0) (xs ys zs : List ℕ) → length zs ≡ length xs → ((p : ℕ) → entry zs p ≡ max (entry xs p) (entry ys p)) → IsFront n A xs → IsFront n B ys → IsFront n (λ e. A e ⊎ B e) zs
 IsFront-raised n A B xs ys zs whole greater of_a of_b = record {
   whole = whole ∙ of_a.whole;

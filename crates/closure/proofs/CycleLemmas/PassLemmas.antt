@@ -1,4 +1,4 @@
--- Along a line: what is received above its next event, and the send of a receive.
+-- Along a line: the messages received above its next event, and the send of a receive.
 use Rattle.std.proofs.Common.{◌≡◌, ℕ, suc, ◌+◌, ◌-◌, ◌<◌, ◌≤◌, ◌⊎◌, inl, inr, true, List, length, get_or, set, count_by, replicate, Some, refl, sym, ap, ◌∙◌, subst, arith, add-one, eqb-true}
 use Rattle.std.proofs.lemmas.Bool.{cases_eq}
 use Rattle.std.proofs.lemmas.Option.{same_Some, slice_get_read}
@@ -34,7 +34,7 @@ passed-none c n p = record {
 pub heard-none : (lines : List LineView) (p : ℕ) → IsHeard lines (at p 1) (replicate (length lines) 0)
 heard-none lines p = IsFront-none (length lines) (IsReceivedAbove (chart_lines lines) (at p 1)) (λ s heard. omega (arith, heard.2.begun, heard.2.less))
 
--- what is received above the next event is received above this one, or here
+-- a message that is received above the next event is received above this one, or here
 heard_next : (c : Chart) (p k : ℕ) (s : Place) → IsReceivedAbove c (at p (suc k)) s → IsReceivedAbove c (at p k) s ⊎ BelongsTo c s (at p k)
 heard_next c p k s (r, belongs, above) =
     elim (cases_eq r.index k) [
@@ -42,7 +42,7 @@ heard_next c p k s (r, belongs, above) =
       | inr differs ↦ inl (r, belongs, record { line = above.line; begun = above.begun; less = omega (arith, above.less, differs) })
     ]
 
--- what is received above an event is received above the next one
+-- a message that is received above an event is received above the next one
 heard_before : (c : Chart) (p k : ℕ) (s : Place) → IsReceivedAbove c (at p k) s → IsReceivedAbove c (at p (suc k)) s
 heard_before c p k s (r, belongs, above) = (r, belongs, record { line = above.line; begun = above.begun; less = omega (arith, above.less) })
 
@@ -54,7 +54,7 @@ heard-send lines p k q front sends heard =
     (λ s next. elim (heard_next c p k s next) [ inl old ↦ old | inr belongs ↦ absurd (not_both c q s.instance (at p k) sends belongs.received) ])
     heard
 
--- a receive is passed, of a later send of that line
+-- a receive is passed, which belongs to a later send of that line
 pub heard-receive : (lines : List LineView) (p k q j : ℕ) (front : List ℕ) → q < length lines → 1 ≤ k → slice_index front q < j → BelongsTo (chart_lines lines) (at (suc q) j) (at p k) → IsHeard lines (at p k) front → IsHeard lines (at p (suc k)) (set front q j)
 heard-receive lines p k q j front within begun later belongs heard = record {
   whole = length-set front q j ∙ heard.whole;
@@ -86,7 +86,7 @@ heard-receive lines p k q j front within begun later belongs heard = record {
     here : IsReceivedAbove (chart_lines lines) (at p (suc k)) (at (suc q) j)
     here = (at p k, belongs, record { line = refl; begun = begun; less = omega arith })
 
--- the receive that was looked for is in its turn
+-- the receive that the search was for has its turn
 pub in_turn : (line : List Event) (q place left turn : ℕ) (m : Event) → place < length line → m ≡ get_or line place m → is_receive_from q m ≡ true → left ≡ 1 → tally (is_receive_from q) line place + left ≡ turn → IsReceiveInTurn line q turn (place + 1)
 in_turn line q place left turn m within is receives one sum =
     let there = slice_get_read line (length line) place m refl within is in
@@ -97,25 +97,25 @@ in_turn line q place left turn m within is receives one sum =
 pub place_by : (send : EventNo) (line : ℕ) → send.instance ≡ suc line → 1 ≤ send.index → at (suc line) (suc (send.index - 1)) ≡ place_of send
 place_by send line is begun = same_place (at (suc line) (suc (send.index - 1))) (place_of send) (sym is) (omega (arith, begun))
 
--- the event that is read at a send is to the instance that receives it
+-- the event that is read at a send goes to the instance that receives it
 pub receiver_is : (c : Chart) (send : EventNo) (r : Place) (line to : ℕ) (name : List ℕ) → BelongsTo c (place_of send) r → send.instance ≡ suc line → chart_event c (at (suc line) (suc (send.index - 1))) ≡ Some (Send to name) → to ≡ r.instance
 receiver_is c send r line to name belongs is there =
     let begun = (IsEvent-from_passes c (is_send_to r.instance) (place_of send) belongs.sent).0 in
     let here = subst (λ x. chart_event c x ≡ Some (Send to name)) (place_by send line is begun) there in
     eqb-true to r.instance (subst (λ x. is_send_to r.instance x ≡ true) (same_Some belongs.sent.0 (Send to name) (sym belongs.sent.1 ∙ here)) belongs.sent.2)
 
--- a send's turn, by the events of its line
+-- a send's turn, from the events of its line
 pub turn_is : (c : Chart) (s r : Place) (to turn : ℕ) (events : List Event) → BelongsTo c s r → to ≡ r.instance → events ≡ c s.instance → turn ≡ tally (is_send_to to) events s.index → turn ≡ tally (is_send_to r.instance) (c s.instance) s.index
 turn_is c s r to turn events belongs goes are is = is ∙ ap (λ q. tally (is_send_to q) events s.index) goes ∙ ap (λ (xs : List Event). tally (is_send_to r.instance) xs s.index) are
 
--- it is at least the first
+-- the turn is at least 1
 pub turn_begun : (c : Chart) (s r : Place) → BelongsTo c s r → 1 ≤ tally (is_send_to r.instance) (c s.instance) s.index
 turn_begun c s r belongs =
     let begun = (IsEvent-from_passes c (is_send_to r.instance) s belongs.sent).0 in
     let more = tally-lt (is_send_to r.instance) (c s.instance) 0 s.index begun belongs.sent in
     omega (arith, more)
 
--- and the receiver's line has a receive in this turn
+-- the receiver's line has a receive with this turn
 pub turn_received : (c : Chart) (s r : Place) → BelongsTo c s r → tally (is_send_to r.instance) (c s.instance) s.index ≤ count_by (is_receive_from s.instance) (c r.instance)
 turn_received c s r belongs = let most = tally-le-count_by (is_receive_from s.instance) (c r.instance) r.index in omega (arith, most, belongs.turn)
 

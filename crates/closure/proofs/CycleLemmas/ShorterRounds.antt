@@ -1,4 +1,4 @@
--- A round of more messages than there are lines passes a line twice, so there is a shorter one.
+-- A round with more messages than there are lines passes a line twice, so there is a shorter one.
 use Rattle.std.proofs.Common.{◌≡◌, ℕ, zero, suc, ◌+◌, ◌<◌, ◌≤◌, ◌⊎◌, inl, inr, true, false, ◌||◌, List, [], ◌∷◌, length, refl, sym, subst, arith, eqb, eqb-true}
 use Rattle.std.proofs.lemmas.Bool.{cases_Bool, cases_lt, false≢true}
 use Rattle.std.proofs.lemmas.Map.Steps.{length-le_from_distinct_below}
@@ -7,7 +7,7 @@ use Rattle.chart.specs.Charts.{Chart, Place, LineView, chart_lines}
 use Rattle.closure.specs.Cycle.Rounds.{IsReceivedAbove, Leads, IsRound}
 use Rattle.closure.proofs.CycleLemmas.LeadLemmas.{leads_later, leads_then, last_heard, heard_within}
 
--- the lines that the messages lead by, to the event's own
+-- the lines of the messages, up to the event's own
 abbrev lines_by : (c : Chart) (e : Place) (many : ℕ) (s : Place) → Leads c e many s → List ℕ
 lines_by c e zero s leads = []
 lines_by c e (suc many) s (t, leads, heard) = t.instance ∷ lines_by c e many t leads
@@ -20,7 +20,7 @@ length_by c e (suc many) s (t, leads, heard) = let n = length_by c e many t lead
 abbrev IsStop : Chart → Place → ℕ → Place → ℕ → Type 0
 IsStop c e many s q = (t : Place) × (a : ℕ) × (b : ℕ) × Leads c e a t × Leads c t (suc b) s × (t.instance ≡ q) × (a + b + 1 ≡ many)
 
--- one message more
+-- one more message
 stop_more : (c : Chart) (e : Place) (many : ℕ) (s t : Place) (q : ℕ) → IsReceivedAbove c t s → IsStop c e many t q → IsStop c e (suc many) s q
 stop_more c e many s t q heard (u, a, b, on, back, same, sum) = (u, a, suc b, on, (t, back, heard), same, omega (arith, sum))
 
@@ -28,7 +28,7 @@ stop_more c e many s t q heard (u, a, b, on, back, same, sum) = (u, a, suc b, on
 stop_here : (c : Chart) (e : Place) (many : ℕ) (s t : Place) (q : ℕ) → Leads c e many t → IsReceivedAbove c t s → eqb q t.instance ≡ true → IsStop c e (suc many) s q
 stop_here c e many s t q leads heard same = (t, many, 0, leads, (t, refl, heard), sym (eqb-true q t.instance same), omega arith)
 
--- all lines are others than q, or one is q
+-- no line is q, or one is
 apart : (c : Chart) (e : Place) (many : ℕ) (s : Place) (leads : Leads c e many s) (q : ℕ) → AllByRecursion (λ p. eqb q p ≡ false) (lines_by c e many s leads) ⊎ IsStop c e many s q
 apart c e zero s leads q = inl tt
 apart c e (suc many) s (t, leads, heard) q =
@@ -74,7 +74,7 @@ shorter c s many (t, u, a, b, k, x, y, z, same, sum) =
           (a + suc k, s, (omega arith, leads_then c s t s a (suc k) x over), omega (arith, sum))
     ]
 
--- where no line is passed twice, there are no more messages than lines, and one
+-- if no line is passed twice, there is at most one message more than there are lines
 few_lines : (lines : List LineView) (e : Place) (many : ℕ) (s : Place) (leads : Leads (chart_lines lines) e many s) → IsDistinct eqb (lines_by (chart_lines lines) e many s leads) → many ≤ length lines + 1
 few_lines lines e many s leads distinct =
     let n = length_by (chart_lines lines) e many s leads in
@@ -87,7 +87,7 @@ few_lines lines e many s leads distinct =
         let w = heard_within lines t u.0 u.1 in
         omega (arith, same, w.1, w.2)
 
--- where messages lead around, so do few enough
+-- if messages lead around, few enough do
 pub few_around : (lines : List LineView) (fuel many : ℕ) (s : Place) → many ≤ fuel → IsRound (chart_lines lines) many s → (few : ℕ) × (t : Place) × IsRound (chart_lines lines) few t × (few < length lines + 2)
 few_around lines zero many s le (some, leads) = absurd (omega arith)
 few_around lines (suc fuel) many s le (some, leads) =

@@ -1,4 +1,4 @@
--- One message more: of each line the last send from which one leads on, line by line.
+-- One more message: for each line the last send from which one leads on, line by line.
 use Rattle.std.proofs.Common.{◌≡◌, ℕ, suc, ◌+◌, ◌<◌, ◌≤◌, ◌⊎◌, inl, inr, max, List, length, replicate, ap, ◌∙◌, arith}
 use Rattle.std.proofs.lemmas.Bool.{cases_eq}
 use Rattle.chart.specs.Charts.{Chart, Place, at, LineView, chart_lines}
@@ -8,11 +8,11 @@ use Rattle.closure.proofs.CycleLemmas.FrontLemmas.{IsFront-same, IsFront-none, I
 use Rattle.closure.proofs.CycleLemmas.LeadLemmas.{heard_later, heard_within}
 use Rattle.closure.specs.Rows.{entry}
 
--- by a send of the first so many lines
+-- messages lead by a send of the first lines
 abbrev pub LeadsVia : Chart → Place → ℕ → ℕ → Place → Type 0
 LeadsVia c e many line s = (t : Place) × Leads c e many t × (t.instance ≤ line) × IsReceivedAbove c t s
 
--- of each line the last send that does so
+-- for each line the last send that does so
 abbrev pub IsVia : List LineView → Place → ℕ → ℕ → List ℕ → Type 0
 IsVia lines e many line front = IsFront (length lines) (LeadsVia (chart_lines lines) e many line) front
 
@@ -20,7 +20,7 @@ module _ (lines : List LineView) (e : Place) (many : ℕ) where
   abbrev c : Chart
   c = chart_lines lines
 
-  -- by no line none does
+  -- by no lines none does
   pub via-none : IsVia lines e many 0 (replicate (length lines) 0)
   via-none = IsFront-none (length lines) (LeadsVia c e many 0) (λ s via. let w = heard_within lines via.0 s via.3 in omega (arith, via.2, w.1))
 
@@ -38,7 +38,7 @@ module _ (lines : List LineView) (e : Place) (many : ℕ) where
       ])
       via
 
-  -- by another line those whose messages are received above its last one
+  -- by another line, the sends whose messages are received above its last one do
   pub via-raised : (line : ℕ) (front row next after : List ℕ) → IsLead lines e many front → 0 < entry front (suc line) → IsHeard lines (at (suc line) (entry front (suc line))) row → length after ≡ length next
       → ((p : ℕ) → entry after p ≡ max (entry next p) (entry row p)) → IsVia lines e many line next → IsVia lines e many (line + 1) after
   via-raised line front row next after lead some heard whole greater via =
@@ -54,7 +54,7 @@ module _ (lines : List LineView) (e : Place) (many : ℕ) where
       ])
       (IsFront-raised (length lines) (LeadsVia c e many line) (IsReceivedAbove c f) next row after whole greater via heard)
 
-  -- by all lines all that lead on do
+  -- by all lines, all sends that lead on do
   pub via-all : (line : ℕ) (next : List ℕ) → length lines ≤ line → IsVia lines e many line next → IsLead lines e (suc many) next
   via-all line next all via =
       IsFront-same (length lines) (LeadsVia c e many line) (Leads c e (suc many)) next

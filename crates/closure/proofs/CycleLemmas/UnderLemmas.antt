@@ -1,4 +1,4 @@
--- A cycle of links has a round in it, with two links at least for each message.
+-- A cycle of links contains a round, with at least two links for each message.
 use Rattle.std.proofs.Common.{◌≡◌, ℕ, zero, suc, ◌+◌, ◌*◌, ◌<◌, ◌≤◌, ◌⊎◌, inl, inr, true, List, [], ◌∷◌, length, Option, None, Some, refl, sym, ◌∙◌, subst, arith, eq-eqb}
 use Rattle.std.proofs.lemmas.Option.{same_Some, none-some}
 use Rattle.std.proofs.lemmas.Bool.{false≢true}
@@ -31,7 +31,8 @@ send_or_not c e = go (chart_event c e) refl
         goes q = eq-eqb q q refl
     go (Some (Receive from name region)) is = inr (λ s. false≢true (subst (λ m. is_send_to s.0 m ≡ true) (same_Some s.1.0 (Receive from name region) (sym s.1.1 ∙ is)) s.1.2))
 
--- where links to the event f are gone back along: at g if f is a send, and else behind it; x says which
+-- the event g from which the search goes back along links to the event f: f itself if it is a send, and otherwise the
+-- place after it; x says which
 abbrev IsRoot : Chart → Place → Place → ℕ → Type 0
 IsRoot c f g x = (g.instance ≡ f.instance) × (g.index + x ≡ f.index + 1) × (((x ≡ 1) × IsSend c f) ⊎ ((x ≡ 0) × (IsSend c f → ⊥)))
 
@@ -42,7 +43,7 @@ has_root c f =
       | inr other ↦ (at f.instance (f.index + 1), 0, (refl, omega arith, inr (refl, other)))
     ]
 
--- k links lead from e to f: so many messages lead on from a send of e's line that is e, or later
+-- if k links lead from e to f, messages lead on from a send of e's line that is e or later
 record IsUnder (c : Chart) (f g : Place) (x : ℕ) (e : Place) (k : ℕ) : Type 0 where
   many : ℕ
   send : Place
@@ -66,7 +67,7 @@ module _ (c : Chart) (f g : Place) (x : ℕ) (root : IsRoot c f g x) where
     fresh = λ none. inl (refl, refl);
   }
 
-  -- a link up the line
+  -- a link along the line
   under_earlier : (e d : Place) (k : ℕ) → IsEarlier e d → IsUnder c f g x d k → IsUnder c f g x e (suc k)
   under_earlier e d k above u = record {
     many = u.many;
@@ -130,14 +131,14 @@ module _ (c : Chart) (f g : Place) (x : ℕ) (root : IsRoot c f g x) where
                 (suc many, u.send, (omega arith, leads_later c g u.send u.send many (root.0 ∙ u.line) (omega (arith, root.1, w.0)) leads), omega (arith, w.1))
           ]
 
--- a cycle of links has a round with half as many messages at most
+-- a cycle of links has a round with at most half as many messages
 pub round_in : (c : Chart) (links : List Link) → IsCycle c links → (many : ℕ) × (s : Place) × IsRound c many s × (2 * many ≤ length links)
 round_in c links cycle =
     let f = cycle.lead.0 in
     let root = has_root c f in
     under_itself c f root.0 root.1 root.2 (length links) cycle.some (under_links c f root.0 root.1 root.2 f links cycle.lead.1)
 
--- where some event is before itself messages lead around
+-- if some event is before itself, messages lead around
 pub round_from_cyclic : (c : Chart) → IsCyclic c → (many : ℕ) × (s : Place) × IsRound c many s
 round_from_cyclic c (e, before) =
     let w = links_of before in

@@ -20,7 +20,7 @@ Lead c e r [] = e ≡ r
 Lead c e r (link ∷ links) = (place_of link.earlier ≡ e)
     × IsStepBy c link.rule (place_of link.earlier) (place_of link.later) × Lead c (place_of link.later) r links
 
--- they lead there by one step at least, and no chain with a step is shorter
+-- they lead there by at least one step, and no chain with a step is shorter
 pub record IsShortestChain (c : Chart) (e r : Place) (links : List Link) : Type 0 where
   pub lead : Lead c e r links
   pub some : 1 ≤ length links

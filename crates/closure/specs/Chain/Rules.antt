@@ -1,4 +1,4 @@
--- What the rules of direct steps are called.
+-- The names of the rules of direct steps.
 use Rattle.std.specs.Prelude.{ℕ, List, codes}
 use Rattle.closure.specs.declared.chain.link.Rule.{Rule}
 use Rattle.closure.specs.declared.chain.link.Rule.TheVariants.{Message, BeforeSend, SameSender}

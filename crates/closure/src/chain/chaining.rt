@@ -15,8 +15,8 @@ use crate::chain::reaching::{Reached, reached_at, reached_from};
 use chart::{EventNo, InstanceNo};
 use std::alloc::{AllocError, Global};
 
-/// How many direct steps lead on from an event by a send that was reached, if the event is this send or stands above
-/// it.
+/// The number of direct steps from an event to the receive by a send that was reached. There is none unless the event
+/// is this send or above it on its line.
 fn steps_by(reached: &Reached, event: &EventNo) -> Option<usize>
     requires { reached.now.depth + 1 < 2 ^ 63 }
     ensures { GivesSteps reached.now (place_of event.now) result }
@@ -36,7 +36,7 @@ fn steps_by(reached: &Reached, event: &EventNo) -> Option<usize>
     Some(2 * reached.depth + 2)
 }
 
-/// The best so far, by number and steps, or the next one where it has fewer steps.
+/// The best so far, as number and steps, or the next one if it has fewer steps.
 fn better(
     best: Option<(usize, usize)>,
     number: usize,
@@ -60,7 +60,7 @@ fn better(
     }
 }
 
-/// The send that was reached with the fewest steps from the event on, by its number and with these steps.
+/// The send with the fewest steps from the event, among those that were reached: its number and these steps.
 fn nearest(found: &[Reached], event: &EventNo) -> Option<(usize, usize)>
     requires short { length found.now < 2 ^ 63 }
     requires trail { IsSomeTrail found.now }
@@ -74,7 +74,7 @@ fn nearest(found: &[Reached], event: &EventNo) -> Option<(usize, usize)>
     best
 }
 
-/// The link between the event and the send that was reached, where they are two.
+/// The link from the event to the send that was reached, unless they are the same.
 fn first_links(alloc: Global, reached: &Reached, event: &EventNo) -> Result<Vec<Link>, AllocError>
     requires { IsUnder reached.now (place_of event.now) }
     ensures { IfOk result (λ links. (c : Chart) (q k : ℕ) → IsSendTo c q (place_of reached.now.send)
@@ -93,7 +93,7 @@ fn first_links(alloc: Global, reached: &Reached, event: &EventNo) -> Result<Vec<
     Ok(links)
 }
 
-/// The links that lead from the event on, by the send of this number.
+/// The links that lead from the event to the receive, by the send of this number.
 fn links_by(
     alloc: Global,
     found: &[Reached],
@@ -131,7 +131,7 @@ fn links_by(
     Ok(links)
 }
 
-/// Whether the event stands above the receive on its line, and is a receive from this sender.
+/// Whether the event is above the receive on its line, and is a receive from this sender.
 fn is_earlier_receive(
     closure: &Closure<'_>,
     event: &EventNo,
@@ -170,10 +170,10 @@ fn one_link(alloc: Global, earlier: &EventNo, receive: &EventNo) -> Result<Vec<L
     Ok(links)
 }
 
-/// A shortest chain of direct steps that leads from an event to a receive, in its order. There is none exactly where
-/// the enforced order doesn't put the event before the receive.
+/// A shortest chain of direct steps that leads from an event to a receive, in order. There is none exactly if the
+/// enforced order doesn't put the event before the receive.
 ///
-/// It looks at each event of the chart once at most. F6: it fails only where there is no memory.
+/// It looks at each event of the chart at most once. F6: it fails only if there is no memory.
 pub fn shortest_chain(
     alloc: Global,
     closure: &Closure<'_>,

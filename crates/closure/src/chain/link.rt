@@ -7,9 +7,9 @@ use chart::EventNo;
 /// The rule by which an event comes directly before another.
 #[derive(Clone, Copy, Debug, PartialEq, Eq)]
 pub enum Rule {
-    /// The one is the send of a message, the other its receive.
+    /// The earlier event is the send of a message, the later one its receive.
     Message,
-    /// The one is an earlier event of a line, the other a send of it.
+    /// The earlier event is any event of a line, the later one a send of this line.
     BeforeSend,
     /// Both are receives of a line from the same sender.
     SameSender,
@@ -27,7 +27,7 @@ pub fn rule_of(rule: &Rule) -> &[u8]
     }
 }
 
-/// Two events of which the one comes directly before the other.
+/// Two events, one directly before the other.
 #[derive(Clone, Copy, Debug, PartialEq, Eq)]
 pub struct Link {
     pub earlier: EventNo,

@@ -1,7 +1,7 @@
-//! The sends that come before a receive, found from it backwards, with how they lead to it.
+//! The sends that come before a receive, found backwards from it, with their ways to it.
 //!
-//! All that stands above a send comes directly before it, and a receive comes directly after its send. So what comes
-//! before a receive is found by going from its send to the receives above it, from these to their sends, and so on,
+//! All events above a send on its line come directly before it, and a receive comes directly after its send. So the
+//! search goes from the receive to its send, from there to the receives above it, to their sends, and so on. It visits
 //! each event of a line once. Sends with fewer messages on their way are found sooner.
 ghost use Rattle.std.specs.Prelude.{◌≡◌, ◌<◌, ◌≤◌, length, IfOk, OnOk, slice_get, Some};
 ghost use Rattle.chart.specs.Charts.{chart_lines, BelongsTo};
@@ -12,20 +12,20 @@ use crate::{Closure, Numbers};
 use chart::EventNo;
 use std::alloc::{AllocError, Global};
 
-/// A send that comes before the receive that is searched from.
+/// A send that comes before the receive from which the search begins.
 #[derive(Clone, Copy)]
 pub(crate) struct Reached {
     pub send: EventNo,
     /// The receive of its message.
     pub receive: EventNo,
-    /// The number of a send that was found before and stands below that receive. The first one has none: its receive is
-    /// the one that is searched from.
+    /// The number of a send that was found earlier and is below that receive on its line. The first send has none: its
+    /// receive is the one from which the search begins.
     pub next: usize,
-    /// How many messages more lead to the receive that is searched from.
+    /// The number of further messages on the way to the receive from which the search begins.
     pub depth: usize,
 }
 
-/// The send that was found at this number, from 0.
+/// The send that was found with this number, from 0.
 pub(crate) fn reached_at(found: &[Reached], number: usize) -> Reached
     requires { number < length found.now }
     ensures { slice_get found.now number ≡ Some result }
@@ -33,7 +33,7 @@ pub(crate) fn reached_at(found: &[Reached], number: usize) -> Reached
     found[number]
 }
 
-/// Follows an event above the send of this number: where it is a receive, its send is found too.
+/// Follows an event above the send of this number: if it is a receive, its send is found too.
 fn follow(
     closure: &Closure<'_>,
     found: &mut Vec<Reached>,

@@ -8,10 +8,10 @@ use crate::{Closure, Numbers};
 use chart::EventNo;
 use std::alloc::AllocError;
 
-/// Of each line, by instance, how many of its first events are the receive's send or come before this send. What comes
-/// before the receive are these, and beside them only receives of the receive's own line, those from the same sender.
+/// For each line, by instance, how many of its first events are the receive's send or come before this send. The only
+/// other events before the receive are receives of its own line from the same sender.
 ///
-/// F6: it fails only where there is no memory.
+/// F6: it fails only if there is no memory.
 pub fn past(closure: &Closure<'_>, receive: &EventNo) -> Result<Numbers, AllocError>
     requires { (q : ℕ) × IsReceiveFrom (chart_lines closure.now) q (place_of receive.now) }
     ensures { IfOk result (IsPast (length closure.now) (chart_lines closure.now) (place_of receive.now)) }

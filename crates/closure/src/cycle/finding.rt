@@ -1,4 +1,4 @@
-//! The messages that lead around which are fewest.
+//! The fewest messages that lead around.
 ghost use Rattle.std.specs.Prelude.{◌≡◌, suc, ◌+◌, ◌<◌, ◌≤◌, length, IfOk, MatchOption};
 ghost use Rattle.chart.specs.Charts.{chart_lines, Chart};
 ghost use Rattle.chart.specs.Order.{IsCyclic};
@@ -9,7 +9,7 @@ use crate::cycle::hearing::Hearing;
 use crate::cycle::round::{Round, round_through};
 use std::alloc::{AllocError, Global};
 
-/// How many messages at most a round that is shorter than this one has, in a chart with so many lines.
+/// The most messages of a round that is shorter than the best one, in a chart with this number of lines.
 fn most_of(lines: usize, best: &Option<Round>) -> usize
     requires lines { lines ≤ MAX_INSTANCES }
     requires best { (c : Chart) × IsFoundRound c best.now }
@@ -21,7 +21,7 @@ fn most_of(lines: usize, best: &Option<Round>) -> usize
     }
 }
 
-/// The round that was found then, or else the one before.
+/// The round that was just found, or else the one before.
 fn better_of(before: Option<Round>, found: Option<Round>) -> Option<Round>
     ensures { result ≡ better_of before found }
 {
@@ -31,7 +31,7 @@ fn better_of(before: Option<Round>, found: Option<Round>) -> Option<Round>
     }
 }
 
-/// The best of a round that was found before and of those through events of a line.
+/// The best of the round that was found before and the rounds through events of this line.
 fn shortest_on(
     alloc: Global,
     hearing: &Hearing<'_>,
@@ -54,7 +54,7 @@ fn shortest_on(
     Ok(best)
 }
 
-/// A round of the fewest messages. There is none exactly where no event comes before itself.
+/// A round with the fewest messages. There is none exactly if no event comes before itself.
 pub(crate) fn shortest_round(
     alloc: Global,
     hearing: &Hearing<'_>,

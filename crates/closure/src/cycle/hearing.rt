@@ -1,4 +1,4 @@
-//! For each event of a chart, of each line the last send whose message is received above the event.
+//! For each event of a chart and each line: the last send of the line whose message is received above the event.
 ghost use Rattle.std.specs.Prelude.{◌≡◌, ◌<◌, ◌≤◌, ◌++◌, ◌∷◌, [], suc, length, slice_get, Some, IfOk, OnOk};
 ghost use Rattle.chart.specs.declared.line.TheConstants.{MAX_EVENTS};
 ghost use Rattle.chart.specs.Charts.{Place, at, chart_lines, IsChart, HasNoSend};
@@ -68,8 +68,8 @@ fn heard_on(alloc: Global, lines: &[Line], line: usize) -> Result<LineFronts, Al
     Ok(fronts)
 }
 
-/// The lines of a chart, with a front for each event: of each line the last send whose message is received above it. A
-/// contract sees the lines.
+/// The lines of a chart, with a front for each event: the last send of each line whose message is received above the
+/// event. A contract sees the lines.
 #[derive(Drop)]
 pub(crate) struct Hearing<'a> {
     lines: &'a [Line],
@@ -110,7 +110,7 @@ impl<'a> Hearing<'a> {
         self.lines
     }
 
-    /// How many lines there are.
+    /// The number of lines.
     pub fn len(&self) -> usize
         ensures value { result ≡ length self.now }
         ensures chart { IsChart self.now }
@@ -118,7 +118,7 @@ impl<'a> Hearing<'a> {
         self.lines.len()
     }
 
-    /// How many events a line has.
+    /// The number of events of a line.
     pub fn len_of(&self, line: usize) -> usize
         requires { line < length self.now }
         ensures value { result ≡ length (chart_lines self.now (suc line)) }

@@ -1,11 +1,11 @@
-//! Numbers for each line: the greater of two, and copies.
+//! A number for each line: the greater of two, and copies.
 ghost use Rattle.std.specs.Prelude.{◌≡◌, ℕ, max, length, IfOk};
 ghost use Rattle.closure.specs.Rows.{entry};
 
 use crate::Numbers;
 use std::alloc::{AllocError, Global};
 
-/// Puts the greater one of both in place of each number.
+/// Replaces each number by the greater one of the two.
 pub(crate) fn raise(numbers: &mut Numbers, by: &Numbers)
     requires { length numbers.old ≡ length by.now }
     ensures length { length numbers.new ≡ length numbers.old }

@@ -1,5 +1,5 @@
-//! Along a line, of each other line the send of the last receive so far: the n-th receive on a lane is of the n-th
-//! send.
+//! Along a line, for each other line, the send of the last receive so far: the n-th receive on a lane belongs to the
+//! n-th send.
 ghost use Rattle.std.specs.Prelude.{◌≡◌, ◌+◌, ◌<◌, ◌≤◌, suc, length, count_by, MatchOption, IfSome};
 ghost use Rattle.chart.specs.Events.{is_send_to, tally};
 ghost use Rattle.chart.specs.Charts.{Place, at, chart_lines, IsChart, HasNoSend};
@@ -39,8 +39,8 @@ fn next_send(events: &[Event], passed: usize, receiver: InstanceNo) -> Option<us
     None
 }
 
-/// Passes the event at this place of a line. For each line `passed` has the send of the last receive from there, before
-/// and after.
+/// Passes the event at this place of a line. For each line `passed` has the send of the last receive from there, both
+/// before and after the call.
 pub(crate) fn pass_event(lines: &[Line], passed: &mut Numbers, line: usize, place: usize)
     requires chart { IsChart lines.now }
     requires sends { (r : Place) → HasNoSend (chart_lines lines.now) r → ⊥ }

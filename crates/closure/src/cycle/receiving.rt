@@ -9,7 +9,7 @@ use crate::cycle::passing::is_send_to;
 use chart::line_events::{event_at, events_at};
 use chart::{Event, EventNo, InstanceNo, Line};
 
-/// How many of the first events are sends to the receiver.
+/// The number of sends to the receiver among the first events.
 fn sends_among(events: &[Event], first: usize, receiver: InstanceNo) -> usize
     requires { first ≤ length events.now }
     ensures value { result ≡ tally (is_send_to receiver) events.now first }
@@ -30,7 +30,7 @@ fn is_receive_from(event: &Event, sender: InstanceNo) -> bool
     }
 }
 
-/// The index of the receive from the sender that has this turn among them, from 1.
+/// The index of the receive from the sender with this turn among the receives from it, from 1.
 fn receive_in_turn(events: &[Event], sender: InstanceNo, turn: usize) -> Option<usize>
     requires { 1 ≤ turn }
     ensures { MatchOption result (count_by (is_receive_from sender) events.now < turn)

@@ -1,7 +1,7 @@
 //! Messages that lead around.
 //!
-//! Of what leads on to an event by so many messages each line's last send is enough to know: what leads on to an
-//! earlier send of a line leads on to a later one too.
+//! For the sends from which a number of messages lead to an event, it is enough to know the last one of each line.
+//! Messages that lead to an earlier event of a line lead to a later one too.
 ghost use Rattle.std.specs.Prelude.{◌≡◌, ℕ, suc, ◌+◌, ◌<◌, ◌≤◌, length, IfOk, MatchOption};
 ghost use Rattle.chart.specs.Charts.{Place, at, chart_lines};
 ghost use Rattle.chart.specs.Places.{IsEvent};
@@ -15,7 +15,7 @@ use crate::cycle::numbers::raise;
 use chart::{EventNo, InstanceNo};
 use std::alloc::{AllocError, Global};
 
-/// So many messages that lead from a send around to it.
+/// Messages that lead from a send around to itself, and their number.
 #[derive(Clone, Copy)]
 pub(crate) struct Round {
     pub send: EventNo,
@@ -37,7 +37,7 @@ fn own_front(
     Ok(front)
 }
 
-/// The front of one message more.
+/// The front of one more message.
 fn step_back(alloc: Global, hearing: &Hearing<'_>, front: &Numbers) -> Result<Numbers, AllocError>
     requires { IsSomeLead hearing.now front.now }
     ensures { IfOk result (λ next. (e : Place) (many : ℕ) → IsLead hearing.now e many front.now
@@ -53,7 +53,7 @@ fn step_back(alloc: Global, hearing: &Hearing<'_>, front: &Numbers) -> Result<Nu
     Ok(next)
 }
 
-/// The front of so many messages that lead on to an event.
+/// The front of this number of messages that lead to an event.
 pub(crate) fn front_of(
     alloc: Global,
     hearing: &Hearing<'_>,
@@ -71,8 +71,8 @@ pub(crate) fn front_of(
     Ok(front)
 }
 
-/// A round of the fewest messages that lead from the event at a place of a line around to it, or from a later send of
-/// its line. There is none where all have more messages than this.
+/// A round from the event at a place of a line, or from a later send of its line. No round from this event has fewer
+/// messages. There is none if each round from this event has more than `most` messages.
 pub(crate) fn round_through(
     alloc: Global,
     hearing: &Hearing<'_>,

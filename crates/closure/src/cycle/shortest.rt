@@ -18,7 +18,7 @@ use crate::cycle::round::{Round, front_of};
 use chart::{Chart, EventNo, InstanceNo};
 use std::alloc::{AllocError, Global};
 
-/// The event of the receive's line that its front has.
+/// The event that a front has for the receive's line.
 fn next_send(front: &Numbers, receive: &EventNo) -> EventNo
     requires line { receive.now.instance ≤ length front.now }
     requires index { entry front.now receive.now.instance ≤ MAX_EVENTS }
@@ -31,7 +31,7 @@ fn next_send(front: &Numbers, receive: &EventNo) -> EventNo
     }
 }
 
-/// Adds a message's links: from its send to its receive, and on to the next send.
+/// Adds the links of a message: from its send to its receive, and from there to the next send.
 fn link_on(
     links: &mut Vec<Link>,
     send: &EventNo,
@@ -55,7 +55,7 @@ fn link_on(
     Ok(())
 }
 
-/// The links of a round: from each message's send to its receive, and on to the next send.
+/// The links of a round: from each message's send to its receive, and from there to the next send.
 fn links_of(alloc: Global, hearing: &Hearing<'_>, round: &Round) -> Result<Vec<Link>, AllocError>
     requires { IsRound (chart_lines hearing.now) round.now.messages (place_of round.now.send) }
     ensures { IfOk result (λ links. AreLinksOf (chart_lines hearing.now) round.now links.items) }
@@ -74,7 +74,7 @@ fn links_of(alloc: Global, hearing: &Hearing<'_>, round: &Round) -> Result<Vec<L
     Ok(links)
 }
 
-/// Whether the one event is sooner than the other, by instance and number.
+/// Whether one event is sooner than the other, by instance and number.
 fn is_sooner(event: &EventNo, other: &EventNo) -> bool
     ensures { IsTrue result ↔ IsSooner (place_of event.now) (place_of other.now) }
 {
@@ -84,7 +84,7 @@ fn is_sooner(event: &EventNo, other: &EventNo) -> bool
     event.instance.number() < other.instance.number()
 }
 
-/// Where the link stands that begins with the least event.
+/// The place of the link that begins with the least event.
 fn least_at(links: &[Link]) -> usize
     requires { 1 ≤ length links.now }
     ensures within { result < length links.now }
@@ -100,7 +100,7 @@ fn least_at(links: &[Link]) -> usize
     least
 }
 
-/// The links of a cycle, from its least event on.
+/// The links of a cycle, beginning with its least event.
 fn from_least(alloc: Global, links: &[Link]) -> Result<Vec<Link>, AllocError>
     requires { 1 ≤ length links.now }
     ensures rotated { IfOk result (λ rotated. (place : ℕ) × (rotated.items ≡ drop place links.now ++ take place links.now)) }
@@ -117,11 +117,11 @@ fn from_least(alloc: Global, links: &[Link]) -> Result<Vec<Link>, AllocError>
     Ok(rotated)
 }
 
-/// A shortest cycle of direct steps, from its least event on, each with its rule. There is none exactly where no event
-/// of the chart comes before itself.
+/// A shortest cycle of direct steps, beginning with its least event, each step with its rule. There is none exactly if
+/// no event of the chart comes before itself.
 ///
-/// It goes back from each event by as many messages as the best cycle so far has, and by one more than there are lines
-/// at most. F6: it fails only where there is no memory.
+/// It goes back from each event by fewer messages than the best cycle so far has. It goes back by at most one message
+/// more than there are lines. F6: it fails only if there is no memory.
 pub fn shortest_cycle(alloc: Global, chart: &Chart) -> Result<Option<Vec<Link>>, AllocError>
     requires { (r : Place) → HasNoSend (chart_lines chart.now) r → ⊥ }
     ensures { IfOk result (λ found. MatchOption found (IsCyclic (chart_lines chart.now) → ⊥)

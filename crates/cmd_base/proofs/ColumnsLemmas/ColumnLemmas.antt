@@ -16,7 +16,7 @@ use Rattle.cmd_base.specs.declared.columns.error.FormatError.TheVariants.{Progra
 use Rattle.cmd_base.specs.Columns.Columns.{AreNamed, IsNext, IsNone, RefusesNext, RefusesNamed}
 use Rattle.cmd_base.specs.Named.Asked.{named_so, instance_named}
 
--- the first of the words name these columns, and the rest are still to be read
+-- the first of the words name these columns, and the rest have yet to be read
 pub record AreSoFar (names all rest : List (List ℕ)) (columns : List ℕ) : Type 0 where
   pub passed : List (List ℕ)
   pub are : all ≡ passed ++ rest
@@ -44,7 +44,7 @@ one_more names all word rest old new so_far next = record {
 pub all_passed : (names all : List (List ℕ)) (columns : List ℕ) → AreSoFar names all [] columns → AreNamed names all columns
 all_passed names all columns so_far = subst (λ ws. AreNamed names ws columns) (sym (so_far.are ∙ append-nil so_far.passed)) so_far.so_far
 
--- what all columns have behind those so far
+-- the columns after those so far: the next word's instance, and others
 record Onward (said : Option ℕ) (old columns : List ℕ) : Type 0 where
   pub instance : ℕ
   pub others : List ℕ
@@ -99,7 +99,7 @@ none_else names all word rest old columns so_far none are =
     (onward (instance_named names) so_far.passed word rest old columns so_far.so_far.each (sym (ap (map (instance_named names)) so_far.are) ∙ are.each))
     none are.once
 
--- so what refuses the next word refuses them all
+-- so the refusal of the next word refuses all words
 pub refuses : (names all : List (List ℕ)) (word : List ℕ) (rest : List (List ℕ)) (old : List ℕ) → AreSoFar names all (word ∷ rest) old → (error : FormatError) → RefusesNext names word old error → RefusesNamed names all error
 refuses names all word rest old so_far NoSuchName none = λ columns are. none_else names all word rest old columns so_far none are
 refuses names all word rest old so_far (Program Memory) none = tt
@@ -111,12 +111,12 @@ refuses names all word rest old so_far (Program (NameMismatch p index)) none = a
 refuses names all word rest old so_far (Program Cyclic) none = absurd none
 refuses names all word rest old so_far (Program Write) none = absurd none
 
--- a first word was cut off, whether or not there are more
+-- a first word was cut off, whether or not more words follow
 pub cut_off : {X : Type 0} (view : X → List (List ℕ)) (words : List (List ℕ)) (word : List ℕ) (more : Option X) → MatchOption more (words ≡ word ∷ []) (λ rest. words ≡ word ∷ view rest) → (rest : List (List ℕ)) × (words ≡ word ∷ rest)
 cut_off view words word None e = ([], e)
 cut_off view words word (Some rest) e = (view rest, e)
 
--- one number more
+-- one more number
 pub range_next : (a n : ℕ) → range_with_len a (suc n) ≡ range_with_len a n ++ (a + n) ∷ []
 range_next a zero = ap (λ x. x ∷ []) (omega arith)
 range_next a (suc n) =

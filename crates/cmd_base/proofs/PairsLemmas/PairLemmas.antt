@@ -1,4 +1,4 @@
--- What it says that the words name a pair.
+-- What follows if words name a pair.
 use Rattle.std.proofs.Common.{◌≡◌, ℕ, Bool, true, false, cond, List, length, Option, None, Some, Result, Ok, Err, refl, subst, eq-eqb}
 use Rattle.std.specs.Prelude.{nat_lt, nat_le}
 use Rattle.std.proofs.lemmas.Bool.{leb-true, ltb-true, and_parts, false≢true}
@@ -15,7 +15,7 @@ use Rattle.cmd_base.specs.Pairs.Pairs.{pair_on, pair_at, pair_of, IsPair}
 use Rattle.cmd_base.specs.Named.Asked.{instance_named, has_event}
 use Rattle.schedule_replay.specs.ReorderedRuns.Reorderings.{receives}
 
--- a test that was passed
+-- if the result is Ok, the test passed
 passed : (b : Bool) (x : Result Pair ViewError) (error : ViewError) (pair : Pair) → cond b x (Err error) ≡ Ok pair → (b ≡ true) × (x ≡ Ok pair)
 passed true x error pair is = (refl, is)
 passed false x error pair is = cc
@@ -26,7 +26,7 @@ received c r None is fails = absurd (false≢true fails)
 received c r (Some (Send to name)) is fails = absurd (false≢true fails)
 received c r (Some (Receive from name region)) is passes = (from, (Receive from name region, is, eq-eqb from from refl))
 
--- on a line
+-- a pair on one line
 on_line : (names : List (List ℕ)) (c : Chart) (p e r : ℕ) (pair : Pair) → pair_on names p (c p) e r ≡ Ok pair → IsPair c pair
 on_line names c p e r pair is =
     let events = c p in
@@ -41,7 +41,7 @@ on_line names c p e r pair is =
       receive = received c (at p r) (ith events r) refl f.0;
     })
 
--- of a chart
+-- a pair of a chart
 pub IsPair-from_words : (names : List (List ℕ)) (lines : List LineView) (asked : Asked) (pair : Pair) → pair_of names lines asked ≡ Ok pair → IsPair (chart_lines lines) pair
 IsPair-from_words names lines asked pair is = by_instance (instance_named names asked.instance.now) is
   where

@@ -1,4 +1,4 @@
--- What is printed on standard error.
+-- The text on standard error.
 use Rattle.std.specs.Prelude.{ℕ, List, None, codes}
 use Rattle.cmd_base.specs.Answers.{Exit, refusal}
 use Rattle.cmd_base.specs.Refusals as refusals
@@ -10,6 +10,6 @@ abbrev pub refusal_text : FormatError → List ℕ
 refusal_text (Program cause) = refusals.refusal_text cause
 refusal_text NoSuchName = refusals.labelled_text (codes "F34 NoSuchName") None
 
--- what is said of a refusal
+-- the exit status and text of a refusal
 abbrev pub error_exit : FormatError → Exit
 error_exit error = refusal (refusal_text error)

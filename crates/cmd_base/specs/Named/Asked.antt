@@ -1,11 +1,11 @@
--- What is asked for by an instance's name and an event's number.
+-- The lookup of an instance by its name and of an event by its number.
 use Rattle.std.specs.Prelude.{ℕ, Bool, ◌&&◌, nat_le, List, length, Option, None, Result, Ok, Err}
 use Rattle.chart.specs.declared.event.Event.{Event}
 use Rattle.chart.specs.Names.{instance_of}
 use Rattle.texts.specs.Lines.{name_or_cause}
 use Rattle.texts.specs.declared.fault.Cause.{Cause}
 
--- the instance of what was read as a name
+-- the instance with the name, if the word was read as one
 abbrev pub named_so : List (List ℕ) → Result (List ℕ) Cause → Option ℕ
 named_so names (Ok name) = instance_of names name
 named_so names (Err cause) = None

@@ -1,4 +1,4 @@
--- What is printed on standard error.
+-- The text on standard error.
 use Rattle.std.specs.Prelude.{ℕ, List, None, Some, codes}
 use Rattle.cmd_base.specs.Answers.{Exit, refusal}
 use Rattle.cmd_base.specs.Refusals as refusals
@@ -14,6 +14,6 @@ refusal_text NotEarlier = refusals.labelled_text (codes "F32 NotAPair") None
 refusal_text (NotAReceive receive) = refusals.labelled_text (codes "F32 NotAPair") (Some receive)
 refusal_text (ManySlots slots) = refusals.labelled_text (codes "F33 ManySlots") (Some slots)
 
--- what is said of a refusal
+-- the exit status and text of a refusal
 abbrev pub error_exit : ViewError → Exit
 error_exit error = refusal (refusal_text error)

@@ -22,12 +22,12 @@ pair_on names p events e r =
     else Err (NotAReceive r)) else Err NotEarlier) else Err (NoSuchEvent (missing_on names p events)))
     else Err (NoSuchEvent (missing_on names p events))
 
--- the same where there is such an instance
+-- the same, if there is such an instance
 abbrev pub pair_at : List (List ℕ) → Option ℕ → List LineView → ℕ → ℕ → Result Pair ViewError
 pair_at names None lines e r = Err (NoSuchEvent Instance)
 pair_at names (Some p) lines e r = pair_on names p (chart_lines lines p) e r
 
--- the two events that are asked about, by an instance's name and two numbers
+-- the two events that an instance's name and two numbers name
 abbrev pub pair_of : List (List ℕ) → List LineView → Asked → Result Pair ViewError
 pair_of names lines asked = pair_at names (instance_named names asked.instance.now) lines asked.earlier asked.receive
 

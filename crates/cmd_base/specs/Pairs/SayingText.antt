@@ -1,4 +1,4 @@
--- The lines that explain a pair of events, as text (this project's profile).
+-- The text of the lines that explain a pair of events (this project's profile).
 use Rattle.std.specs.Prelude.{ℕ, List, [], ◌++◌, Option, None, Some, codes, decimal}
 use Rattle.chart.specs.declared.event.Event.{Event}
 use Rattle.chart.specs.declared.event.Event.TheVariants.{Send, Receive}
@@ -15,11 +15,11 @@ use Rattle.cmd_base.specs.declared.pairs.saying.Piece.TheVariants as pieces
 use Rattle.cmd_base.specs.declared.pairs.saying.Saying.{Saying}
 use Rattle.cmd_base.specs.declared.pairs.saying.Saying.TheVariants.{Before, Also, Row, Step}
 
--- what is told of a pair that a coregion hides
+-- the line for a pair that a coregion hides
 unfoldable pub hidden_text : List ℕ
 hidden_text = codes "a coregion hides this pair\n"
 
--- what stands between names and numbers
+-- the fixed parts between names and numbers
 unfoldable pub piece_text : Piece → List ℕ
 piece_text pieces.Before = codes "before "
 piece_text pieces.And = codes "and "
@@ -49,7 +49,7 @@ half_text names index (Send to name) = message_text index keywords.Out name keyw
 half_text names index (Receive from name region) = message_text index keywords.In name keywords.From
     ++ name_at names from
 
--- the same where there is an event
+-- the same, if there is an event
 abbrev pub half_at : List (List ℕ) → ℕ → Option Event → List ℕ
 half_at names index None = []
 half_at names index (Some m) = half_text names index m
@@ -67,7 +67,7 @@ step_text names link =
     ++ (piece_text pieces.Earlier ++ (place_text names link.later.instance link.later.index
     ++ (piece_text pieces.By ++ (rule_text link.rule ++ piece_text pieces.End))))
 
--- a line; a row is of these events
+-- a line; `events` has the events of a row
 abbrev pub saying_text : List (List ℕ) → List Event → Saying → List ℕ
 saying_text names events (Before p count) = told_text names pieces.Before p count
 saying_text names events (Also p index) = told_text names pieces.And p index

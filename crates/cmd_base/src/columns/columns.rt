@@ -13,14 +13,14 @@ use crate::named::instance_named;
 use chart::{InstanceNo, MAX_INSTANCES, Names};
 use std::alloc::{AllocError, Global};
 
-/// The place of the first comma.
+/// The index of the first comma.
 fn comma_in(bytes: &[u8]) -> Option<usize>
     ensures { result ≡ position (λ b. nat_eq b 44) bytes.now }
 {
     bytes.iter().position(|byte| *byte == b',')
 }
 
-/// The bytes up to the first comma, and those behind it, if there is one.
+/// The bytes up to the first comma, and the bytes after it, if there is one.
 fn next_name(bytes: &[u8]) -> (&[u8], Option<&[u8]>)
     ensures cut { MatchOption result.1
         (parts 44 bytes.now ≡ result.0.now ∷ [])
@@ -39,7 +39,8 @@ fn has_column(columns: &[InstanceNo], instance: InstanceNo) -> bool
     columns.iter().any(|column| instance == *column)
 }
 
-/// Puts the column of the instance with this name behind the others. F34: there is none, or it has a column.
+/// Appends the column of the instance with this name. F34: no instance has this name, or the instance already has a
+/// column.
 fn add_column(columns: &mut Vec<InstanceNo>, names: &Names, name: &[u8]) -> Result<(), FormatError>
     ensures ok { OnOk result (IsNext names.now name.now columns.old.items columns.new.items) }
     ensures err { IfErr result (RefusesNext names.now name.now columns.old.items) }
@@ -56,7 +57,7 @@ fn add_column(columns: &mut Vec<InstanceNo>, names: &Names, name: &[u8]) -> Resu
     }
 }
 
-/// The instances that are named, in this order. F34: an instance is named that isn't there, or one twice.
+/// The named instances, in this order. F34: a name is none of the chart's, or an instance is named twice.
 fn named_columns(alloc: Global, names: &Names, only: &[u8]) -> Result<Vec<InstanceNo>, FormatError>
     ensures ok { IfOk result (λ columns. AreNamed names.now (parts 44 only.now) columns.items) }
     ensures err { IfErr result (RefusesNamed names.now (parts 44 only.now)) }
@@ -86,10 +87,10 @@ fn all_columns(alloc: Global, names: &Names) -> Result<Vec<InstanceNo>, AllocErr
     Ok(columns)
 }
 
-/// The instances that have a column, the leftmost first: those whose names the bytes are, joined by commas, or all of
-/// them by number where there are no bytes.
+/// The instances that have a column, the leftmost first. `only` has their names, joined by commas. Without it all
+/// instances have a column, by number.
 ///
-/// F34: a name is none of the chart's, as an empty one is, or it is there twice. F6: a growth was refused.
+/// F34: a name is none of the chart's, such as an empty one, or is given twice. F6: a growth was refused.
 pub fn columns_in(
     alloc: Global,
     names: &Names,

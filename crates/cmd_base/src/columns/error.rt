@@ -1,15 +1,15 @@
-//! What is refused.
+//! The refusals.
 
 use crate::ProgramError;
 use thiserror::Error;
 
-/// Why nothing was drawn, exported or shown: the first of these that applies.
+/// Why nothing was drawn, exported or shown: the first of these causes that applies.
 #[derive(Clone, Copy, Debug, PartialEq, Eq, Error)]
 pub enum FormatError {
-    /// What `mscrun` refuses too: the command line, the file, its text, the chart that it says, a write.
+    /// A refusal that `mscrun` has too: of the command line, the file, its text or chart, or a write.
     #[error(transparent)]
     Program(ProgramError),
-    /// F34: `--only` names an instance that the chart doesn't have, or one twice.
+    /// F34: `--only` names an instance that the chart doesn't have, or names one twice.
     #[error("an instance is named that the chart doesn't have, or one twice")]
     NoSuchName,
 }

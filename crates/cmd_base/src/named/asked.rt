@@ -1,4 +1,4 @@
-//! What is asked for by an instance's name and an event's number.
+//! Looks up an instance by its name, and an event by its number.
 ghost use Rattle.std.specs.Prelude.{◌≡◌};
 ghost use Rattle.cmd_base.specs.Named.Asked.{instance_named, has_event};
 

@@ -80,8 +80,8 @@ fn write_named<V: Out>(
     text.finish()
 }
 
-/// Prints the line of a refusal, by its number and name, with the instance that it is about behind them, and behind
-/// that a number where there is one. Answers the exit status, which is 2 whether or not the line could be written.
+/// Prints the line of a refusal that is about an instance. It has the refusal's number and name, the instance's name,
+/// and a number, if there is one. Returns the exit status, which is 2 even if the line could not be written.
 pub fn refused_at<V: Out>(label: &[u8], instance: &Name, number: Option<u64>, err: &mut V) -> u8
     ensures status { result ≡ 2 }
     ensures line { Tried V.sink err.old err.new (named_text label.now instance.now number) }

@@ -8,7 +8,7 @@ use crate::pairs::error::ViewError;
 use crate::{Answer, refused_by};
 use texts::Out;
 
-/// Prints the line of a refusal, and answers the exit status, which is 2 whether or not the line could be written.
+/// Prints the line of a refusal. Returns the exit status, which is 2 even if the line could not be written.
 pub fn refused<V: Out>(error: &ViewError, err: &mut V) -> u8
     ensures status { result ≡ 2 }
     ensures line { Tried V.sink err.old err.new (refusal_text error.now) }

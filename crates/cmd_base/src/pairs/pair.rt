@@ -1,4 +1,4 @@
-//! The two events that are asked about.
+//! The two events that the words of a `race` line name.
 ghost use Rattle.std.specs.Prelude.{◌≡◌, ◌≤◌, ◌<◌, length};
 ghost use Rattle.chart.specs.declared.line.TheConstants.{MAX_EVENTS};
 ghost use Rattle.cmd_base.specs.Pairs.Pairs.{pair_on, pair_of};
@@ -34,8 +34,8 @@ fn is_receive(event: &Event) -> bool
     }
 }
 
-/// The events of an instance's line with these numbers. F31: there is no such event. F32: the second is a send, or the
-/// first isn't an earlier one.
+/// The events of an instance's line with these numbers. F31: an event doesn't exist. F32: the second event is a send,
+/// or the first isn't earlier.
 fn pair_on(
     names: &Names,
     instance: InstanceNo,
@@ -71,8 +71,8 @@ fn pair_on(
     })
 }
 
-/// The two events that are asked about. F31: the chart has no such event. F32: the second is a send, or the first isn't
-/// an earlier one.
+/// The two events that the words name. F31: the chart has no such event. F32: the second event is a send, or the first
+/// isn't earlier.
 pub fn pair_in(names: &Names, lines: &[Line], asked: &Asked<'_>) -> Result<Pair, ViewError>
     ensures { result ≡ pair_of names.now lines.now asked.now }
 {

@@ -1,4 +1,4 @@
-//! The lines that explain a pair of events, as text.
+//! The text of the lines that explain a pair of events.
 ghost use Rattle.std.specs.Prelude.{◌≡◌};
 ghost use Rattle.std.specs.List.{flat_map};
 ghost use Rattle.chart.specs.Events.{ith};
@@ -12,7 +12,7 @@ use closure::chain::{Link, rule_of};
 use itoa::Buffer;
 use texts::{Out, TextBuffer, WriteError};
 
-/// What is told of a pair that a coregion hides.
+/// The line for a pair that a coregion hides.
 #[tactic(auto, unfolding(crate::specs::Pairs::SayingText::hidden_text))]
 pub fn hidden_text() -> &'static [u8]
     ensures { result.now ≡ hidden_text }
@@ -23,17 +23,17 @@ pub fn hidden_text() -> &'static [u8]
 /// A line that explains a pair of events.
 #[derive(Clone, Copy)]
 pub enum Saying {
-    /// So many first events of the instance's line come before the receive.
+    /// The first `count` events of the instance's line come before the receive.
     Before { instance: InstanceNo, count: usize },
-    /// This event of the receive's line does too.
+    /// This event of the receive's line comes before it too.
     Also { instance: InstanceNo, index: usize },
-    /// An event of the receive's line, by its number, beside the one that may stand in its place.
+    /// The number of an event of the receive's line, and the number of the event that may take its place.
     Row { was: usize, may: usize },
     /// A direct step of the enforced order.
     Step { link: Link },
 }
 
-/// What a line begins with, or has in its middle.
+/// A fixed part at the start, in the middle or at the end of a line.
 #[derive(Clone, Copy)]
 enum Piece {
     Before,
@@ -166,7 +166,7 @@ fn add_half<W: Out>(
     }
 }
 
-/// The same of the event with this number, or nothing where the line has none.
+/// The same for the event with this number. It adds nothing if the line has no such event.
 fn add_half_at<W: Out>(
     text: &mut TextBuffer<'_, W>,
     names: &Names,
@@ -221,7 +221,7 @@ fn add_step<W: Out>(
     add_piece(text, Piece::End)
 }
 
-/// Adds a line; rows are of these events.
+/// Adds a line. `events` has the events of a row.
 fn add_saying<W: Out>(
     text: &mut TextBuffer<'_, W>,
     names: &Names,
@@ -255,8 +255,8 @@ fn add_sayings<W: Out>(
     Ok(())
 }
 
-/// Writes the lines, of which the rows are of these events. It takes no memory. Where a put fails (F24), a beginning of
-/// the text was written, and no other put is tried.
+/// Writes the lines. `events` has the events of the rows. It takes no memory. If a put fails (F24), a beginning of the
+/// text was written, and no other put is tried.
 #[tactic(auto, using(texts::proofs::Writes::joining))]
 pub fn write_sayings<W: Out>(
     names: &Names,
@@ -285,7 +285,7 @@ fn add_steps<W: Out>(
     Ok(())
 }
 
-/// Writes a chain of direct steps, a line for each. It takes no memory. Where a put fails (F24), a beginning of the
+/// Writes a chain of direct steps, one line for each step. It takes no memory. If a put fails (F24), a beginning of the
 /// text was written, and no other put is tried.
 #[tactic(auto, using(texts::proofs::Writes::joining))]
 pub fn write_chain<W: Out>(names: &Names, links: &[Link], out: &mut W) -> Result<(), WriteError>

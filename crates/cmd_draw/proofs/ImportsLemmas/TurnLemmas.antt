@@ -1,4 +1,4 @@
--- Whose events stand in a text that is read.
+-- The instance of each event in turn, in a text that can be read.
 use Rattle.std.proofs.Common.{◌≡◌, ℕ, List, Option, Ok, ap}
 use Rattle.diagrams.specs.Diagrams.{DiagramView}
 use Rattle.diagram_import.specs.Importing.{OptionsView}

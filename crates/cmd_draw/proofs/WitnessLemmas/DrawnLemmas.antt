@@ -1,4 +1,4 @@
--- What is drawn, by what it is drawn from.
+-- The picture of a chart and its witness, by what it is made from.
 use Rattle.std.proofs.Common.{◌≡◌, ℕ, List, length, Option, Result, Ok, Err, refl, sym, ap, ◌∙◌, subst}
 use Rattle.chart.specs.Charts.{Chart, chart_lines, IsPossible}
 use Rattle.chart.specs.Histories.{chart_of, IsLegal}
@@ -43,7 +43,7 @@ use Rattle.cmd_draw.specs.Witness.Beside.{beside_text}
 use Rattle.cmd_draw.specs.Witness.Drawing.{other_title, IsPictured, AreDrawn, IsSubject, AreStaged, WritesOne, DrawsSo, DrawsShown, DrawsWitness}
 use Rattle.cmd_draw.specs.Witness.Stages.{IsWhole, IsStageOf, drawn_of, part_of}
 
--- the picture of a whole chart is the one that is wanted of it
+-- the picture of a whole chart is the wanted one
 pictured : (title : List ℕ) (wanted : Wanted) (source : Source) (columns : List ℕ) (w : whole.Wanted) (stage : Stage) (picture : PictureView) → IsWhole title (only_of wanted.only) wanted.numbers w
     → AreColumns (named_of source).0 (only_of wanted.only) columns → IsPossible (length (named_of source).1) (chart_lines (named_of source).1) → IsStageOf source stage
     → IsPictureOf (drawn_of w.title.now stage) (part_of columns w.numbers) picture
@@ -79,12 +79,12 @@ drawn_from subject other here there text is possible names left right staged = r
   is = rw (left.lines, right.lines) at staged.is;
 }
 
--- two pictures with events marked on the right one that are known by equations
+-- equal marks give equal texts of two pictures
 pub marked_as : (words name : List ℕ) (pair : Pair) (left right : PictureView) (earlier receive earlier' receive' : Option EventNo) → earlier ≡ earlier' → receive ≡ receive'
     → beside_text words name pair left right (record { earlier = earlier; receive = receive }) ≡ beside_text words name pair left right (record { earlier = earlier'; receive = receive' })
 marked_as words name pair left right earlier receive earlier' receive' one other = rw (one, other) refl
 
--- what is known of a text that is written
+-- a property of a text holds for the text that was written
 pub writes_as : {S : Type 0} (sink : S → Sink) (Is Are : List ℕ → Type 0) (old new : S) (result : Result (Unit {0}) ProgramError) → ((text : List ℕ) → Is text → Are text) → WritesOne sink Is old new result → WritesOne sink Are old new result
 writes_as sink Is Are old new (Ok done) so wrote = (wrote.0, so wrote.0 wrote.1, wrote.2)
 writes_as sink Is Are old new (Err Write) so wrote = (wrote.0, so wrote.0 wrote.1, wrote.2)
@@ -96,7 +96,7 @@ writes_as sink Is Are old new (Err (ReceiveWithoutSend p index)) so wrote = absu
 writes_as sink Is Are old new (Err (NameMismatch p index)) so wrote = absurd wrote
 writes_as sink Is Are old new (Err Cyclic) so wrote = absurd wrote
 
--- nothing was written, where memory ran out
+-- nothing was written, if memory ran out
 pub writes_none : {S : Type 0} (sink : S → Sink) (Is : List ℕ → Type 0) (old : S) (error : ProgramError) → error ≡ Memory → WritesOne sink Is old old (Err error)
 writes_none sink Is old error is = subst (λ (e : ProgramError). WritesOne sink Is old old (Err e)) (sym is) refl
 
@@ -111,11 +111,11 @@ possible_witness (names, lines) origin pair plan o is it =
     let many : length o.chart ≡ n = ap length same ∙ length-map-range_with_len (history_line h) 1 n in
     subst (λ m. IsPossible m (chart_lines o.chart)) (sym many) (h, plan.capacity, legal, λ p. ap (λ (c : Chart). c p) chart)
 
--- it has the names of the chart
+-- the outcome of a witness has the names of the chart
 pub witness_names : (named : Named) (origin : Origin) (pair : Pair) (plan : Plan) (o : OutcomeView) → IsWitness named origin pair plan → IsOutcome plan o → o.names ≡ named.0
 witness_names (names, lines) origin pair plan o is it = it.names ∙ is.0
 
--- what is refused of the two events writes nothing
+-- if the two events are refused, nothing is written
 pub not_found : {S : Type 0} (sink : S → Sink) (old : S) (asked : Asked) (wanted : Wanted) (source : Source) (columns : List ℕ) (error : ViewError) → AreColumns (named_of source).0 (only_of wanted.only) columns
     → IsFound (named_of source) (origin_of source) asked (Err error) → DrawsWitness sink old old asked wanted source (Err (picture_left_out.Pair error))
 not_found sink old asked wanted source columns (pairs.Program Memory) are is = refl
@@ -131,7 +131,7 @@ not_found sink old asked wanted source columns pairs.NotEarlier are is = (column
 not_found sink old asked wanted source columns (pairs.NotAReceive receive) are is = (columns, are, is, refl)
 not_found sink old asked wanted source columns (pairs.ManySlots k) are is = absurd (no_slots (named_of source).0 (named_of source).1 asked k is.0)
 
--- there are no such columns
+-- the chart has no such columns
 pub no_columns : {S : Type 0} (sink : S → Sink) (old : S) (asked : Asked) (wanted : Wanted) (source : Source) (error : FormatError) → RefusesColumns (named_of source).0 (only_of wanted.only) error → DrawsWitness sink old old asked wanted source (Err (picture_left_out.Columns error))
 no_columns sink old asked wanted source columns.NoSuchName none = (none, refl)
 no_columns sink old asked wanted source (columns.Program Memory) why = refl
@@ -143,7 +143,7 @@ no_columns sink old asked wanted source (columns.Program (NameMismatch p index))
 no_columns sink old asked wanted source (columns.Program Cyclic) why = absurd why
 no_columns sink old asked wanted source (columns.Program Write) why = absurd why
 
--- where a witness isn't drawn whole, memory ran out or a put failed
+-- if a witness isn't drawn completely, memory ran out or a put failed
 pub not_drawn : {S : Type 0} (sink : S → Sink) (old new : S) (asked : Asked) (wanted : Wanted) (source : Source) (columns : List ℕ) (found : Found) (witnessed : Witnessed) (error : ProgramError) → AreColumns (named_of source).0 (only_of wanted.only) columns
     → IsFound (named_of source) (origin_of source) asked (Ok found) → Judges source found (Ok witnessed) → DrawsShown sink old new asked wanted source found (Err error) → DrawsWitness sink old new asked wanted source (Err (picture_left_out.Pair (pairs.Program error)))
 not_drawn sink old new asked wanted source columns found witnessed error are is judges draws = by_shown error found.shown refl draws
@@ -167,7 +167,7 @@ not_drawn sink old new asked wanted source columns found witnessed error are is 
     by_shown error founds.Enforced same drawn = let none = subst (λ (s : Shown). DrawsSo sink old new asked wanted source found.pair s (Err error)) (sym same) drawn in let differs = none.0 in cc
     by_shown error (founds.TooManySlots k) same drawn = let none = subst (λ (s : Shown). DrawsSo sink old new asked wanted source found.pair s (Err error)) (sym same) drawn in let differs = none.0 in cc
 
--- of each witness that needs too many slots nothing is drawn
+-- if each witness needs too many slots, nothing is drawn
 pub too_many : {S : Type 0} (sink : S → Sink) (old : S) (asked : Asked) (wanted : Wanted) (source : Source) (columns : List ℕ) (found : Found) (error : ViewError) → AreColumns (named_of source).0 (only_of wanted.only) columns
     → IsFound (named_of source) (origin_of source) asked (Ok found) → Judges source found (Err error) → DrawsWitness sink old old asked wanted source (Err (picture_left_out.Pair error))
 too_many sink old asked wanted source columns found error are is judges = by_shown found.shown refl

@@ -1,4 +1,5 @@
--- What is told of a picture beside its text: what an import tells, but of what the picture has.
+-- The warnings about a picture of another tool's text: those of an import, except about constructs that the picture
+-- has.
 use Rattle.std.specs.Prelude.{◌≡◌, Bool, true, false, not, List, filter, Some}
 use Rattle.diagrams.specs.declared.left_out.Kind.{Kind}
 use Rattle.diagrams.specs.declared.left_out.Kind.TheVariants.{Note, Divider, Delay}
@@ -9,18 +10,19 @@ use Rattle.cmd_import_diagram.specs.Diagnostics.{diagnostics_text}
 use Rattle.diagram_join.specs.declared.drawing.JoinedChart.{JoinedChart}
 use Rattle.cmd_draw.specs.declared.imports.diagnostics.Diagnostics.{Diagnostics}
 
--- a picture has what a chart leaves out: notes, dividers and delays
+-- a picture has these kinds of constructs, which a chart can't express: notes, dividers and delays
 abbrev pub is_drawn : Kind → Bool
 is_drawn Note = true
 is_drawn Divider = true
 is_drawn Delay = true
 is_drawn kind = false
 
--- what is left out of a picture of what is left out of its chart
+-- the constructs that the chart leaves out and its picture lacks too
 abbrev pub picture_left_out : List LeftOut → List LeftOut
 picture_left_out left_out = filter (λ l. not (is_drawn l.kind)) left_out
 
--- this is told of the picture of a chart: what is left out of it, in its order, the messages that overtake, and the names
+-- the warnings about the picture of a chart: the constructs that it lacks, in their order, the messages that overtake,
+-- and the names
 abbrev pub AreDiagnosticsOf : Diagnostics → JoinedChart → Type 0
 AreDiagnosticsOf diagnostics built = (diagnostics.left_out.items ≡ in_order (picture_left_out built.built.left_out.items))
     × (diagnostics.overtaking ≡ built.overtaking) × (diagnostics.renamed ≡ built.built.renamed)

@@ -1,4 +1,4 @@
--- What is drawn of another tool's text.
+-- The picture that is drawn of another tool's text.
 use Rattle.std.specs.Prelude.{◌≡◌, ℕ, List, map, Option, Result, Ok, Err}
 use Rattle.diagram_import.specs.Importing.{OptionsView, imported}
 use Rattle.diagram_import.specs.Refusals.{Fails}
@@ -21,9 +21,8 @@ use Rattle.texts.specs.Outs.{Sink}
 use Rattle.diagram_tool.specs.declared.Tool.{Tool}
 
 module _ {S : Type 0} (sink : S → Sink) where
-  -- the chart was drawn that is read of the bytes, by the turns of the diagram's rows and with its notes, and what is told
-  -- is told of it; or
-  -- the picture is refused; or nothing was written, where the bytes are refused or memory ran out
+  -- the chart in the bytes was drawn, by the turns of the diagram's rows and with its notes, and the warnings are those
+  -- about it. Otherwise the picture is refused; or nothing was written, since the bytes are refused or memory ran out
   abbrev pub DrawsDrawing : S → S → Option Tool → List ℕ → OptionsView → Wanted → Result Diagnostics PictureError → Type 0
   DrawsDrawing old new tool bytes options wanted (Ok diagnostics) = (built : JoinedChart) × (notes : List MarginNote)
       × IsChartOf built tool bytes options × AreDiagnosticsOf diagnostics built × (map note_view notes ≡ notes_of_text tool bytes options)
@@ -33,11 +32,11 @@ module _ {S : Type 0} (sink : S → Sink) where
       × IsChartOf built tool bytes options × (map note_view notes ≡ notes_of_text tool bytes options)
       × Draws sink old new (Err error) wanted (turns_of_text tool bytes options) notes (built.built.names, built.built.chart)
 
--- what is said of a refusal
+-- the status and the line of a refusal
 abbrev pub picture_error_exit : PictureError → Exit
 picture_error_exit (Drawing error) = refusal (drawing_refusal_text error)
 picture_error_exit (Picture error) = draw_error_exit error
 
--- what is said of a picture that was drawn or refused
+-- the status and the lines for a picture that was drawn or refused
 abbrev pub picture_exit : Result Diagnostics PictureError → Exit
 picture_exit = exit_of pictured_exit picture_error_exit

@@ -1,4 +1,4 @@
--- What is told of a witness's picture.
+-- The status and the lines for a witness's picture.
 use Rattle.std.specs.Prelude.{Result}
 use Rattle.cmd_base.specs.Answers.{Exit, exit_of}
 use Rattle.cmd_base.specs.Columns.Answers as columns
@@ -8,11 +8,11 @@ use Rattle.cmd_explain_race.specs.declared.verdict.Witnessed.{Witnessed}
 use Rattle.cmd_draw.specs.declared.witness.error.PictureError.{PictureError}
 use Rattle.cmd_draw.specs.declared.witness.error.PictureError.TheVariants.{Columns, Pair}
 
--- of a refusal
+-- for a refusal
 abbrev pub picture_error_exit : PictureError → Exit
 picture_error_exit (Columns error) = columns.error_exit error
 picture_error_exit (Pair error) = pairs.error_exit error
 
--- of a pair for which a witness was drawn, or looked for: what `mscview witness` says of it
+-- for a pair whose witness was drawn, or searched for: those of `mscview witness`
 abbrev pub picture_exit : Result Witnessed PictureError → Exit
 picture_exit = exit_of witnessed_exit picture_error_exit

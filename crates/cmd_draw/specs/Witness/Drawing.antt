@@ -1,4 +1,4 @@
--- What is drawn of a chart and of its witness.
+-- The picture of a chart and its witness.
 use Rattle.std.specs.Prelude.{◌≡◌, ℕ, List, [], length, codes, Result, Ok, Err}
 use Rattle.chart.specs.Charts.{chart_lines, IsPossible}
 use Rattle.cmd_base.specs.declared.error.ProgramError.{ProgramError}
@@ -33,7 +33,7 @@ use Rattle.cmd_draw.specs.Witness.Beside.{beside_text}
 use Rattle.cmd_draw.specs.Witness.Counterparts.{counterpart}
 use Rattle.cmd_draw.specs.Witness.Stages.{IsWhole, drawn_of, part_of}
 
--- what stands above the witness's picture
+-- the title above the witness's picture
 unfoldable pub other_title : List ℕ
 other_title = codes "another run, with the two events the other way round"
 
@@ -43,8 +43,8 @@ pub record IsPictured (title : List ℕ) (wanted : Wanted) (source : Source) (pi
   pub is_whole : IsWhole title (only_of wanted.only) wanted.numbers all
   pub drawn : IsWanted all (turns_in source) [] (named_of source) picture
 
--- the text of two pictures side by side: of the source's chart with the pair marked, and of the other one's with the
--- events marked that are of the same lanes and turns
+-- the text of two pictures side by side. In the source's chart the pair is marked, and in the other chart the events of
+-- the same lanes and turns
 pub record AreDrawn (asked : Asked) (wanted : Wanted) (source : Source) (pair : pairs.Pair) (other : Source) (text : List ℕ)
     : Type 0 where
   pub here : PictureView
@@ -56,13 +56,13 @@ pub record AreDrawn (asked : Asked) (wanted : Wanted) (source : Source) (pair : 
     receive = counterpart (named_of source).1 (named_of other).1 pair.receive;
   })
 
--- a possible chart, with columns that are wanted
+-- a possible chart, with the wanted columns
 pub record IsSubject (subject : Subject) : Type 0 where
   pub comes : ComesFrom subject.source.now
   pub possible : IsPossible (length (named_of subject.source.now).1) (chart_lines (named_of subject.source.now).1)
   pub columns : AreColumns (named_of subject.source.now).0 (only_of subject.wanted.now.only) subject.columns.now
 
--- the same text, by what the pictures are drawn from
+-- the same text, by what the pictures are made from
 pub record AreStaged (subject : Subject) (one other : Stage) (text : List ℕ) : Type 0 where
   pub wanted_here : whole.Wanted
   pub wanted_there : whole.Wanted
@@ -78,15 +78,15 @@ pub record AreStaged (subject : Subject) (one other : Stage) (text : List ℕ) :
   })
 
 module _ {S : Type 0} (sink : S → Sink) where
-  -- such a text was written; or a beginning of it, where a put failed; or nothing, where memory ran out
+  -- such a text was written; or a beginning of it, if a put failed; or nothing, if memory ran out
   abbrev pub WritesOne : (List ℕ → Type 0) → S → S → Result (Unit {0}) ProgramError → Type 0
   WritesOne Is old new (Ok done) = (text : List ℕ) × Is text × Puts sink old new text
   WritesOne Is old new (Err errors.Write) = (text : List ℕ) × Is text × Breaks sink old new text
   WritesOne Is old new (Err errors.Memory) = new ≡ old
   WritesOne Is old new (Err error) = ⊥
 
-  -- where a witness was found, the pictures were drawn of the chart and of the one that the witness's schedule comes to;
-  -- and nothing where there is none
+  -- if a witness was found, the pictures of the chart and of the outcome of the witness's schedule were drawn; and
+  -- otherwise nothing
   abbrev pub DrawsSo : S → S → Asked → Wanted → Source → pairs.Pair → Shown → Result (Unit {0}) ProgramError → Type 0
   DrawsSo old new asked wanted source pair (founds.Replay plan) result =
       WritesOne (λ text. (other : Source) × IsSourceOf (Schedule plan) other × AreDrawn asked wanted source pair other text) old new result
@@ -95,7 +95,7 @@ module _ {S : Type 0} (sink : S → Sink) where
   abbrev pub DrawsShown : S → S → Asked → Wanted → Source → Found → Result (Unit {0}) ProgramError → Type 0
   DrawsShown old new asked wanted source found = DrawsSo old new asked wanted source found.pair found.shown
 
-  -- this was found for the two events that are asked about, there are such columns, and it was drawn so
+  -- this was found for the given pair, the chart has these columns, and they were drawn so
   pub record DrawsFound (old new : S) (asked : Asked) (wanted : Wanted) (source : Source)
       (judged : Result Witnessed ViewError) (done : Result (Unit {0}) ProgramError) : Type 0 where
     pub columns : List ℕ
@@ -105,9 +105,8 @@ module _ {S : Type 0} (sink : S → Sink) where
     pub judges : Judges source found judged
     pub draws : DrawsShown old new asked wanted source found done
 
-  -- the chart was drawn beside its witness, or there is none; or nothing was written, where there are no such columns,
-  -- where the chart is not possible, where there is no such pair, where each witness needs too many slots, or where
-  -- memory ran out
+  -- the chart was drawn beside its witness, or there is none; or nothing was written. Nothing is written if the chart
+  -- lacks the columns, isn't possible, lacks the pair, if each witness needs too many slots, or memory ran out
   abbrev pub DrawsWitness : S → S → Asked → Wanted → Source → Result Witnessed PictureError → Type 0
   DrawsWitness old new asked wanted source (Ok witnessed) =
       DrawsFound old new asked wanted source (Ok witnessed) (Ok tt)
@@ -124,7 +123,7 @@ module _ {S : Type 0} (sink : S → Sink) where
       × AreColumns (named_of source).0 (only_of wanted.only) columns
       × IsFound (named_of source) (origin_of source) asked (Err error) × (new ≡ old)
 
-  -- the same for the chart that the bytes say; or nothing was written, where the bytes have a fault
+  -- the same for the chart in a file; or nothing was written, if the bytes have a fault
   abbrev pub DrawsWitnessText : S → S → Asked → Wanted → List ℕ → Result Witnessed PictureError → Type 0
   DrawsWitnessText old new asked wanted bytes =
       OfFile (λ error. Pair (Program error)) (λ source done. DrawsWitness old new asked wanted source done) old new bytes

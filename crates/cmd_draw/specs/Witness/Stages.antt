@@ -1,4 +1,4 @@
--- What the picture of a whole chart is drawn from.
+-- What the picture of a whole chart is made from.
 use Rattle.std.specs.Prelude.{◌≡◌, ℕ, Bool, List, [], Option}
 use Rattle.chart.specs.Reports.{AreReports}
 use Rattle.cmd_base.specs.declared.source.Source.{Source}
@@ -15,7 +15,7 @@ use Rattle.cmd_draw.specs.declared.witness.stage.Stage.{Stage}
 abbrev pub all : Events
 all = record { first = 1; last = 4294967295 }
 
--- all of a chart is wanted, with this title, these columns, and numbers or none
+-- all of a chart is wanted, with this title, these columns, and its events' numbers or not
 pub record IsWhole (title : List ℕ) (only : Option (List ℕ)) (numbers : Bool) (wanted : Wanted) : Type 0 where
   pub title_is : wanted.title.now ≡ title
   pub only_is : only_of wanted.only ≡ only
@@ -23,14 +23,14 @@ pub record IsWhole (title : List ℕ) (only : Option (List ℕ)) (numbers : Bool
   pub rows_are : wanted.rows ≡ Between all
   pub numbers_are : wanted.numbers ≡ numbers
 
--- it is the source's chart, with its names, layout, ends of messages and reports
+-- the stage is that of the source's chart: its names, lines, layout, ends of messages and reports
 pub record IsStageOf (source : Source) (stage : Stage) : Type 0 where
   pub names : stage.names.now ≡ (named_of source).0
   pub lines : stage.closure.now ≡ (named_of source).1
   pub prepared : IsPrepared (named_of source).1 (turns_in source) stage.prepared.layout stage.prepared.ends
   pub races : AreReports (named_of source).1 (reports_in stage.reports)
 
--- what a picture of the stage's chart with this title is of
+-- what a picture of the stage's chart with this title is made from
 abbrev pub drawn_of : List ℕ → Stage → SourceView
 drawn_of title stage = record {
   title = title;

@@ -1,4 +1,4 @@
-//! What is told of a picture beside its text.
+//! The warnings about a picture of another tool's text.
 ghost use Rattle.std.specs.Prelude.{◌≡◌, filter, not, IfOk};
 ghost use Rattle.std.specs.List.{flat_map};
 ghost use Rattle.cmd_import_diagram.specs.Order.{in_order};
@@ -15,8 +15,8 @@ use diagrams::{Kind, LeftOut};
 use std::alloc::{AllocError, Global};
 use texts::{Out, TextBuffer, WriteError};
 
-/// What is told of a picture: what is left out of it, in the order of the first places, the messages that overtake
-/// another one, and each name that isn't its label's words.
+/// The warnings about a picture. They list the constructs that it lacks, in the order of their first places. Then come
+/// the messages that overtake another one, and each name that isn't the words of its label.
 #[derive(Debug, Drop)]
 pub struct Diagnostics {
     pub(crate) left_out: Vec<LeftOut>,
@@ -24,7 +24,7 @@ pub struct Diagnostics {
     pub(crate) renamed: Vec<Renamed>,
 }
 
-/// Whether a picture has what a chart leaves out.
+/// Whether a picture has this kind of construct, which a chart can't express.
 fn is_drawn(kind: Kind) -> bool
     ensures { result ≡ is_drawn kind }
 {
@@ -34,7 +34,7 @@ fn is_drawn(kind: Kind) -> bool
     }
 }
 
-/// What is left out of a picture of what is left out of its chart, in the order of the first places.
+/// The constructs that a chart leaves out and its picture lacks too, in the order of their first places.
 pub(crate) fn picture_left_out(
     alloc: Global,
     left_out: &[LeftOut],
@@ -87,7 +87,7 @@ fn add_diagnostics<V: Out>(
     add_all_renamed(text, renamed)
 }
 
-/// Writes what is told of a picture.
+/// Writes the warnings about a picture.
 #[tactic(auto, using(texts::proofs::Writes::joining))]
 fn write_diagnostics<V: Out>(
     left_out: &[LeftOut],
@@ -102,7 +102,7 @@ fn write_diagnostics<V: Out>(
     text.finish()
 }
 
-/// What is left out, and each name that isn't its label's words, with status 0.
+/// Prints the warnings, with status 0.
 impl Answer for Diagnostics {
     ghost exit = { pictured_exit };
 

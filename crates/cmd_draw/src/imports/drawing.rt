@@ -1,4 +1,4 @@
-//! Pictures of other tools' texts.
+//! Draws other tools' texts.
 ghost use Rattle.std.specs.Prelude.{◌≡◌, IfOk};
 ghost use Rattle.cmd_base.specs.Answers.{Answers};
 ghost use Rattle.diagram_import.specs.Importing.{options_view};
@@ -22,14 +22,14 @@ use texts::Out;
 /// Why no picture was drawn.
 #[derive(Debug, Drop)]
 pub enum PictureError {
-    /// The text isn't read or has no chart, or memory ran out.
+    /// The text can't be read or has no chart, or memory ran out.
     Drawing(ImportError),
-    /// An instance or an event is named that the chart doesn't have, memory ran out, or a write failed.
+    /// The chart doesn't have a named instance or event, memory ran out, or a write failed.
     Picture(DrawError),
 }
 
-/// Whose events stand in the diagram that a text says, from the top on. It fails only where there is no memory, or
-/// where the text says no diagram.
+/// The instance of each event in turn, in the diagram that a text contains, from the top down. It fails only if there
+/// is no memory, or if the text contains no diagram.
 pub fn turns_of_text(
     alloc: Global,
     tool: Option<Tool>,
@@ -45,8 +45,8 @@ pub fn turns_of_text(
     Ok(turns)
 }
 
-/// Reads the text and draws what is wanted of its chart, in the rows of the diagram, with its notes and dividers. All
-/// memory is taken before the first byte is written.
+/// Reads the text and draws the wanted part of its chart, in the rows of the diagram, with its notes and dividers. It
+/// takes all memory before it writes the first byte.
 fn draw_text<W: Out>(
     alloc: Global,
     tool: Option<Tool>,
@@ -96,7 +96,7 @@ fn draw_text<W: Out>(
     }
 }
 
-/// A refusal's line, with status 2.
+/// Prints a refusal's line, with status 2.
 impl Answer for PictureError {
     ghost exit = { picture_error_exit };
 
@@ -114,12 +114,12 @@ impl Answer for PictureError {
     }
 }
 
-/// Writes a picture, as SVG text, of the chart that a tool's text says, of the tool that is named or that the text
-/// tells: its events stand in the order of the diagram's rows, and its notes and dividers beside them. On `err` is told
-/// what an import tells of the chart, but of what is drawn. Writes the line of a refusal to `err`. Answers the exit
-/// status: 0 where it was drawn, 2 after a refusal. What an import refuses is refused first, then F34, and then F31.
-/// Nothing is written to `out` before a refusal, but where writing to it failed (F24). A failed write to `err` changes
-/// nothing.
+/// Writes a picture, as SVG text, of the chart in another tool's text. The tool is the one that is named, or else the
+/// one that the text shows. The events are in the order of the diagram's rows, and its notes and dividers are beside
+/// them. It writes the warnings of an import to `err`, except those about constructs that the picture has. It writes
+/// the line of a refusal to `err`. It returns the exit status: 0 if the picture was written, 2 after a refusal. The
+/// refusals of an import come first, then F34, and then F31. It writes nothing to `out` before a refusal, unless a
+/// write to it failed (F24). A failed write to `err` changes nothing.
 pub fn draw_of<W: Out, V: Out>(
     alloc: Global,
     tool: Option<Tool>,

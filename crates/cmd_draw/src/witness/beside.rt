@@ -11,14 +11,14 @@ use pictures::{Picture, add_picture};
 use texts::pieces::{Piece, add_pieces};
 use texts::{Out, TextBuffer, WriteError};
 
-/// The events that are marked on a picture: the earlier one, and the receive.
+/// The events that are marked in a picture: the earlier one, and the receive.
 #[derive(Clone, Copy)]
 pub(crate) struct Marked {
     pub(crate) earlier: Option<EventNo>,
     pub(crate) receive: Option<EventNo>,
 }
 
-/// Adds the colour of the marks, that on white and that on black, and the ground of both pictures.
+/// Adds the colour of the marks, for a light and for a dark scheme, and the background of both pictures.
 #[tactic(auto, unfolding(crate::specs::Witness::Beside::ground))]
 fn add_ground<W: Out>(text: &mut TextBuffer<'_, W>) -> Result<(), WriteError>
     ensures { Adds W.sink text.old text.new result ground }
@@ -33,7 +33,7 @@ fn add_ground<W: Out>(text: &mut TextBuffer<'_, W>) -> Result<(), WriteError>
     )
 }
 
-/// The upper left corner of the square round a spot.
+/// The upper left corner of the square around a spot.
 fn corner(at: Spot) -> Spot
     ensures { result ≡ corner at }
 {
@@ -60,7 +60,7 @@ fn add_square<W: Out>(text: &mut TextBuffer<'_, W>, at: Spot) -> Result<(), Writ
     )
 }
 
-/// Adds a ring round a spot.
+/// Adds a ring around a spot.
 #[tactic(auto, unfolding(crate::specs::Witness::Beside::ring))]
 fn add_ring<W: Out>(text: &mut TextBuffer<'_, W>, at: Spot) -> Result<(), WriteError>
     ensures { Adds W.sink text.old text.new result (ring at) }
@@ -77,7 +77,7 @@ fn add_ring<W: Out>(text: &mut TextBuffer<'_, W>, at: Spot) -> Result<(), WriteE
     )
 }
 
-/// Adds the beginning of what stands so far on the right.
+/// Adds the start of a group that is shifted `x` pixels to the right.
 #[tactic(auto, unfolding(crate::specs::Witness::Beside::group_start))]
 fn add_group_start<W: Out>(text: &mut TextBuffer<'_, W>, x: u64) -> Result<(), WriteError>
     ensures { Adds W.sink text.old text.new result (group_start x) }
@@ -92,7 +92,7 @@ fn add_group_start<W: Out>(text: &mut TextBuffer<'_, W>, x: u64) -> Result<(), W
     )
 }
 
-/// Where an event is on a picture, if there is one and it is drawn.
+/// The spot of an event in a picture, if there is one and it is drawn.
 fn spot_from(picture: &Picture<'_>, event: Option<EventNo>) -> Option<Spot>
     ensures { result ≡ spot_from picture.now event }
 {
@@ -133,7 +133,7 @@ fn add_marks<W: Out>(
     add_ring_at(text, receive)
 }
 
-/// Adds a picture with its marks, so far on the right.
+/// Adds a picture with its marks, shifted `x` pixels to the right.
 #[tactic(auto, using(texts::proofs::Writes::joining), unfolding(crate::specs::Witness::Beside::side_text))]
 fn add_side<W: Out>(
     text: &mut TextBuffer<'_, W>,
@@ -154,7 +154,7 @@ fn add_side<W: Out>(
     add_group_end(text)
 }
 
-/// Adds what a square means, at this height.
+/// Adds the legend of the square, at this height.
 #[tactic(auto, unfolding(crate::specs::Witness::Beside::square_entry))]
 fn add_square_entry<W: Out>(
     text: &mut TextBuffer<'_, W>,
@@ -179,7 +179,7 @@ fn add_square_entry<W: Out>(
     )
 }
 
-/// Adds what a ring means, at this height.
+/// Adds the legend of the ring, at this height.
 #[tactic(auto, unfolding(crate::specs::Witness::Beside::ring_entry))]
 fn add_ring_entry<W: Out>(
     text: &mut TextBuffer<'_, W>,
@@ -204,7 +204,7 @@ fn add_ring_entry<W: Out>(
     )
 }
 
-/// Adds what the marks mean, from this height on.
+/// Adds the legend of both marks, from this height down.
 #[tactic(auto, using(texts::proofs::Writes::joining), unfolding(crate::specs::Witness::Beside::key))]
 fn add_key<W: Out>(
     text: &mut TextBuffer<'_, W>,
@@ -219,7 +219,7 @@ fn add_key<W: Out>(
     add_ring_entry(text, y + 28, name, u64::from(pair.receive.index))
 }
 
-/// Adds both pictures, and below them what the marks mean: the pair of the instance with this name.
+/// Adds both pictures, and below them the legend of the marks. The pair belongs to the instance with this name.
 #[tactic(auto, using(texts::proofs::Writes::joining), unfolding(crate::specs::Witness::Beside::beside_text))]
 fn add_beside<W: Out>(
     text: &mut TextBuffer<'_, W>,
@@ -244,9 +244,9 @@ fn add_beside<W: Out>(
     add_svg_end(text)
 }
 
-/// Writes two pictures beside each other under this title, and nothing else. The pair of the instance with this name is
-/// marked on the left, and these events on the right. It takes no memory. Where a put fails (F24), a beginning of the
-/// text was written, and no other put is tried.
+/// Writes two pictures beside each other under this title, and nothing else. On the left the pair of the instance with
+/// this name is marked, and on the right the events of `there`. It takes no memory. If a put fails (F24), it has
+/// written a beginning of the text, and tries no other put.
 #[tactic(auto, using(texts::proofs::Writes::joining))]
 pub(crate) fn write_beside<W: Out>(
     words: &[u8],

@@ -1,4 +1,4 @@
-//! Where an event of a chart stands in another run of the same programs.
+//! Finds an event of a chart in another run of the same programs.
 ghost use Rattle.std.specs.Prelude.{◌≡◌, ◌≤◌, length, take};
 ghost use Rattle.chart.specs.Charts.{chart_lines};
 ghost use Rattle.chart.specs.declared.line.TheConstants.{MAX_EVENTS};
@@ -8,7 +8,7 @@ use chart::line_events::events_of;
 use chart::{Event, EventNo, Line};
 use chart_layout::event_in;
 
-/// Whether both are sends to one instance, or receives from one.
+/// Whether both are sends to one instance, or receives from one instance.
 fn is_like(event: &Event, other: &Event) -> bool
     ensures { result ≡ is_like event.now other.now }
 {
@@ -19,14 +19,14 @@ fn is_like(event: &Event, other: &Event) -> bool
     }
 }
 
-/// How many of the events are like this one.
+/// The number of the events that are like this one.
 fn turn_of(line: &[Event], event: &Event) -> usize
     ensures { result ≡ turn_of line.now event.now }
 {
     line.iter().filter(|other| is_like(event, other)).count()
 }
 
-/// The number, from 1, of that event of a line which is the turn-th like this one.
+/// The number, from 1, of the turn-th event of a line that is like this one.
 fn nth(event: &Event, turn: usize, line: &[Event]) -> Option<u32>
     requires { length line.now ≤ MAX_EVENTS }
     ensures { result ≡ nth event.now turn 1 line.now }
@@ -45,7 +45,7 @@ fn nth(event: &Event, turn: usize, line: &[Event]) -> Option<u32>
     None
 }
 
-/// The events of a line up to this number.
+/// The events of a line, up to the one with this number.
 fn front_of(line: &[Event], index: usize) -> &[Event]
     ensures { result.now ≡ take index line.now }
 {
@@ -56,7 +56,7 @@ fn front_of(line: &[Event], index: usize) -> &[Event]
     }
 }
 
-/// The number of an event's counterpart on the line there.
+/// The number of an event's counterpart on the line `there`.
 fn nth_on(line: &[Event], there: &[Event], event: &Event, index: usize) -> Option<u32>
     requires { length there.now ≤ MAX_EVENTS }
     ensures { result ≡ nth_on line.now there.now event.now index }
@@ -64,7 +64,8 @@ fn nth_on(line: &[Event], there: &[Event], event: &Event, index: usize) -> Optio
     nth(event, turn_of(front_of(line, index), event), there)
 }
 
-/// The event of another chart that is on the same line, at the same end of the same lane, and has the same turn there.
+/// The counterpart of an event in another chart. It is on the same line, at the same end of the same lane, and has the
+/// same turn there.
 pub(crate) fn counterpart(lines: &[Line], others: &[Line], event: &EventNo) -> Option<EventNo>
     ensures { result ≡ counterpart lines.now others.now event.now }
 {

@@ -26,18 +26,18 @@ use schedule_replay::replay;
 use std::alloc::Global;
 use texts::Out;
 
-/// What is wanted of both pictures.
+/// The options for both pictures.
 #[derive(Clone, Copy, Debug)]
 pub struct Wanted<'a> {
-    /// What stands above the chart's own: any bytes.
+    /// The title above the picture of the chart: any bytes.
     pub title: &'a [u8],
-    /// The names of the instances that have a column, joined by commas. Without it all have one.
+    /// The names of the instances that have a column, joined by commas. Without it each instance has one.
     pub only: Option<&'a [u8]>,
     /// Whether each event has its number beside it.
     pub numbers: bool,
 }
 
-/// A chart that was read, two events of it, and what is wanted of both pictures.
+/// A chart, two of its events, and the options for both pictures.
 #[derive(Clone, Copy)]
 struct Subject<'a> {
     source: &'a Source<'a>,
@@ -47,7 +47,7 @@ struct Subject<'a> {
     pair: Pair,
 }
 
-/// What stands above the witness's picture. It is lent as long as the chart's own title, since both pictures are held
+/// The title above the picture of the witness. Its lifetime is that of the chart's own title, since both pictures exist
 /// at once.
 #[tactic(auto, unfolding(crate::specs::Witness::Drawing::other_title))]
 fn other_title<'a>(_wanted: &'a Wanted<'a>) -> &'a [u8]
@@ -56,7 +56,7 @@ fn other_title<'a>(_wanted: &'a Wanted<'a>) -> &'a [u8]
     b"another run, with the two events the other way round"
 }
 
-/// Draws two charts beside each other. All memory is taken before the first byte is written.
+/// Draws two charts beside each other. It takes all memory before it writes the first byte.
 fn draw_stages<'a, W: Out>(
     alloc: Global,
     subject: &'a Subject<'a>,
@@ -87,7 +87,7 @@ fn draw_stages<'a, W: Out>(
     }
 }
 
-/// The closure of a chart that is known to be possible. F6: it fails only where there is no memory.
+/// The closure of a chart that is known to be possible. F6: it fails only if there is no memory.
 fn closure_in<'a>(alloc: Global, chart: &'a Chart) -> Result<Closure<'a>, ProgramError>
     requires { IsPossible (length chart.now) (chart_lines chart.now) }
     ensures closure { IfOk result (λ closure. closure ≡ chart.now) }
@@ -99,7 +99,7 @@ fn closure_in<'a>(alloc: Global, chart: &'a Chart) -> Result<Closure<'a>, Progra
     }
 }
 
-/// Draws the subject's chart beside another one of the same instances.
+/// Draws the subject's chart beside another chart of the same instances.
 fn draw_sources<W: Out>(
     alloc: Global,
     subject: &Subject<'_>,
@@ -124,7 +124,7 @@ fn draw_sources<W: Out>(
     draw_stages(alloc, subject, &here, &there, out)
 }
 
-/// Draws the subject's chart beside the one that the schedule of a witness comes to.
+/// Draws the subject's chart beside the outcome of a witness's schedule.
 fn draw_replay<W: Out>(
     alloc: Global,
     subject: &Subject<'_>,
@@ -144,7 +144,7 @@ fn draw_replay<W: Out>(
     draw_sources(alloc, subject, &other, out)
 }
 
-/// Draws what was found.
+/// Draws the subject's chart beside the witness that was found, if there is one.
 fn draw_shown<W: Out>(
     alloc: Global,
     subject: &Subject<'_>,
@@ -163,8 +163,8 @@ fn draw_shown<W: Out>(
     }
 }
 
-/// Draws the source's chart beside its witness. F34: a name of `--only` is none of the chart's, or is there twice. Then
-/// comes what is refused of a witness.
+/// Draws the source's chart beside its witness. F34 refuses a name of `--only` that the chart doesn't have, or that is
+/// given twice. Then come the refusals of a witness.
 fn draw_source<'a, W: Out>(
     alloc: Global,
     source: &'a Source<'a>,
@@ -192,7 +192,7 @@ fn draw_source<'a, W: Out>(
     Ok(witnessed)
 }
 
-/// Draws what the file says.
+/// Draws the chart in a file beside its witness.
 fn draw_text<W: Out>(
     alloc: Global,
     bytes: &[u8],
@@ -207,12 +207,12 @@ fn draw_text<W: Out>(
     draw_source(alloc, &source, asked, wanted, out)
 }
 
-/// Writes a picture, as SVG text, of the chart that the bytes of a file say, or of what the schedule comes to that they
-/// say, and beside it that of a run in which two events stand the other way round. Writes to `err` what
-/// [`cmd_explain_race::witness`] tells of the pair, or the line of a refusal. Answers the exit status, also as that
-/// does: 0 where the pair is enforced, 1 where both were drawn, 2 after a refusal. The text's faults are refused first,
-/// then F34, then what is refused of a witness. Nothing is written to `out` before a refusal, but where writing to it
-/// failed (F24). A failed write to `err` changes nothing.
+/// Writes a picture, as SVG text, of the chart in a file, or of the outcome of the schedule in it. Beside it the
+/// picture has a run with two events in the opposite order. It writes to `err` what [`cmd_explain_race::witness`]
+/// writes there about the pair, or the line of a refusal. It returns the exit status of that function: 0 if the pair is
+/// enforced, 1 if both charts were drawn, 2 after a refusal. The faults of the text are refused first, then F34, and
+/// then come the refusals of a witness. It writes nothing to `out` before a refusal, unless a write to it failed (F24).
+/// A failed write to `err` changes nothing.
 pub fn draw_witness<W: Out, V: Out>(
     alloc: Global,
     bytes: &[u8],

@@ -6,12 +6,12 @@ use cmd_base::pairs::ViewError;
 use cmd_base::{Answer, ProgramError};
 use texts::Out;
 
-/// Why nothing was drawn: the first of these that applies.
+/// Why nothing was drawn: the first of these causes that applies.
 #[derive(Debug, Drop)]
 pub enum PictureError {
-    /// An instance is named that the chart doesn't have, or one twice.
+    /// The chart doesn't have a named instance, or one is named twice.
     Columns(FormatError),
-    /// What is refused of a witness.
+    /// A refusal of a witness.
     Pair(ViewError),
 }
 
@@ -38,7 +38,7 @@ impl From<ViewError> for PictureError {
     }
 }
 
-/// A refusal's line, with status 2.
+/// Prints a refusal's line, with status 2.
 impl Answer for PictureError {
     ghost exit = { picture_error_exit };
 

@@ -1,4 +1,4 @@
-//! What the picture of a whole chart is drawn from.
+//! What the picture of a whole chart is made from.
 ghost use Rattle.std.specs.Prelude.{◌≡◌, IfOk, option_map};
 ghost use Rattle.cmd_base.specs.Texts.{named_of, ComesFrom};
 ghost use Rattle.pictures.specs.Preparing.{IsPictureOf};
@@ -11,7 +11,7 @@ use cmd_base::Source;
 use pictures::{Part, Picture};
 use std::alloc::{AllocError, Global};
 
-/// A chart, with what its picture is drawn from beside it.
+/// A chart, with what its picture is made from.
 #[derive(Drop)]
 pub(crate) struct Stage<'a> {
     names: &'a Names,
@@ -29,7 +29,7 @@ impl<'a> Stage<'a> {
     }
 }
 
-/// What is drawn of a whole chart: all of its events.
+/// What to draw of a whole chart: all events, in all rows.
 pub(crate) fn whole<'a>(title: &'a [u8], only: Option<&'a [u8]>, numbers: bool) -> Wanted<'a>
     ensures { IsWhole title.now (option_map (λ bytes. bytes.now) only.entry) numbers result }
 {
@@ -42,7 +42,7 @@ pub(crate) fn whole<'a>(title: &'a [u8], only: Option<&'a [u8]>, numbers: bool) 
     }
 }
 
-/// What the picture of the source's chart is drawn from. F6: it fails only where there is no memory.
+/// What the picture of the source's chart is made from. F6: it fails only if there is no memory.
 pub(crate) fn stage_of<'a>(
     alloc: Global,
     source: &'a Source<'_>,
@@ -63,7 +63,7 @@ pub(crate) fn stage_of<'a>(
     })
 }
 
-/// The picture of the chart, with these columns. F6: it fails only where there is no memory.
+/// The picture of the whole chart, with these columns. F6: it fails only if there is no memory.
 pub(crate) fn picture_of<'a>(
     alloc: Global,
     stage: &'a Stage<'_>,

@@ -1,5 +1,5 @@
--- The notes of a text of mscgen that are no items of its diagram, and its dividers: what stands at notes between two
--- entities, and in rows without an arc (mscgen 0.20's documentation of its language).
+-- The notes of an mscgen text that aren't items of its diagram, and its dividers. They are the labels of notes between
+-- two entities, and of rows without an arc (mscgen 0.20's documentation of its language).
 use Rattle.std.specs.Prelude.{ℕ, Bool, true, false, ◌==◌, List, [], ◌∷◌, length, bytes_eq, Option, None, Some, if◌then◌else◌}
 use Rattle.std.specs.List.{flat_map}
 use Rattle.diagram_mscgen.specs.Grammar.Arcs.{ArcView}
@@ -8,7 +8,7 @@ use Rattle.diagram_mscgen.specs.declared.grammar.arc.ArcKind.TheVariants as arcs
 use Rattle.diagram_import.specs.Margin.Plain.{plain_text}
 use Rattle.diagram_import.specs.Margin.Remarks.{RemarkView}
 
--- what stands at an arc, if it is something
+-- the label of an arc as a remark, unless it is empty
 abbrev pub label_remark : Bool → ArcView → Option (List ℕ) → List RemarkView
 label_remark divides a None = []
 label_remark divides a (Some label) =
@@ -25,10 +25,10 @@ kind_remark a arcs.Both = []
 kind_remark a arcs.Line = []
 kind_remark a arcs.Box = []
 
--- what an arc remarks
+-- the remark of an arc, if it has one
 unfoldable pub arc_remark : ArcView → List RemarkView
 arc_remark a = kind_remark a a.kind
 
--- what these arcs remark
+-- the remarks of these arcs
 unfoldable pub arc_remarks : List ArcView → List RemarkView
 arc_remarks arcs = flat_map arc_remark arcs

@@ -5,7 +5,7 @@ use Rattle.chart.specs.StableOrder.Order.{in_order_by}
 use Rattle.diagram_import.specs.Margin.Remarks.{RemarkView}
 use Rattle.diagram_import.specs.declared.margin.order.Thing.{Thing}
 
--- what stands in a line: the words of a remark, or a message, which has none
+-- a remark with its line and words, or a message with its line and no words
 pub record ThingView : Type 0 where
   pub line : ℕ
   pub words : Option (List ℕ)
@@ -20,7 +20,7 @@ remark_thing r = record { line = r.line; words = Some r.text; divides = r.divide
 abbrev pub message_thing : Message → ThingView
 message_thing m = record { line = m.place.line; words = None; divides = false }
 
--- things by their lines, those of one line as they come
+-- remarks and messages by their lines, those of one line in the given order
 abbrev pub in_order : List ThingView → List ThingView
 in_order things = in_order_by (λ (t : ThingView). t.line) things
 

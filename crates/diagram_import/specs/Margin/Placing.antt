@@ -1,5 +1,5 @@
--- Where remarks stand among the messages of a picture: each above the first message that stands in its line or below it.
--- What stands between two messages stands in one place.
+-- The places of remarks among the messages of a picture. Each remark is above the first message of its line or of a
+-- line below. Remarks between two messages have one place.
 use Rattle.std.specs.Prelude.{ℕ, suc, Bool, false, ◌==◌, ◌||◌, List, [], ◌∷◌, ◌++◌, length, map, fold, codes, Option, None, Some, if◌then◌else◌}
 use Rattle.diagrams.specs.declared.message.Message.{Message}
 use Rattle.chart_layout.specs.Margin.Notes.{NoteView, note_view}
@@ -7,7 +7,7 @@ use Rattle.diagram_import.specs.Margin.Order.{ThingView, things_of}
 use Rattle.diagram_import.specs.Margin.Remarks.{RemarkView}
 use Rattle.diagram_import.specs.declared.margin.placing.Margin.{Margin}
 
--- what stands beside the rows so far, how many messages stand above, and the words that stand above the next one
+-- the notes beside the rows so far, the number of messages above, and the words above the next message
 pub record MarginView : Type 0 where
   pub notes : List NoteView
   pub above : ℕ
@@ -20,19 +20,19 @@ placed_view p = record { notes = map note_view p.notes.items; above = p.above; w
 abbrev pub nothing : MarginView
 nothing = record { notes = []; above = 0; words = []; divides = false }
 
--- words more, behind those that stand in the same place
+-- more words, after those of the same place
 abbrev pub with_words : List ℕ → List ℕ → List ℕ
 with_words words more = if length words == 0 then words ++ more else (words ++ codes " / ") ++ more
 
--- the words that stand above the next message, if there are some
+-- the words above the next message as a note, if there are any
 abbrev pub flushed : MarginView → List NoteView
 flushed p = if length p.words == 0 then [] else record { above = p.above; text = p.words; divides = p.divides } ∷ []
 
--- they have their place
+-- the margin with the words above the next message
 abbrev pub ended : MarginView → MarginView
 ended p = record { notes = p.notes ++ flushed p; above = p.above; words = p.words; divides = p.divides }
 
--- one message more
+-- one more message
 abbrev pub with_message : MarginView → MarginView
 with_message p = record { notes = p.notes ++ flushed p; above = suc p.above; words = []; divides = false }
 
@@ -45,10 +45,10 @@ with_thing_by p divides (Some more) = record {
   divides = p.divides || divides;
 }
 
--- what stands in one line more
+-- one more remark or message
 abbrev pub with_thing : MarginView → ThingView → MarginView
 with_thing p t = with_thing_by p t.divides t.words
 
--- what stands beside the rows
+-- the notes beside the rows
 unfoldable pub placed : List RemarkView → List Message → List NoteView
 placed remarks messages = (ended (fold with_thing nothing (things_of remarks messages))).notes

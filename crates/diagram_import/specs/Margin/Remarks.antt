@@ -1,8 +1,8 @@
--- What a text remarks beside its messages: notes and dividers.
+-- Remarks: the notes and dividers of a text beside its messages.
 use Rattle.std.specs.Prelude.{ℕ, Bool, List}
 use Rattle.diagram_import.specs.declared.margin.remark.Remark.{Remark}
 
--- the line in which it begins, its words, and whether it parts the rows
+-- the line in which a remark begins, its words, and whether it divides the rows
 pub record RemarkView : Type 0 where
   pub line : ℕ
   pub text : List ℕ

@@ -1,4 +1,4 @@
--- The words of notes and dividers that a reader of statements passes over, as they stand in the text (PlantUML, Mermaid).
+-- The words of notes and dividers that a reader of statements ignores, taken from the text (PlantUML, Mermaid).
 use Rattle.std.specs.Prelude.{ℕ, ◌+◌, ◌-◌, min, Bool, not, ◌==◌, ◌||◌, List, [], ◌∷◌, length, fold, take, drop, codes, position, Option, None, Some}
 use Rattle.diagram_import.specs.Shown.{without_lines, from_column}
 use Rattle.diagram_statements.specs.Lines.{line_length}
@@ -10,19 +10,19 @@ abbrev pub least_at : ℕ → Option ℕ → ℕ
 least_at n None = n
 least_at n (Some place) = min n place
 
--- the lesser of a length and the place where these bytes first stand
+-- the lesser of a length and the first place of these bytes
 abbrev pub least : List ℕ → ℕ → List ℕ → ℕ
 least text n known = least_at n (place_of known text)
 
--- what stands before the first of these
+-- the text before the first of these ends
 unfoldable pub up_to : List (List ℕ) → List ℕ → List ℕ
 up_to ends text = take (fold (least text) (length text) ends) text
 
--- what stands before the first line feed
+-- the text before the first line feed
 abbrev pub first_line : List ℕ → List ℕ
 first_line text = take (line_length text) text
 
--- what stands in the line of a place, from there on
+-- the line of a place, from the place on
 unfoldable pub words_at : List ℕ → Place → List ℕ
 words_at text place = from_column place.column (first_line (without_lines (place.line - 1) text))
 
@@ -35,7 +35,7 @@ abbrev pub note_words_at : List ℕ → Place → List ℕ → Option ℕ → Li
 note_words_at text place words None = up_to note_ends (without_lines place.line text)
 note_words_at text place words (Some colon) = drop (colon + 1) words
 
--- the words of a note that begins at a place: what stands behind its colon (byte 58), or in the lines below it
+-- the words of a note that begins at a place: those after its colon (byte 58), or in the lines below it
 unfoldable pub note_words : List ℕ → Place → List ℕ
 note_words text place = note_words_at text place (words_at text place) (first_place 58 (words_at text place))
 
@@ -50,7 +50,7 @@ abbrev pub behind_signs_at : List ℕ → Option ℕ → List ℕ
 behind_signs_at words None = words
 behind_signs_at words (Some place) = up_to divider_ends (drop place words)
 
--- what stands between the signs of a divider; the signs, where there is nothing
+-- the words between the signs of a divider, or the signs if there are no words
 unfoldable pub behind_signs : List ℕ → List ℕ
 behind_signs words = behind_signs_at words (position (λ b. not (is_sign b)) words)
 

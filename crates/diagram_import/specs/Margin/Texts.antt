@@ -1,4 +1,4 @@
--- The notes and dividers of another tool's text, and where they stand.
+-- The notes and dividers of another tool's text, and their places.
 use Rattle.std.specs.Prelude.{ℕ, List, [], ◌++◌, length, Option, None, Some, Result, Ok, Err, if◌then◌else◌}
 use Rattle.diagrams.specs.Diagrams.{DiagramView}
 use Rattle.diagrams.specs.Drawing.{has_no_chart}
@@ -29,21 +29,22 @@ abbrev pub arcs_remarked : {E : Type 0} → Result MscView E → List RemarkView
 arcs_remarked (Ok m) = arc_remarks m.arcs
 arcs_remarked (Err e) = []
 
--- what a text of mscgen remarks beside the items of its diagram
+-- the remarks of an mscgen text that aren't items of its diagram
 unfoldable pub mscgen_remarks : List ℕ → List RemarkView
 mscgen_remarks text = arcs_remarked (msc_of text)
 
--- what a text of lines remarks of which this is read
+-- the remarks of a text of PlantUML or Mermaid, by its statements
 abbrev pub line_remarks : Breaks → List ℕ → ReadView → List RemarkView
 line_remarks breaks text read = statement_remarks breaks text read.0
 
--- what a text of a tool remarks beside the items of its diagram; in PlantUML lines that go on in the next one are one
+-- the remarks of a tool's text that aren't items of its diagram; in PlantUML, lines that continue in the next one are
+-- one line
 unfoldable pub text_remarks : Tool → List ℕ → List RemarkView
 text_remarks Mscgen text = mscgen_remarks text
 text_remarks Mermaid text = line_remarks breaks.Mermaid text (mermaid.diagram_of text)
 text_remarks PlantUml text = line_remarks breaks.PlantUml (joined_text text) (plantuml.diagram_of text)
 
--- what a text of this diagram remarks
+-- the remarks of a text with this diagram
 abbrev pub all_remarks : Tool → List ℕ → DiagramView → List RemarkView
 all_remarks tool text d = own_remarks d.participants d.items ++ text_remarks tool text
 
@@ -60,7 +61,7 @@ abbrev pub notes_by : Option Tool → List ℕ → OptionsView → DiagramView �
 notes_by (Some tool) body options d = placed (all_remarks tool body d) (messages_of d options.joins)
 notes_by None body options d = []
 
--- the notes and dividers of a text of which this is the diagram: none where no chart has so few participants, or so many
+-- the notes and dividers of a text with this diagram; none if it has too few participants for a chart, or too many
 abbrev pub notes_of : Option Tool → List ℕ → OptionsView → DiagramView → List NoteView
 notes_of tool text options d =
     if has_no_chart (length d.participants) then []
@@ -70,6 +71,6 @@ abbrev pub notes_read : Option Tool → List ℕ → OptionsView → Result Diag
 notes_read tool text options (Ok d) = notes_of tool text options d
 notes_read tool text options (Err refusal) = []
 
--- the notes and dividers of a text: each above the first message of its chart that stands in its line or below it
+-- the notes and dividers of a text: each is above the first message of its chart in its line or below it
 unfoldable pub notes_of_text : Option Tool → List ℕ → OptionsView → List NoteView
 notes_of_text tool text options = notes_read tool text options (diagram_of_text tool text options)

@@ -1,4 +1,4 @@
-//! The notes of a text of mscgen that are no items of its diagram, and its dividers.
+//! The notes of an mscgen text that aren't items of its diagram, and its dividers.
 ghost use Rattle.std.specs.Prelude.{◌≡◌, ◌++◌, map, bytes_eq, IfOk, OnOk};
 ghost use Rattle.diagram_mscgen.specs.Grammar.Arcs.{arc_view};
 ghost use Rattle.diagram_import.specs.Margin.Arcs.{label_remark, arc_remark, arc_remarks};
@@ -9,7 +9,7 @@ use crate::margin::remark::Remark;
 use diagram_mscgen::grammar::{Arc, ArcKind};
 use std::alloc::{AllocError, Global};
 
-/// Adds the label of an arc, if it has one.
+/// Adds the label of an arc as a remark, if it has one.
 fn add_label(
     alloc: Global,
     divides: bool,
@@ -34,14 +34,14 @@ fn add_label(
     Ok(())
 }
 
-/// Whether an arc is at one entity alone.
+/// Whether an arc is at a single entity.
 fn is_at_one(arc: &Arc<'_>) -> bool
     ensures { result ≡ bytes_eq arc.now.from.now arc.now.to.now }
 {
     arc.from == arc.to
 }
 
-/// Adds what an arc remarks.
+/// Adds the remark of an arc, if it has one.
 #[tactic(auto, unfolding(crate::specs::Margin::Arcs::arc_remark))]
 fn add_arc(alloc: Global, arc: &Arc<'_>, remarks: &mut Vec<Remark>) -> Result<(), AllocError>
     ensures { OnOk result (map remark_view remarks.new.items
@@ -54,7 +54,7 @@ fn add_arc(alloc: Global, arc: &Arc<'_>, remarks: &mut Vec<Remark>) -> Result<()
     }
 }
 
-/// The notes of these arcs that are no items, and their dividers.
+/// The notes of these arcs that aren't items, and their dividers.
 #[tactic(auto, unfolding(crate::specs::Margin::Arcs::arc_remarks))]
 pub(crate) fn arc_remarks(alloc: Global, arcs: &[Arc<'_>]) -> Result<Vec<Remark>, AllocError>
     ensures { IfOk result (λ remarks. map remark_view remarks.items ≡ arc_remarks (map arc_view arcs.now)) }

@@ -27,7 +27,7 @@ use diagram_tool::detection::detected_tool;
 use diagrams::{Diagram, has_no_chart};
 use std::alloc::{AllocError, Global};
 
-/// The tool of a text, if it is named or the text tells it.
+/// The tool of a text, if it is named or detected.
 #[tactic(auto, unfolding(crate::specs::Readers::tool_in))]
 fn tool_of(tool: Option<Tool>, text: &[u8]) -> Option<Tool>
     ensures { result ≡ tool_by (tool_in tool text.now) }
@@ -41,7 +41,7 @@ fn tool_of(tool: Option<Tool>, text: &[u8]) -> Option<Tool>
     }
 }
 
-/// What a text of mscgen remarks beside the items of its diagram: nothing where the text isn't read.
+/// The remarks of an mscgen text that aren't items of its diagram: none if the text can't be read.
 #[tactic(auto, unfolding(crate::specs::Margin::Texts::mscgen_remarks))]
 fn mscgen_remarks(alloc: Global, text: &[u8]) -> Result<Vec<Remark>, AllocError>
     ensures { IfOk result (λ remarks. map remark_view remarks.items ≡ mscgen_remarks text.now) }
@@ -53,7 +53,7 @@ fn mscgen_remarks(alloc: Global, text: &[u8]) -> Result<Vec<Remark>, AllocError>
     }
 }
 
-/// The same of a text of Mermaid.
+/// The same for a text of Mermaid.
 fn mermaid_remarks(alloc: Global, text: &[u8]) -> Result<Vec<Remark>, AllocError>
     ensures { IfOk result (λ remarks. map remark_view remarks.items ≡ line_remarks Mermaid text.now (mermaid_of text.now)) }
 {
@@ -61,7 +61,7 @@ fn mermaid_remarks(alloc: Global, text: &[u8]) -> Result<Vec<Remark>, AllocError
     statement_remarks(alloc, Breaks::Mermaid, text, &read.statements)
 }
 
-/// The same of a text of PlantUML. Lines that go on in the next one are one line.
+/// The same for a text of PlantUML. Lines that continue in the next one are one line.
 fn plantuml_remarks(alloc: Global, text: &[u8]) -> Result<Vec<Remark>, AllocError>
     ensures { IfOk result (λ remarks. map remark_view remarks.items ≡ line_remarks PlantUml (joined_text text.now) (plantuml_of text.now)) }
 {
@@ -71,7 +71,7 @@ fn plantuml_remarks(alloc: Global, text: &[u8]) -> Result<Vec<Remark>, AllocErro
     statement_remarks(alloc, Breaks::PlantUml, lines, &read.statements)
 }
 
-/// What a text of this tool remarks beside the items of its diagram.
+/// The remarks of a text of this tool that aren't items of its diagram.
 #[tactic(auto, unfolding(crate::specs::Margin::Texts::text_remarks))]
 fn text_remarks(alloc: Global, tool: Tool, text: &[u8]) -> Result<Vec<Remark>, AllocError>
     ensures { IfOk result (λ remarks. map remark_view remarks.items ≡ text_remarks tool text.now) }
@@ -83,7 +83,7 @@ fn text_remarks(alloc: Global, tool: Tool, text: &[u8]) -> Result<Vec<Remark>, A
     }
 }
 
-/// What a text and its diagram remark.
+/// The remarks of a text and of its diagram.
 fn all_remarks(
     alloc: Global,
     tool: Tool,
@@ -99,15 +99,15 @@ fn all_remarks(
     Ok(remarks)
 }
 
-/// Whether no chart has so few participants, or so many.
+/// Whether the diagram has too few participants for a chart, or too many.
 fn is_without_chart(diagram: &Diagram) -> bool
     ensures { result ≡ has_no_chart (length (diagram_view diagram.now).participants) }
 {
     has_no_chart(diagram.participants.len())
 }
 
-/// The notes and dividers of a text of which this is the diagram: none where no chart has so few participants, or so
-/// many.
+/// The notes and dividers of a text with this diagram. There are none if it has too few participants for a chart, or
+/// too many.
 fn notes_of(
     alloc: Global,
     tool: Option<Tool>,
@@ -131,10 +131,11 @@ fn notes_of(
     placed(alloc, &remarks, &messages)
 }
 
-/// The notes and dividers of a text, each with the number of the messages of its chart that stand above it. What stands
-/// between two messages is one note. A text that says no diagram has none. F6: it fails only where there is no memory.
-/// It takes time in proportion to n log n for a text of n bytes, and for each note that isn't in one line with its
-/// participant the time to read the text up to there.
+/// The notes and dividers of a text, each with the number of its chart's messages above it. Those between two messages
+/// are one note. A text without a diagram has none. It fails only if memory runs out (F6).
+///
+/// The time is in proportion to n log n for a text of n bytes. Each divider, and each note that isn't in one line with
+/// its participant, also takes the time to read the text up to there.
 #[tactic(auto, unfolding(crate::specs::Margin::Texts::notes_of_text))]
 pub fn notes_of_text(
     alloc: Global,

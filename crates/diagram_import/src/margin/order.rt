@@ -11,15 +11,15 @@ use std::alloc::{AllocError, Global};
 /// A remark or a message of a text.
 #[derive(Clone, Copy, Debug)]
 pub(crate) struct Thing<'a> {
-    /// The line in which it stands, from 1.
+    /// Its line, from 1.
     pub line: u64,
     /// The words of a remark. A message has none.
     pub words: Option<&'a [u8]>,
-    /// Whether a remark parts the rows.
+    /// Whether a remark divides the rows.
     pub divides: bool,
 }
 
-/// What stands in the line of a remark.
+/// A remark with its line.
 fn remark_thing<'a>(remark: &'a Remark) -> Thing<'a>
     ensures { thing_view result ≡ remark_thing (remark_view remark.now) }
 {
@@ -30,7 +30,7 @@ fn remark_thing<'a>(remark: &'a Remark) -> Thing<'a>
     }
 }
 
-/// What stands in the line of a message.
+/// A message with its line.
 fn message_thing<'a>(message: &Message) -> Thing<'a>
     ensures { thing_view result ≡ message_thing message.now }
 {
@@ -63,7 +63,7 @@ fn add_messages(things: &mut Vec<Thing<'_>>, messages: &[Message]) -> Result<(),
     Ok(())
 }
 
-/// What stands in the lines, in their order.
+/// Sorts remarks and messages by their lines.
 fn put_in_order(things: &mut Vec<Thing<'_>>) -> Result<(), AllocError>
     ensures { OnOk result (map thing_view things.new.items ≡ in_order (map thing_view things.old.items)) }
 {
@@ -71,7 +71,8 @@ fn put_in_order(things: &mut Vec<Thing<'_>>) -> Result<(), AllocError>
     Ok(())
 }
 
-/// Remarks and messages in the order of their lines, in one line remarks first. It takes time in proportion to n log n.
+/// Remarks and messages in the order of their lines. In one line remarks come first. The time is in proportion to n log
+/// n.
 pub(crate) fn things_of<'a>(
     alloc: Global,
     remarks: &'a [Remark],

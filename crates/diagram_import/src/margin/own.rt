@@ -1,4 +1,4 @@
-//! The notes of a diagram that are no sends and no receives.
+//! The notes of a diagram that are neither sends nor receives.
 ghost use Rattle.std.specs.Prelude.{◌≡◌, ◌≤◌, ◌++◌, length, map, IfOk, OnOk};
 ghost use Rattle.std.specs.List.{flat_map};
 ghost use Rattle.chart.specs.declared.instance.TheConstants.{MAX_INSTANCES};
@@ -13,7 +13,7 @@ use diagrams::{Diagram, Item, Participant, collect, names_of};
 use std::alloc::{AllocError, Global};
 use std::slice::from_ref;
 
-/// Whether an item is left out of the chart: a note that says no send and no receive.
+/// Whether an item is skipped in the chart: it is a note that states neither a send nor a receive.
 fn comes_to_nothing(alloc: Global, names: &Names, item: &Item) -> Result<bool, AllocError>
     ensures { IfOk result (λ nothing. nothing ≡ comes_to_nothing names.now (item_view item.now)) }
 {
@@ -21,7 +21,7 @@ fn comes_to_nothing(alloc: Global, names: &Names, item: &Item) -> Result<bool, A
     Ok(!left_out.is_empty())
 }
 
-/// Adds a note that says no send and no receive.
+/// Adds a note that states neither a send nor a receive.
 #[tactic(auto, unfolding(crate::specs::Margin::Owns::own_remark))]
 fn add_own(
     alloc: Global,
@@ -56,7 +56,7 @@ fn own_items(alloc: Global, names: &Names, items: &[Item]) -> Result<Vec<Remark>
     Ok(remarks)
 }
 
-/// The notes of a diagram that say no send and no receive.
+/// The notes of a diagram that state neither a send nor a receive.
 #[tactic(auto, unfolding(crate::specs::Margin::Owns::own_remarks))]
 pub(crate) fn own_remarks(
     alloc: Global,

@@ -1,4 +1,4 @@
-//! Where remarks stand among the messages of a picture.
+//! The places of remarks among the messages of a picture.
 ghost use Rattle.std.specs.Prelude.{◌≡◌, suc, map, fold, IfOk, OnOk};
 ghost use Rattle.chart_layout.specs.Margin.Notes.{note_view};
 ghost use Rattle.diagram_import.specs.Margin.Order.{thing_view};
@@ -11,19 +11,19 @@ use chart_layout::margin::MarginNote;
 use diagrams::Message;
 use std::alloc::{AllocError, Global};
 
-/// What stands beside the rows so far.
+/// The margin beside the rows so far.
 #[derive(Drop)]
 pub(crate) struct Margin {
     pub notes: Vec<MarginNote>,
-    /// How many messages stand above.
+    /// The number of messages above.
     pub above: usize,
-    /// The words that stand above the next message.
+    /// The words above the next message.
     pub words: Vec<u8>,
-    /// Whether they part the rows.
+    /// Whether these words divide the rows.
     pub divides: bool,
 }
 
-/// Words more, behind those that stand in the same place.
+/// Adds words after those of the same place.
 fn add_words(words: &mut Vec<u8>, more: &[u8]) -> Result<(), AllocError>
     ensures { OnOk result (words.new.items ≡ with_words words.old.items more.now) }
 {
@@ -34,7 +34,7 @@ fn add_words(words: &mut Vec<u8>, more: &[u8]) -> Result<(), AllocError>
     Ok(())
 }
 
-/// One message more. Where the count would not fit, the answer is F6.
+/// The number of messages with one more. F6 if it doesn't fit.
 fn next(above: usize) -> Result<usize, AllocError>
     ensures { IfOk result (λ next. next ≡ suc above) }
 {
@@ -44,7 +44,7 @@ fn next(above: usize) -> Result<usize, AllocError>
     }
 }
 
-/// Adds the words that stand above the next message, if there are some.
+/// Adds the words above the next message as a note, if there are any.
 fn flush(alloc: Global, placed: &mut Margin) -> Result<(), AllocError>
     ensures { OnOk result (placed_view placed.new ≡ ended (placed_view placed.old)) }
 {
@@ -60,7 +60,7 @@ fn flush(alloc: Global, placed: &mut Margin) -> Result<(), AllocError>
     Ok(())
 }
 
-/// One message more.
+/// Adds one more message.
 fn add_message(alloc: Global, placed: &mut Margin) -> Result<(), AllocError>
     ensures { OnOk result (placed_view placed.new ≡ with_message (placed_view placed.old)) }
 {
@@ -71,7 +71,7 @@ fn add_message(alloc: Global, placed: &mut Margin) -> Result<(), AllocError>
     Ok(())
 }
 
-/// What stands in a line.
+/// Adds a remark or a message.
 fn add_thing(alloc: Global, placed: &mut Margin, thing: &Thing<'_>) -> Result<(), AllocError>
     ensures { OnOk result (placed_view placed.new ≡ with_thing (placed_view placed.old) (thing_view thing.now)) }
 {
@@ -85,7 +85,7 @@ fn add_thing(alloc: Global, placed: &mut Margin, thing: &Thing<'_>) -> Result<()
     }
 }
 
-/// What stands beside the rows, where these things stand in the lines.
+/// The margin of these remarks and messages.
 fn placed_things(alloc: Global, things: &[Thing<'_>]) -> Result<Margin, AllocError>
     ensures { IfOk result (λ p. placed_view p ≡ fold with_thing nothing (map thing_view things.now)) }
 {
@@ -101,7 +101,7 @@ fn placed_things(alloc: Global, things: &[Thing<'_>]) -> Result<Margin, AllocErr
     Ok(placed)
 }
 
-/// Where these remarks stand among the messages: what stands between two of them stands in one place.
+/// The places of these remarks among the messages. Those between two messages have one place.
 #[tactic(auto, unfolding(crate::specs::Margin::Placing::placed))]
 pub(crate) fn placed(
     alloc: Global,

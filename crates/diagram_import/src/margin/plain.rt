@@ -4,7 +4,7 @@ ghost use Rattle.diagram_import.specs.Margin.Plain.{plain_byte, waits, plain_ste
 
 use std::alloc::{AllocError, Global};
 
-/// A byte, or a blank for a byte that ends a line or leaves room.
+/// The byte, or a blank for a tab or a byte that ends a line.
 fn plain_byte(byte: u8) -> u8
     ensures { result ≡ plain_byte byte }
 {
@@ -15,14 +15,14 @@ fn plain_byte(byte: u8) -> u8
     }
 }
 
-/// Whether a byte waits for the one behind it.
+/// Whether a byte waits for the one after it.
 fn waits(escaped: bool, byte: u8) -> bool
     ensures { result ≡ waits escaped byte }
 {
     !escaped && byte == b'\\'
 }
 
-/// Adds what a byte says, behind a backslash or not.
+/// Adds the text of a byte, after a backslash or not.
 fn add_byte(escaped: bool, byte: u8, element: &mut Vec<u8>) -> Result<(), AllocError>
     ensures { OnOk result (element.new.items ≡ element.old.items ++ plain_step escaped byte) }
 {
@@ -40,7 +40,7 @@ fn add_byte(escaped: bool, byte: u8, element: &mut Vec<u8>) -> Result<(), AllocE
     Ok(())
 }
 
-/// Adds what is said at the end.
+/// Adds the backslash that still waits at the end, if there is one.
 fn add_end(escaped: bool, element: &mut Vec<u8>) -> Result<(), AllocError>
     ensures { OnOk result (element.new.items ≡ element.old.items ++ ended escaped) }
 {
@@ -50,7 +50,7 @@ fn add_end(escaped: bool, element: &mut Vec<u8>) -> Result<(), AllocError>
     Ok(())
 }
 
-/// Words in one line, as they are read: a line's end is a blank, also one that is written as `\n`.
+/// Words in one line, as they are read. The end of a line is a blank, also if it is written as `\n`.
 pub(crate) fn plain_text(alloc: Global, raw: &[u8]) -> Result<Vec<u8>, AllocError>
     ensures { IfOk result (λ element. element.items ≡ plain_text raw.now) }
 {

@@ -1,4 +1,4 @@
-//! What a text remarks beside its messages.
+//! Remarks: the notes and dividers of a text beside its messages.
 
 /// A note or a divider of a text.
 #[derive(Debug, Drop)]
@@ -6,6 +6,6 @@ pub(crate) struct Remark {
     /// The line in which it begins, from 1.
     pub line: u64,
     pub text: Vec<u8>,
-    /// Whether it parts the rows above it from those below it.
+    /// Whether it divides the rows above it from those below it.
     pub divides: bool,
 }

@@ -1,4 +1,4 @@
-//! The words of notes and dividers that a reader of statements passes over, as they stand in the text.
+//! The words of notes and dividers that a reader of statements ignores, taken from the text.
 ghost use Rattle.std.specs.Prelude.{◌≡◌, ◌≤◌, length, map, not, position, IfSome};
 ghost use Rattle.diagram_import.specs.Margin.Sources.{least, up_to, first_line, words_at, note_words, is_sign, behind_signs, divider_words};
 
@@ -20,7 +20,7 @@ const NOTE_ENDS: [&[u8]; 6] = [
 /// The signs that end a divider.
 const DIVIDER_ENDS: [&[u8]; 2] = [b"==", b"..."];
 
-/// The lesser of a length and the place where these bytes first stand.
+/// The lesser of a length and the first place of these bytes.
 fn least(so_far: usize, known: &[u8], text: &[u8]) -> usize
     requires { so_far ≤ length text.now }
     ensures value { result ≡ least text.now so_far known.now }
@@ -32,7 +32,7 @@ fn least(so_far: usize, known: &[u8], text: &[u8]) -> usize
     }
 }
 
-/// What stands before the first of these.
+/// The text before the first of these ends.
 #[tactic(auto, unfolding(crate::specs::Margin::Sources::up_to))]
 fn up_to<'a>(ends: &[&[u8]], text: &'a [u8]) -> &'a [u8]
     ensures { result.now ≡ up_to (map (λ known. known.now) ends.now) text.now }
@@ -44,7 +44,7 @@ fn up_to<'a>(ends: &[&[u8]], text: &'a [u8]) -> &'a [u8]
     &text[..length]
 }
 
-/// What stands in the line of this place, from there on.
+/// The line of this place, from the place on.
 #[tactic(auto, unfolding(crate::specs::Margin::Sources::words_at))]
 fn words_at(text: &[u8], place: Place) -> &[u8]
     ensures { result.now ≡ words_at text.now place }
@@ -53,7 +53,7 @@ fn words_at(text: &[u8], place: Place) -> &[u8]
     from_column(&rest[..line_length(rest)], place.column)
 }
 
-/// The words of a note that begins at this place: what stands behind its colon, or in the lines below it.
+/// The words of a note that begins at this place: those after its colon, or in the lines below it.
 #[tactic(auto, unfolding(crate::specs::Margin::Sources::note_words))]
 pub(crate) fn note_words(text: &[u8], place: Place) -> &[u8]
     ensures { result.now ≡ note_words text.now place }
@@ -72,7 +72,7 @@ fn is_sign(byte: u8) -> bool
     byte == b'=' || byte == b'.' || is_blank(byte)
 }
 
-/// The place of the first byte that is none.
+/// The place of the first byte that isn't one.
 fn first_word(bytes: &[u8]) -> Option<usize>
     ensures value { result ≡ position (λ b. not (is_sign b)) bytes.now }
     ensures within { IfSome result (λ place. place ≤ length bytes.now) }
@@ -80,7 +80,7 @@ fn first_word(bytes: &[u8]) -> Option<usize>
     bytes.iter().position(|byte| !is_sign(*byte))
 }
 
-/// What stands behind the signs and blanks with which the bytes begin, or the bytes where there is nothing else.
+/// The words between the signs and blanks of a divider, or the bytes if there are no words.
 #[tactic(auto, unfolding(crate::specs::Margin::Sources::behind_signs))]
 fn behind_signs(bytes: &[u8]) -> &[u8]
     ensures { result.now ≡ behind_signs bytes.now }

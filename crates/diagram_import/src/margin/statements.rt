@@ -1,4 +1,4 @@
-//! The notes of a text of lines that are no items of its diagram, and its dividers.
+//! The notes of a PlantUML or Mermaid text that aren't items of its diagram, and its dividers.
 ghost use Rattle.std.specs.Prelude.{◌≡◌, ◌++◌, [], map, IfOk, OnOk};
 ghost use Rattle.diagrams.specs.Diagrams.{item_view, note_view};
 ghost use Rattle.diagram_statements.specs.Readings.{read_view};
@@ -14,7 +14,7 @@ use diagram_statements::{Element, NoteAt, Place, ReadError, ReadText, Statement}
 use diagrams::{Item, Note};
 use std::alloc::{AllocError, Global};
 
-/// Whether a note is an item of its diagram: it stands at one participant, and has a text in its line.
+/// Whether a note is an item of its diagram: it is at one participant, and has a text in its line.
 fn has_item(at: NoteAt<'_>, text: &[u8]) -> bool
     ensures { result ≡ has_item (note_at_view at.entry) text.now }
 {
@@ -37,7 +37,7 @@ fn noted<'a>(place: Place, words: &'a [u8]) -> Statement<'a>
     }
 }
 
-/// A statement that says nothing that is an item.
+/// A statement without an item.
 fn passed<'a>(place: Place) -> Statement<'a>
     ensures { statement_view result ≡ passed place }
 {
@@ -47,7 +47,8 @@ fn passed<'a>(place: Place) -> Statement<'a>
     }
 }
 
-/// The statement, where what is sought is a note with its own words, at one participant, and no other statement is one.
+/// The statement for a search of dividers, or of notes that aren't items. What is sought becomes a note with its own
+/// words at one participant, and no other statement is a note.
 #[tactic(auto, unfolding(crate::specs::Margin::Statements::restated))]
 fn restated<'a>(divides: bool, text: &'a [u8], statement: &Statement<'a>) -> Statement<'a>
     ensures { statement_view result ≡ restated divides text.now (statement_view statement.now) }
@@ -72,7 +73,7 @@ fn restated<'a>(divides: bool, text: &'a [u8], statement: &Statement<'a>) -> Sta
     }
 }
 
-/// What a note says in one line.
+/// The remark of a note, in one line.
 pub(crate) fn remark_of(alloc: Global, divides: bool, note: &Note) -> Result<Remark, AllocError>
     ensures { IfOk result (λ remark. remark_view remark ≡ note_remark divides (note_view note.now)) }
 {
@@ -84,7 +85,7 @@ pub(crate) fn remark_of(alloc: Global, divides: bool, note: &Note) -> Result<Rem
     })
 }
 
-/// Adds what an item remarks.
+/// Adds the remark of an item, if it is a note.
 #[tactic(auto, unfolding(crate::specs::Margin::Statements::item_remark))]
 fn add_item(
     alloc: Global,
@@ -105,7 +106,7 @@ fn add_item(
     }
 }
 
-/// What the items of a diagram remark.
+/// The remarks of a diagram's items.
 #[tactic(auto, unfolding(crate::specs::Margin::Statements::items_remarked))]
 fn items_remarked(alloc: Global, divides: bool, items: &[Item]) -> Result<Vec<Remark>, AllocError>
     ensures { IfOk result (λ remarks. map remark_view remarks.items ≡ items_remarked divides (map item_view items.now)) }
@@ -117,7 +118,7 @@ fn items_remarked(alloc: Global, divides: bool, items: &[Item]) -> Result<Vec<Re
     Ok(remarks)
 }
 
-/// These statements, restated.
+/// These statements, restated for a search.
 fn all_restated<'a>(
     alloc: Global,
     divides: bool,
@@ -134,8 +135,8 @@ fn all_restated<'a>(
     Ok(all)
 }
 
-/// The dividers of these statements, or the notes that are no items: none where a branch or an end stands outside of a
-/// group.
+/// The dividers of these statements, or the notes that aren't items. There are none if a branch or an end is outside of
+/// a group.
 #[tactic(auto, unfolding(crate::specs::Margin::Statements::restated_remarks))]
 fn restated_remarks<'a>(
     alloc: Global,
@@ -158,8 +159,8 @@ fn restated_remarks<'a>(
     }
 }
 
-/// The notes of these statements that are no items, and their dividers: none where a branch or an end stands outside of
-/// a group.
+/// The notes of these statements that aren't items, and their dividers. There are none if a branch or an end is outside
+/// of a group.
 #[tactic(auto, unfolding(crate::specs::Margin::Statements::statement_remarks))]
 pub(crate) fn statement_remarks<'a>(
     alloc: Global,
@@ -176,7 +177,7 @@ pub(crate) fn statement_remarks<'a>(
     Ok(remarks)
 }
 
-/// These go behind the others.
+/// Appends these remarks.
 pub(crate) fn add_all(remarks: &mut Vec<Remark>, more: Vec<Remark>) -> Result<(), AllocError>
     ensures { OnOk result (map remark_view remarks.new.items
         ≡ map remark_view remarks.old.items ++ map remark_view more.items) }

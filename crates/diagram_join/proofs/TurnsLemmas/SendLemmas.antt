@@ -1,4 +1,4 @@
--- Who sends in which row, and the events, one message after the other.
+-- The instances that send in each row, and the events, one message after the other.
 use Rattle.std.proofs.Common.{◌≡◌, ℕ, ◌+◌, ◌<◌, Bool, true, false, ◌&&◌, ◌||◌, ◌==◌, cond, List, [], ◌∷◌, ◌++◌, Option, None, Some, length, take, get_or, refl, sym, ap, ◌∙◌}
 use Rattle.std.specs.Prelude.{is_some}
 use Rattle.std.specs.List.{flat_map, list_any}
@@ -12,7 +12,7 @@ use Rattle.diagram_join.specs.Turns.Turns.{is_sent, sends_in}
 use Rattle.diagram_join.specs.declared.turns.moments.Moment.{Moment}
 use Rattle.diagram_join.specs.declared.turns.sends.Spot.{Spot}
 
--- a table with one row more
+-- a table with one more row
 pub sends_more : (old new : List (Spot × Bool)) (messages : List Message) (n : ℕ) (m : Message) → n < length messages → m ≡ get_or messages n m
     → ((q : Spot) → lookup (same_spot q) new ≡ cond (same_spot (record { row = m.begins; instance = m.sender }) q) (Some true) (lookup (same_spot q) old))
     → AreSends old (take n messages) → AreSends new (take (n + 1) messages)
@@ -28,7 +28,7 @@ sends_more old new messages n m within is puts are = λ row p.
     either false None = refl
     either false (Some b) = refl
 
--- a list with what one element more gives
+-- a list with the results for one more element
 pub flat_more : {A B : Type 0} (f : A → List B) (done next : List B) (xs : List A) (n : ℕ) (x : A) → n < length xs → x ≡ get_or xs n x
     → next ≡ done ++ f x → done ≡ flat_map f (take n xs) → next ≡ flat_map f (take (n + 1) xs)
 flat_more f done next xs n x within is e so_far =

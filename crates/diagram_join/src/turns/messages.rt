@@ -1,4 +1,4 @@
-//! The messages of a diagram's chart, and whose events they are.
+//! The messages of a diagram's chart, and their turns.
 ghost use Rattle.std.specs.Prelude.{◌≡◌, map, IfOk};
 ghost use Rattle.diagrams.specs.Diagrams.{diagram_view, participant_view};
 ghost use Rattle.diagram_join.specs.Joins.{join_view};
@@ -14,7 +14,7 @@ use diagrams::{
 };
 use std::alloc::{AllocError, Global};
 
-/// The messages that stay where no lines are joined.
+/// The messages that stay without joins.
 fn stay_alone(
     alloc: Global,
     messages: &[Message],
@@ -26,7 +26,7 @@ fn stay_alone(
     without_lost(alloc, messages, &mut left_out)
 }
 
-/// The messages that stay where these lines are joined.
+/// The messages that stay with these joins, or none if the joins are refused.
 fn stay_joined(
     alloc: Global,
     participants: &[Participant],
@@ -46,7 +46,7 @@ fn stay_joined(
     Ok(joined.messages)
 }
 
-/// Of these messages those that stay in the diagram's chart, where these lines are joined.
+/// The messages that stay in the diagram's chart, with these joins.
 fn messages_by(
     alloc: Global,
     participants: &[Participant],
@@ -64,8 +64,8 @@ fn messages_by(
     }
 }
 
-/// The messages of the chart that a diagram comes to, where these lines are joined, in the order of its text: none of a
-/// diagram with too few participants for a chart, or too many. F6: it fails only where there is no memory.
+/// The messages of a diagram's chart with these joins, in the order of its text. There are none if the joins are
+/// refused, or if the diagram has too few participants for a chart, or too many. F6 is the only refusal.
 pub fn messages_of(
     alloc: Global,
     diagram: Diagram,
@@ -87,9 +87,8 @@ pub fn messages_of(
     Ok(stay)
 }
 
-/// Whose events stand in a diagram, from the top on, where these lines are joined: those of the chart that the diagram
-/// comes to, as long as it isn't refused. F6: it fails only where there is no memory. It takes time in proportion to
-/// n log n for n items.
+/// The turns of a diagram with these joins, from the top. They are those of its chart, unless the chart is refused. F6
+/// is the only refusal. The time is in proportion to n log n for n items.
 pub fn turns_in(
     alloc: Global,
     diagram: Diagram,

@@ -10,15 +10,15 @@ use chart::InstanceNo;
 use diagrams::Message;
 use std::alloc::{AllocError, Global};
 
-/// When an event comes, and whose it is.
+/// The moment of an event, and its instance.
 #[derive(Clone, Copy, Debug)]
 pub(crate) struct Moment {
-    /// Twice its row, and one more for a receive that comes behind all sends of the row.
+    /// Twice its row, and one more for a receive that comes after all sends of the row.
     pub turn: u64,
     pub instance: InstanceNo,
 }
 
-/// Twice a row. Where it would not fit, the answer is F6.
+/// Twice a row. F6 if it doesn't fit.
 fn doubled(row: u64) -> Result<u64, AllocError>
     ensures { IfOk result (λ turn. turn ≡ 2 * row) }
 {
@@ -28,7 +28,7 @@ fn doubled(row: u64) -> Result<u64, AllocError>
     }
 }
 
-/// When and by whom a message is sent.
+/// The moment of a message's send.
 fn sent(message: &Message) -> Result<Moment, AllocError>
     ensures { IfOk result (λ moment. moment ≡ sent message.now) }
 {
@@ -39,7 +39,7 @@ fn sent(message: &Message) -> Result<Moment, AllocError>
     })
 }
 
-/// When and by whom it is received.
+/// The moment of a message's receive.
 fn received(sends: &Sends, message: &Message) -> Result<Moment, AllocError>
     ensures { (all : List Message) → AreSends sends.now.spots.entries all
         → IfOk result (λ moment. moment ≡ received all message.now) }
@@ -59,7 +59,7 @@ fn received(sends: &Sends, message: &Message) -> Result<Moment, AllocError>
     })
 }
 
-/// The events of a message go behind the others.
+/// Appends the events of a message.
 fn add_moments(
     moments: &mut Vec<Moment>,
     sends: &Sends,
@@ -87,7 +87,7 @@ fn all_moments(alloc: Global, messages: &[Message]) -> Result<Vec<Moment>, Alloc
     Ok(moments)
 }
 
-/// The events by their moments.
+/// Sorts the events by their moments.
 fn put_in_turn(moments: &mut Vec<Moment>) -> Result<(), AllocError>
     ensures { OnOk result (moments.new.items ≡ in_turn moments.old.items) }
 {
@@ -95,8 +95,8 @@ fn put_in_turn(moments: &mut Vec<Moment>) -> Result<(), AllocError>
     Ok(())
 }
 
-/// Whose events these messages are, from the top on. F6: it fails only where there is no memory. It takes time in
-/// proportion to n log n for n messages.
+/// The turns of these messages, from the top. F6 is the only refusal. The time is in proportion to n log n for n
+/// messages.
 #[tactic(auto, unfolding(crate::specs::Turns::Turns::turns_of))]
 pub fn turns_of(alloc: Global, messages: &[Message]) -> Result<Vec<InstanceNo>, AllocError>
     ensures { IfOk result (λ turns. turns.items ≡ turns_of messages.now) }

@@ -1,4 +1,4 @@
-//! Which instance sends in which row.
+//! The instances that send in each row.
 ghost use Rattle.std.specs.Prelude.{◌≡◌, ℕ, Some, true, is_some, IfOk, OnOk, if◌then◌else◌};
 ghost use Rattle.std.specs.Map.{lookup};
 ghost use Rattle.diagram_join.specs.Turns.Sends.{same_spot, AreSends};
@@ -9,20 +9,20 @@ use diagrams::Message;
 use indexmap::IndexMap;
 use std::alloc::{AllocError, Global};
 
-/// Where an instance sends.
+/// A row in which an instance sends.
 #[derive(Clone, Copy, Debug, PartialEq, Eq, Hash)]
 pub(crate) struct Spot {
     pub row: u64,
     pub instance: InstanceNo,
 }
 
-/// Where instances send.
+/// The rows in which instances send.
 #[derive(Drop)]
 pub(crate) struct Sends {
     spots: IndexMap<Spot, bool>,
 }
 
-/// One spot more.
+/// Adds one more row of an instance.
 fn put_spot(map: &mut IndexMap<Spot, bool>, spot: Spot) -> Result<(), AllocError>
     ensures { OnOk result ((q : Spot) → lookup (same_spot q) map.new.entries
         ≡ (if same_spot spot q then Some true else lookup (same_spot q) map.old.entries)) }
@@ -32,7 +32,7 @@ fn put_spot(map: &mut IndexMap<Spot, bool>, spot: Spot) -> Result<(), AllocError
 }
 
 impl Sends {
-    /// Where the instances of these messages send. It looks at each message once.
+    /// The rows in which the instances of these messages send. It looks at each message once.
     pub(crate) fn of(alloc: Global, messages: &[Message]) -> Result<Sends, AllocError>
         ensures { IfOk result (λ sends. AreSends sends.spots.entries messages.now) }
     {

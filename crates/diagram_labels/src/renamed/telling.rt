@@ -1,4 +1,4 @@
-//! Names that aren't their labels' words, as text.
+//! Names that differ from their labels, as text.
 ghost use Rattle.std.specs.List.{flat_map};
 ghost use Rattle.texts.specs.Writing.{Adds};
 ghost use Rattle.diagram_labels.specs.Renamed.Telling.{shown_byte, start, is, end, renamed_line};
@@ -49,7 +49,7 @@ fn add_end<V: Out>(text: &mut TextBuffer<'_, V>) -> Result<(), WriteError>
     text.add(b"\"\n")
 }
 
-/// Adds a name, with the label that it isn't.
+/// Adds a name, with the label from which it differs.
 #[tactic(auto, using(texts::proofs::Writes::joining), unfolding(crate::specs::Renamed::Telling::renamed_line))]
 fn add_renamed<V: Out>(text: &mut TextBuffer<'_, V>, renamed: &Renamed) -> Result<(), WriteError>
     ensures { Adds V.sink text.old text.new result (renamed_line renamed.now) }
@@ -61,7 +61,7 @@ fn add_renamed<V: Out>(text: &mut TextBuffer<'_, V>, renamed: &Renamed) -> Resul
     add_end(text)
 }
 
-/// Adds names that aren't their labels' words, a line for each.
+/// Adds a line for each name that differs from its label.
 pub fn add_all_renamed<V: Out>(
     text: &mut TextBuffer<'_, V>,
     renamed: &[Renamed],

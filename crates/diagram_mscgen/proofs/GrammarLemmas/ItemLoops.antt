@@ -5,7 +5,7 @@ use Rattle.diagram_mscgen.specs.Grammar.Attributes.{AttributesView, attributes_a
 use Rattle.diagram_mscgen.specs.Grammar.Charts.{EntityView, options_at, options_from, entity_in, entities_in, entities_from, arcs_in, arcs_from, is_last}
 use Rattle.diagram_mscgen.specs.Grammar.Reading.{Tokens}
 
--- what is left to read has the same meaning, and there are steps enough for it
+-- the rest of the tokens has the same meaning, and there are enough steps for it
 pub record AttributesLeft (so_far : AttributesView) (rest tokens : Tokens) : Type 0 where
   pub left : ℕ
   pub enough : length rest < left
@@ -50,7 +50,7 @@ first_arc tokens so_far none = record {
   same = ap (λ l. arcs_from (suc (length tokens)) l tokens) none;
 }
 
--- one element more, as it is seen
+-- one more element, seen through f
 pub seen_more : {A B : Type 0} (f : A → B) (xs : List A) (x : A) → map f (xs ++ x ∷ []) ≡ map f xs ++ f x ∷ []
 seen_more f [] x = refl
 seen_more f (y ∷ ys) x = ap (λ l. f y ∷ l) (seen_more f ys x)

@@ -1,4 +1,4 @@
--- Each sign has a byte at least.
+-- Each sign has at least one byte.
 use Rattle.std.proofs.Common.{◌≡◌, ℕ, ◌<◌, Bool, true, false, List, [], ◌∷◌, length, refl, IfSome, Option, None, Some, arith, if◌then◌else◌}
 use Rattle.std.specs.List.{starts_with}
 use Rattle.std.specs.Prelude.{nat_eq, ◌&&◌}

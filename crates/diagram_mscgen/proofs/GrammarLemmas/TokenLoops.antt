@@ -1,4 +1,4 @@
--- Tokens that are cut off a text one after the other.
+-- Tokens that are split off a text one after the other.
 use Rattle.std.proofs.Common.{◌≡◌, ℕ, zero, suc, ◌+◌, ◌-◌, ◌<◌, ◌≤◌, List, [], ◌∷◌, ◌++◌, length, take, drop, refl, sym, ap, ◌∙◌, append_assoc, arith, length-drop, length-take-le}
 use Rattle.std.proofs.lemmas.List.{append-nil}
 use Rattle.diagram_mscgen.specs.Grammar.Pieces.{piece_at}
@@ -7,7 +7,7 @@ use Rattle.diagram_mscgen.specs.Grammar.Tokens.{TokenView, first_token, tokens_f
 use Rattle.diagram_mscgen.specs.declared.grammar.piece.Piece.{Piece}
 use Rattle.texts.specs.declared.bytes.place.Place.{Place}
 
--- the tokens so far and those of what is left are those of the text, and there are steps enough for what is left
+-- the tokens so far and those of the rest are those of the text, and there are enough steps for the rest
 pub record AreTokens (text : List ℕ) (tokens : List TokenView) (place : Place) (rest : List ℕ) : Type 0 where
   pub left : ℕ
   pub enough : length rest ≤ left
@@ -41,7 +41,7 @@ pub all_tokens : (text : List ℕ) (tokens : List TokenView) (place : Place) (re
 all_tokens text tokens place rest are h =
     sym (append-nil tokens) ∙ ap (λ l. tokens ++ l) (sym (none_of are.left place rest h)) ∙ are.same
 
--- one step, where anything is left
+-- one step, if any bytes are left
 stepped : (n : ℕ) (place : Place) (rest : List ℕ) → 0 < length rest → length rest ≤ n
     → (m : ℕ) × (n ≡ suc m) × (tokens_from n place rest ≡ first_token place rest ++ tokens_from m (behind place (take (piece_at rest).length rest)) (drop (piece_at rest).length rest))
 stepped zero place rest some enough = absurd (omega arith)

@@ -1,4 +1,4 @@
--- Words in any letters, and lists of references to them.
+-- Case-insensitive words, and lists of references to them.
 use Rattle.std.proofs.Common.{◌≡◌, ℕ, Bool, ◌||◌, List, [], ◌∷◌, map, refl, ap, Bor}
 use Rattle.std.specs.List.{list_any}
 

@@ -1,4 +1,4 @@
--- Arcs, one after the other, and the rows that they stay in.
+-- Arcs, one after the other, and their rows.
 use Rattle.std.proofs.Common.{◌≡◌, ℕ, zero, suc, ◌+◌, ◌-◌, ◌<◌, ◌≤◌, arith, Bool, true, false, List, [], ◌∷◌, length, refl, sym, ap, ◌∙◌, Option, None, Some, Result, Ok, Err, if◌then◌else◌}
 use Rattle.std.specs.Prelude.{◌==◌}
 use Rattle.diagram_mscgen.specs.Grammar.Arcs.{ArcView}
@@ -7,7 +7,7 @@ use Rattle.diagram_mscgen.specs.declared.grammar.arc.ArcKind.TheVariants as arcs
 use Rattle.diagram_mscgen.specs.Reading.Arcs.{RowsView, with_message, with_text, with_note, with_pair, with_other, with_others, with_spacer, with_all_by, with_ends, rows_by, ended_row, label_of}
 use Rattle.diagram_mscgen.specs.Reading.Entities.{known_at}
 
--- one of two that are in a row
+-- either of two with the same row
 either_row : (b : Bool) (x y : RowsView) (row : ℕ) → x.row ≡ row → y.row ≡ row → (if b then x else y).row ≡ row
 either_row true x y row first second = first
 either_row false x y row first second = second
@@ -44,7 +44,7 @@ spacer_row : (a : ArcView) (label : Option (List ℕ)) (s : RowsView) → (with_
 spacer_row a None s = refl
 spacer_row a (Some label) s = refl
 
--- what was drawn is in the same row
+-- the row is the same after the items are added
 abbrev Stays : ℕ → Result RowsView ℕ → Type 0
 Stays row (Ok s) = s.row ≡ row
 Stays row (Err line) = Unit {0}
@@ -73,16 +73,16 @@ stayed : (row : ℕ) (built : Result RowsView ℕ) (s : RowsView) → Stays row 
 stayed row (Ok x) s stays e = let same : x ≡ s = cc in ap (λ (r : RowsView). r.row) (sym same) ∙ stays
 stayed row (Err line) s stays e = absurd (cc)
 
--- an arc says nothing about the row that comes next
+-- the items of an arc leave the row as it is
 pub row_stays : (words : List (List ℕ)) (last : ℕ) (a : ArcView) (s more : RowsView) → rows_by words last a s a.kind ≡ Ok more → more.row ≡ s.row
 row_stays words last a s more e = stayed s.row (rows_by words last a s a.kind) more (row_by words last a s a.kind) e
 
--- which is at most one further down behind it
+-- after an arc the row is at most one further down
 pub ended_most : (ends : Bool) (s : RowsView) → (ended_row ends s).row ≤ s.row + 1
 ended_most true s = omega arith
 ended_most false s = omega arith
 
--- one participant more to which an arrow goes
+-- one more participant to which an arrow goes
 pub other_more : (last : ℕ) (is_lost : Bool) (from : ℕ) (a : ArcView) (to count : ℕ) (s more : RowsView) → to < count → more ≡ with_other last is_lost from a to s
     → with_others last is_lost from a (to + 1) (count - (to + 1)) more ≡ with_others last is_lost from a to (count - to) s
 other_more last is_lost from a to count s more within is =

@@ -1,4 +1,4 @@
--- Arcs: what a row holds (mscgen 0.20's documentation on arcs, boxes and broadcasts).
+-- Arcs: the items of a row (mscgen 0.20's documentation on arcs, boxes and broadcasts).
 use Rattle.std.specs.Prelude.{ℕ, Bool, List, [], ◌∷◌, Option, None, Some, Result, Ok, Err, option_map}
 use Rattle.diagram_mscgen.specs.Grammar.Attributes.{AttributesView, attributes_in}
 use Rattle.diagram_mscgen.specs.Grammar.Reading.{Tokens, ◌>>=◌, or_stop, skip_mark, skip_spacer, name_in, end_in}
@@ -12,14 +12,14 @@ use Rattle.texts.specs.declared.bytes.place.Place.{Place}
 use Rattle.diagram_mscgen.specs.declared.grammar.relation.Relation.{Relation}
 use Rattle.diagram_mscgen.specs.declared.grammar.relation.Relation.TheVariants as relations
 
--- what an arc is, and the entities from which and to which it goes
+-- the kind of an arc, and the entities from which and to which it goes
 abbrev pub EndsView : Type 0
 EndsView = ArcKind × List ℕ × List ℕ
 
 abbrev pub ends_view : Ends → EndsView
 ends_view e = (e.kind, e.from.now, e.to.now)
 
--- an arc, its place, and whether its row ends behind it
+-- an arc, its place, and whether its row ends after it
 pub record ArcView : Type 0 where
   pub kind : ArcKind
   pub from : List ℕ
@@ -40,7 +40,7 @@ arc_view a = record {
   place = a.place;
 }
 
--- an arc between the entity before the relation and the one behind it
+-- an arc between the entity before the relation and the one after it
 abbrev pub ends_of : Relation → List ℕ → List ℕ → EndsView
 ends_of relations.To first second = (arcs.Message, first, second)
 ends_of relations.From first second = (arcs.Message, second, first)
@@ -73,7 +73,7 @@ back_to_all relations.Line = None
 back_to_all relations.Box = None
 back_to_all relations.Note = None
 
--- the relation that a token is
+-- the relation of a token, if it has one
 abbrev pub relation_of : KindView → Option Relation
 relation_of (Sign relation) = Some relation
 relation_of (Word bytes) = box_of bytes
@@ -99,7 +99,7 @@ partner_by first relation tokens (Some rest) = do
   kind ← or_stop tokens (forth_to_all relation)
   Ok ((kind, first, []), rest)
 
--- an arc behind its first entity and its relation: an entity or `*`
+-- the rest of an arc after its first entity and its relation: an entity or `*`
 unfoldable pub partner_in : List ℕ → Relation → Tokens → Result (EndsView × Tokens) Tokens
 partner_in first relation tokens = partner_by first relation tokens (skip_mark 42 tokens)
 
@@ -110,7 +110,7 @@ pair_in tokens = do
   relation ← relation_in first.1
   partner_in first.0 relation.0 relation.1
 
--- an arc behind its `*`
+-- the rest of an arc after its `*`
 unfoldable pub all_in : Tokens → Result (EndsView × Tokens) Tokens
 all_in tokens = do
   relation ← relation_in tokens

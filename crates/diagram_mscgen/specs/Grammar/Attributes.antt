@@ -1,4 +1,4 @@
--- Attributes: what stands between `[` and `]` (mscgen 0.20's documentation on attributes).
+-- Attributes: the names and values between `[` and `]` (mscgen 0.20's documentation on attributes).
 use Rattle.std.specs.Prelude.{ℕ, zero, suc, ◌+◌, ◌-◌, ◌*◌, ◌||◌, ◌==◌, nat_lt, List, [], ◌∷◌, length, Option, None, Some, option_map, option_and_then, Result, Ok, Err, if◌then◌else◌}
 use Rattle.texts.specs.Digits.Numbers.{number_in}
 use Rattle.diagram_mscgen.specs.Grammar.Reading.{Tokens, ◌>>=◌, or_stop, behind_mark, skip_mark, name_in, next_word}
@@ -7,14 +7,14 @@ use Rattle.diagram_mscgen.specs.declared.grammar.attributes.Attributes.{Attribut
 use Rattle.diagram_mscgen.specs.declared.grammar.words.AttributeName.{AttributeName}
 use Rattle.diagram_mscgen.specs.declared.grammar.words.AttributeName.TheVariants.{Label, Skip, Style}
 
--- the last label, if there is one, and so many rows further down
+-- the last label, if there is one, and how many rows further down an arc ends
 abbrev pub AttributesView : Type 0
 AttributesView = Option (List ℕ) × ℕ
 
 abbrev pub attributes_view : Attributes → AttributesView
 attributes_view a = (option_map (λ label. label.now) a.label, a.skip)
 
--- what one attribute more says: a later one of its name counts, and a skip is a number
+-- the values with one more attribute: the last one of a name counts, and a skip is a number
 abbrev pub with_attribute : AttributesView → AttributeName → List ℕ → Option AttributesView
 with_attribute so_far Label value = Some (Some value, so_far.1)
 with_attribute so_far Skip value = option_map (λ skip. (so_far.0, skip)) (number_in value)
@@ -26,7 +26,7 @@ name_by tokens (Some word) = do
   name ← or_stop tokens (attribute_name word.0)
   Ok (name, word.1)
 
--- the attribute's name that has to come next
+-- the name of an attribute, which has to come next
 unfoldable pub attribute_name_in : Tokens → Result (AttributeName × Tokens) Tokens
 attribute_name_in tokens = name_by tokens (next_word tokens)
 
@@ -39,7 +39,7 @@ attribute_in so_far tokens = do
   more ← or_stop rest (with_attribute so_far name.0 value.0)
   Ok (more, value.1)
 
--- other attributes behind a comma, or the bracket that ends them
+-- other attributes after a comma, or the bracket that ends them
 abbrev pub others_by : (Tokens → Result (AttributesView × Tokens) Tokens) → AttributesView → Tokens → Option Tokens
     → Result (AttributesView × Tokens) Tokens
 others_by others so_far tokens (Some rest) = others rest
@@ -47,7 +47,7 @@ others_by others so_far tokens None = do
   rest ← behind_mark 93 tokens
   Ok (so_far, rest)
 
--- at most so many attributes more
+-- at most this many more attributes
 abbrev pub attributes_from : ℕ → AttributesView → Tokens → Result (AttributesView × Tokens) Tokens
 attributes_from zero so_far tokens = Err tokens
 attributes_from (suc n) so_far tokens = do
@@ -62,6 +62,6 @@ abbrev pub attributes_by : Tokens → Option Tokens → Result (AttributesView �
 attributes_by tokens None = Ok ((None, 0), tokens)
 attributes_by tokens (Some rest) = attributes_at rest
 
--- the attributes that may stand here
+-- the attributes, if there are any
 unfoldable pub attributes_in : Tokens → Result (AttributesView × Tokens) Tokens
 attributes_in tokens = attributes_by tokens (skip_mark 91 tokens)

@@ -40,7 +40,7 @@ option_in tokens = do
 abbrev pub options_by : (Tokens → Result Tokens Tokens) → Bool × Tokens → Result Tokens Tokens
 options_by others option = if option.0 then Ok option.1 else others option.1
 
--- at most so many options more
+-- at most this many more options
 abbrev pub options_from : ℕ → Tokens → Result Tokens Tokens
 options_from zero tokens = Err tokens
 options_from (suc n) tokens = do
@@ -57,7 +57,7 @@ is_given (t ∷ u ∷ ts) = is_mark 61 u.kind
 unfoldable pub options_at : Tokens → Result Tokens Tokens
 options_at tokens = options_from (suc (length tokens)) tokens
 
--- the options that may stand here
+-- the options, if there are any
 unfoldable pub options_in : Tokens → Result Tokens Tokens
 options_in tokens = if is_given tokens then options_at tokens else Ok tokens
 
@@ -79,18 +79,18 @@ abbrev pub entities_by : (List EntityView → Tokens → Result (List EntityView
 entities_by others so_far entity rest =
     if entity.1 then Ok (so_far ++ entity.0 ∷ [], rest) else others (so_far ++ entity.0 ∷ []) rest
 
--- the entities so far, and at most so many more
+-- the entities so far, and at most this many more
 abbrev pub entities_from : ℕ → List EntityView → Tokens → Result (List EntityView × Tokens) Tokens
 entities_from zero so_far tokens = Err tokens
 entities_from (suc n) so_far tokens = do
   entity ← entity_in tokens
   entities_by (entities_from n) so_far entity.0 entity.1
 
--- the entities: commas stand between them, and a semicolon ends them
+-- the entities: commas are between them, and a semicolon ends them
 unfoldable pub entities_in : Tokens → Result (List EntityView × Tokens) Tokens
 entities_in tokens = entities_from (suc (length tokens)) [] tokens
 
--- no arc comes behind the end of a row where the brace is
+-- an arc is the last one if it ends its row and the brace comes next
 abbrev pub last_by : Bool → Option Tokens → Bool
 last_by ends_row None = false
 last_by ends_row (Some rest) = ends_row
@@ -103,14 +103,14 @@ abbrev pub arcs_by : (List ArcView → Tokens → Result (List ArcView × Tokens
 arcs_by others so_far arc rest =
     if is_last arc.ends_row rest then Ok (so_far ++ arc ∷ [], rest) else others (so_far ++ arc ∷ []) rest
 
--- the arcs so far, and at most so many more
+-- the arcs so far, and at most this many more
 abbrev pub arcs_from : ℕ → List ArcView → Tokens → Result (List ArcView × Tokens) Tokens
 arcs_from zero so_far tokens = Err tokens
 arcs_from (suc n) so_far tokens = do
   arc ← arc_in tokens
   arcs_by (arcs_from n) so_far arc.0 arc.1
 
--- the arcs up to the brace: commas stand between those of one row, and a semicolon ends each row
+-- the arcs up to the brace: commas are between those of one row, and a semicolon ends each row
 unfoldable pub arcs_in : Tokens → Result (List ArcView × Tokens) Tokens
 arcs_in tokens = arcs_from (suc (length tokens)) [] tokens
 
@@ -118,13 +118,13 @@ abbrev pub msc_by : Tokens → Option (List ℕ × Tokens) → Result Tokens Tok
 msc_by tokens None = Err tokens
 msc_by tokens (Some word) = if bytes_eq word.0 (codes "msc") then Ok word.1 else Err tokens
 
--- what stands behind `msc {`
+-- the tokens after `msc {`
 unfoldable pub body_in : Tokens → Result Tokens Tokens
 body_in tokens = do
   head ← msc_by tokens (next_word tokens)
   behind_mark 123 head
 
--- what stands before the entities
+-- the tokens after `msc {` and the options
 unfoldable pub head_in : Tokens → Result Tokens Tokens
 head_in tokens = do
   body ← body_in tokens
@@ -134,7 +134,7 @@ abbrev pub nothing : Tokens → Result (Unit {0}) Tokens
 nothing [] = Ok tt
 nothing (t ∷ ts) = Err (t ∷ ts)
 
--- the brace that ends a chart, and nothing behind it
+-- the brace that ends a chart, with nothing after it
 unfoldable pub end_of : Tokens → Result (Unit {0}) Tokens
 end_of tokens = do
   rest ← behind_mark 125 tokens

@@ -12,7 +12,7 @@ use Rattle.diagram_mscgen.specs.declared.grammar.piece.Piece.{Piece}
 abbrev pub piece : Shape → ℕ → Piece
 piece shape length = record { shape = shape; length = length }
 
--- a text in quotation marks, by the place of its second one; without it, all that is left can't be read
+-- a text in quotation marks, by the place of its second mark; without it, the rest of the text can't be read
 abbrev pub text_by : ℕ → Option ℕ → Piece
 text_by left None = piece Unknown (left + 1)
 text_by left (Some place) = piece Text (place + 2)
@@ -21,7 +21,7 @@ text_by left (Some place) = piece Text (place + 2)
 abbrev pub word_or_unknown : ℕ → List ℕ → Piece
 word_or_unknown b bs = if is_word_byte b then piece Word (word_length bs + 1) else piece Unknown 1
 
--- a sign, if there is one; so `x-` is a sign, and no word
+-- a sign, if there is one; so `x-` is a sign, and not a word
 abbrev pub sign_or_word : Option Piece → ℕ → List ℕ → Piece
 sign_or_word None b bs = word_or_unknown b bs
 sign_or_word (Some sign) b bs = sign

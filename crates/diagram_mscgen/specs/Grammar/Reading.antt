@@ -1,4 +1,4 @@
--- What readers of tokens answer: what is read, and the tokens behind it; else the tokens at which reading stops.
+-- The results of readers of tokens: the item with the tokens after it, or the tokens at which reading stops.
 use Rattle.std.specs.Prelude.{◌≡◌, ℕ, Bool, true, false, ◌==◌, List, [], ◌∷◌, map, Option, None, Some, Result, Ok, Err, if◌then◌else◌}
 use Rattle.std.specs.Borrow.{Bor}
 use Rattle.diagram_mscgen.specs.Grammar.Tokens.{KindView, Word, Text, Sign, Spacer, Mark, Unknown, TokenView, seen}
@@ -8,22 +8,22 @@ abbrev pub Tokens : Type 0
 Tokens = List TokenView
 
 infixl 10 ◌>>=◌
--- what is read next, unless reading stopped
+-- the next step, unless reading stopped
 abbrev pub ◌>>=◌ : {A B E : Type 0} → Result A E → (A → Result B E) → Result B E
 (Ok x) >>= f = f x
 (Err e) >>= f = Err e
 
--- what has to be there, or reading stops at these tokens
+-- a required item; without it reading stops at these tokens
 abbrev pub or_stop : {X : Type 0} → Tokens → Option X → Result X Tokens
 or_stop tokens None = Err tokens
 or_stop tokens (Some x) = Ok x
 
--- what a call returned, seen by view, is what reading gives
+-- the result of a call, seen through view, is the defined one
 abbrev pub Sees : {X Y : Type 0} → (X → Y) → Result X (Bor (List Token)) → Result Y Tokens → Type 0
 Sees view (Ok x) read = read ≡ Ok (view x)
 Sees view (Err stop) read = read ≡ Err (map seen stop.now)
 
--- what a call found, seen by view
+-- the result of a search, seen through view, is the defined one
 abbrev pub Finds : {X Y : Type 0} → (X → Y) → Option X → Option Y → Type 0
 Finds view None found = found ≡ None
 Finds view (Some x) found = found ≡ Some (view x)
@@ -37,16 +37,16 @@ is_mark mark (Sign relation) = false
 is_mark mark Spacer = false
 is_mark mark Unknown = false
 
--- what stands behind this mark, if it comes next
+-- the tokens after this mark, if it comes next
 unfoldable pub skip_mark : ℕ → Tokens → Option Tokens
 skip_mark mark [] = None
 skip_mark mark (t ∷ ts) = if is_mark mark t.kind then Some ts else None
 
--- what stands behind this mark, which has to come next
+-- the tokens after this mark, which has to come next
 unfoldable pub behind_mark : ℕ → Tokens → Result Tokens Tokens
 behind_mark mark tokens = or_stop tokens (skip_mark mark tokens)
 
--- the name that a word or a text is
+-- the name of a token, if it is a word or a text
 abbrev pub name_of : KindView → Option (List ℕ)
 name_of (Word bytes) = Some bytes
 name_of (Text bytes) = Some bytes
@@ -64,7 +64,7 @@ unfoldable pub name_in : Tokens → Result (List ℕ × Tokens) Tokens
 name_in [] = Err []
 name_in (t ∷ ts) = name_by (name_of t.kind) t ts
 
--- the word that a token is
+-- the word of a token, if it is one
 abbrev pub word_of : KindView → Option (List ℕ)
 word_of (Word bytes) = Some bytes
 word_of (Text bytes) = None
@@ -90,7 +90,7 @@ is_spacer (Mark byte) = false
 is_spacer (Sign relation) = false
 is_spacer Unknown = false
 
--- what stands behind a row without an arc, if it comes next
+-- the tokens after a row without an arc, if it comes next
 unfoldable pub skip_spacer : Tokens → Option Tokens
 skip_spacer [] = None
 skip_spacer (t ∷ ts) = if is_spacer t.kind then Some ts else None

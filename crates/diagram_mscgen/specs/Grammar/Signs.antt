@@ -6,7 +6,7 @@ use Rattle.diagram_mscgen.specs.declared.grammar.piece.Shape.TheVariants.{Mark, 
 use Rattle.diagram_mscgen.specs.declared.grammar.piece.Piece.{Piece}
 use Rattle.diagram_mscgen.specs.declared.grammar.relation.Relation.TheVariants.{To, From, LostTo, LostFrom, Both, Line}
 
--- a spelling, and what it is
+-- a spelling, and its shape
 abbrev pub Spelled : Type 0
 Spelled = List ℕ × Shape
 
@@ -16,14 +16,14 @@ marks =
     (codes ",", Mark) ∷ (codes ";", Mark) ∷ (codes "[", Mark) ∷ (codes "]", Mark) ∷ (codes "{", Mark)
     ∷ (codes "}", Mark) ∷ (codes "*", Mark) ∷ []
 
--- signs of three bytes and more: signals, methods, returns, callbacks, emphasis, and rows without an arc
+-- signs of three or more bytes: signals, methods, returns, callbacks, emphasis, and rows without an arc
 abbrev pub long_signs : List Spelled
 long_signs =
     (codes "<<=>>", Sign Both) ∷ (codes "<<>>", Sign Both) ∷ (codes "<<=", Sign From) ∷ (codes "=>>", Sign To)
     ∷ (codes "<->", Sign Both) ∷ (codes "<=>", Sign Both) ∷ (codes "<:>", Sign Both) ∷ (codes "---", Spacer)
     ∷ (codes "...", Spacer) ∷ (codes "|||", Spacer) ∷ []
 
--- signs of two bytes, and the one mark that begins some of them
+-- signs of two bytes, and the mark `=`, with which some of them begin
 abbrev pub short_signs : List Spelled
 short_signs =
     (codes "->", Sign To) ∷ (codes "=>", Sign To) ∷ (codes ">>", Sign To) ∷ (codes ":>", Sign To)
@@ -42,7 +42,7 @@ abbrev pub or_else : Option Piece → Option Piece → Option Piece
 or_else None others = others
 or_else (Some piece) others = Some piece
 
--- the longest sign with which the bytes begin: a sign stands before those that are its own beginnings
+-- the longest sign with which the bytes begin: in the lists a sign comes before its own beginnings
 unfoldable pub sign_at : List ℕ → Option Piece
 sign_at bytes =
     or_else (first_spelled marks bytes) (or_else (first_spelled long_signs bytes) (first_spelled short_signs bytes))

@@ -11,11 +11,11 @@ use Rattle.diagram_mscgen.specs.declared.grammar.token.Kind.{Kind}
 use Rattle.diagram_mscgen.specs.declared.grammar.token.Kind.TheVariants as kinds
 use Rattle.diagram_mscgen.specs.declared.grammar.token.Token.{Token}
 
--- what a token is
+-- the kind of a token
 pub data KindView : Type 0 where
   -- a word
   Word : (bytes : List ℕ) → KindView
-  -- what stands between two quotation marks
+  -- the bytes between two quotation marks
   Text : (bytes : List ℕ) → KindView
   -- an arc's sign
   Sign : (relation : Relation) → KindView
@@ -23,10 +23,10 @@ pub data KindView : Type 0 where
   Spacer : KindView
   -- punctuation
   Mark : (byte : ℕ) → KindView
-  -- what can't be read
+  -- bytes that can't be read
   Unknown : KindView
 
--- a token, where it stands, and the text from there on
+-- a token, its place, and the text from there on
 pub record TokenView : Type 0 where
   pub kind : KindView
   pub place : Place
@@ -47,11 +47,11 @@ abbrev pub first_byte : List ℕ → ℕ
 first_byte [] = 0
 first_byte (b ∷ bs) = b
 
--- what stands between the first byte and the last
+-- the bytes between the first one and the last one
 unfoldable pub inner : List ℕ → List ℕ
 inner bytes = take (length bytes - 2) (drop 1 bytes)
 
--- the token that a piece with these bytes is, if it is one
+-- the kind of token that a piece with these bytes is, if it is one
 abbrev pub kind_of : Shape → List ℕ → Option KindView
 kind_of shapes.Gap bytes = None
 kind_of shapes.Word bytes = Some (Word bytes)
@@ -70,7 +70,7 @@ unfoldable pub first_token : Place → List ℕ → List TokenView
 first_token place bytes =
     listed place bytes (kind_of (piece_at bytes).shape (take (piece_at bytes).length bytes))
 
--- the tokens of at most so many pieces, the first of which stands here
+-- the tokens of at most this many pieces, the first of which begins here
 abbrev pub tokens_from : ℕ → Place → List ℕ → List TokenView
 tokens_from zero place bytes = []
 tokens_from (suc n) place [] = []
@@ -78,10 +78,10 @@ tokens_from (suc n) place (b ∷ bs) =
     first_token place (b ∷ bs)
     ++ tokens_from n (behind place (take (piece_at (b ∷ bs)).length (b ∷ bs))) (drop (piece_at (b ∷ bs)).length (b ∷ bs))
 
--- how many bytes a byte order mark has, if the text begins with one
+-- the length of the byte order mark, or 0 if the text begins with none
 unfoldable pub mark_length : List ℕ → ℕ
 mark_length text = if begins text (239 ∷ 187 ∷ 191 ∷ []) then 3 else 0
 
--- the tokens of a text: each piece has a byte at least
+-- the tokens of a text: each piece has at least one byte
 unfoldable pub tokens_of : List ℕ → List TokenView
 tokens_of text = tokens_from (length text) (behind start (take (mark_length text) text)) (drop (mark_length text) text)

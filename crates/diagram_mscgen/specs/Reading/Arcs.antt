@@ -1,4 +1,4 @@
--- What arcs become in a diagram: arrows and notes in their rows. All else has no meaning there, and is left out.
+-- The items of arcs in a diagram: arrows and notes in their rows. Other arcs are skipped.
 use Rattle.std.specs.Prelude.{◌≡◌, ℕ, zero, suc, ◌+◌, ◌-◌, ◌==◌, min, Bool, true, false, List, [], ◌∷◌, ◌++◌, length, count_by, Option, None, Some, unwrap_or, Result, Ok, Err, if◌then◌else◌}
 use Rattle.diagrams.specs.Diagrams.{ArrowView, ItemView, AnArrow, ANote}
 use Rattle.diagrams.specs.LeftOuts.{with_one}
@@ -14,17 +14,18 @@ use Rattle.diagram_mscgen.specs.declared.reading.error.Fault.TheVariants.{Unknow
 use Rattle.diagram_mscgen.specs.declared.reading.error.ReadError.{ReadError}
 use Rattle.diagram_mscgen.specs.declared.reading.error.ReadError.TheVariants as errors
 
--- the row that comes next, what the arcs so far became, and what was left out
+-- the next row, the items of the arcs so far, and the skipped constructs
 pub record RowsView : Type 0 where
   pub row : ℕ
   pub items : List ItemView
   pub left_out : List LeftOut
 
--- what stands at an arc: nothing, where it has no label
+-- the label of an arc: empty if it has none
 abbrev pub label_of : ArcView → List ℕ
 label_of a = text_of (unwrap_or a.label [])
 
--- an arrow from one participant to another, so many rows down, but not below the last row
+-- an arrow from one participant to another; it ends as many rows further down as the arc skips, but not below the last
+-- row
 abbrev pub arrow_of : ℕ → ℕ → ArcView → Bool → ℕ → ℕ → ArrowView
 arrow_of last row a is_lost sender receiver = record {
   place = place_of a.place;
@@ -42,7 +43,7 @@ with_item item s = record s { items = s.items ++ item ∷ [] }
 abbrev pub without : Kind → ArcView → RowsView → RowsView
 without kind a s = record s { left_out = with_one s.left_out kind (place_of a.place) }
 
--- a message to oneself has no meaning
+-- a message; a message to oneself is skipped
 abbrev pub with_message : ℕ → Bool → ℕ → ℕ → ArcView → RowsView → RowsView
 with_message last is_lost from to a s =
     if from == to then without kinds.MessageToItself a s
@@ -53,7 +54,7 @@ with_text p a [] s = without kinds.Note a s
 with_text p a (b ∷ bs) s =
     with_item (ANote (record { place = place_of a.place; row = s.row; participant = p; text = b ∷ bs })) s
 
--- a note at one participant with a text may say an event
+-- a note; at one participant and with a text it may state an event
 abbrev pub with_note : ℕ → ℕ → ArcView → RowsView → RowsView
 with_note from to a s = if from == to then with_text from a (label_of a) s else without kinds.Note a s
 
@@ -74,13 +75,13 @@ abbrev pub with_other : ℕ → Bool → ℕ → ArcView → ℕ → RowsView �
 with_other last is_lost from a to s =
     if to == from then s else with_item (AnArrow (arrow_of last s.row a is_lost from to)) s
 
--- an arrow to each of so many participants, but the sender, from one on
+-- an arrow to each of a number of participants, from one on, except the sender
 abbrev pub with_others : ℕ → Bool → ℕ → ArcView → ℕ → ℕ → RowsView → RowsView
 with_others last is_lost from a to zero s = s
 with_others last is_lost from a to (suc n) s =
     with_others last is_lost from a (to + 1) n (with_other last is_lost from a to s)
 
--- a row without an arc says something by its label alone
+-- a row without an arc; with a label it is counted as skipped
 abbrev pub with_spacer : ArcView → Option (List ℕ) → RowsView → RowsView
 with_spacer a None s = s
 with_spacer a (Some label) s = without kinds.Divider a s
@@ -89,7 +90,7 @@ abbrev pub with_all_by : List (List ℕ) → ℕ → Bool → ArcView → RowsVi
 with_all_by words last is_lost a s None = Err a.place.line
 with_all_by words last is_lost a s (Some from) = Ok (with_others last is_lost from a 0 (length words) s)
 
--- an arc to all other participants; else the line in which it names one that isn't there
+-- an arc to all other participants, or the line of an arc that names an entity which doesn't exist
 abbrev pub with_all : List (List ℕ) → ℕ → Bool → ArcView → RowsView → Result RowsView ℕ
 with_all words last is_lost a s = with_all_by words last is_lost a s (known_at words a.from)
 
@@ -109,7 +110,7 @@ rows_by words last a s arcs.Line = with_ends last a s (known_at words a.from) (k
 rows_by words last a s arcs.Box = with_ends last a s (known_at words a.from) (known_at words a.to)
 rows_by words last a s arcs.Note = with_ends last a s (known_at words a.from) (known_at words a.to)
 
--- the row that comes behind an arc
+-- the row after an arc
 abbrev pub ended_row : Bool → RowsView → RowsView
 ended_row ends s = if ends then record s { row = s.row + 1 } else s
 
@@ -117,7 +118,7 @@ abbrev pub then_ended : Bool → Result RowsView ℕ → Result RowsView ℕ
 then_ended ends (Err line) = Err line
 then_ended ends (Ok s) = Ok (ended_row ends s)
 
--- one arc more
+-- one more arc
 unfoldable pub with_arc : List (List ℕ) → ℕ → ArcView → RowsView → Result RowsView ℕ
 with_arc words last a s = then_ended a.ends_row (rows_by words last a s a.kind)
 
@@ -133,12 +134,12 @@ with_arcs words last (a ∷ others) s = and_then (with_arcs words last others) (
 unfoldable pub last_row : List ArcView → ℕ
 last_row arcs = count_by (λ a. a.ends_row) arcs - 1
 
--- what a chart's arcs become, or the line of the first one that names a participant that isn't there
+-- the items of a chart's arcs, or the line of the first arc that names an entity which doesn't exist
 unfoldable pub rows_of : List (List ℕ) → List LeftOut → List ArcView → Result RowsView ℕ
 rows_of words left_out arcs =
     with_arcs words (last_row arcs) arcs (record { row = 0; items = []; left_out = left_out })
 
--- what a call came to, seen by view, is what was to be drawn; an entity isn't there, or memory ran out
+-- the result, seen through view, is the defined one, unless an entity doesn't exist, or memory ran out
 abbrev pub Draws : {X : Type 0} → (X → RowsView) → Result X ReadError → Result RowsView ℕ → Type 0
 Draws view (Ok x) built = built ≡ Ok (view x)
 Draws view (Err errors.Memory) built = Unit {0}

@@ -1,4 +1,5 @@
--- The participants of a chart: its entities, each by its first one. An entity whose word an earlier one has is left out.
+-- The participants of a chart: its entities, each by its first statement. An entity whose word an earlier one has is
+-- skipped.
 use Rattle.std.specs.Prelude.{◌≡◌, ℕ, List, [], ◌∷◌, ◌++◌, length, Option, None, Some, Result, Ok, Err, position, nat_lt, bytes_eq, unwrap_or, if◌then◌else◌}
 use Rattle.chart.specs.declared.instance.TheConstants.{MAX_INSTANCES}
 use Rattle.diagrams.specs.Diagrams.{ParticipantView}
@@ -13,11 +14,11 @@ use Rattle.diagram_mscgen.specs.declared.reading.error.ReadError.{ReadError}
 use Rattle.diagram_mscgen.specs.declared.reading.error.ReadError.TheVariants as errors
 use Rattle.diagram_mscgen.specs.Reading.Texts.{text_of}
 
--- a place of a token, as a diagram has it
+-- the place of a token, as a place of a diagram
 abbrev pub place_of : tokens.Place → Place
 place_of p = record { line = p.line; column = p.column }
 
--- the participants so far with their words, and what was left out
+-- the participants so far with their words, and the skipped constructs
 pub record KnownView : Type 0 where
   pub words : List (List ℕ)
   pub participants : List ParticipantView
@@ -27,7 +28,7 @@ pub record KnownView : Type 0 where
 abbrev pub known_at : List (List ℕ) → List ℕ → Option ℕ
 known_at words word = position (λ known. bytes_eq known word) words
 
--- an entity: its label is the attribute, or else its word
+-- the participant of an entity: its label is the attribute, or otherwise its word
 abbrev pub participant_of : EntityView → ParticipantView
 participant_of e = record { label = text_of (unwrap_or e.label e.word); line = e.place.line }
 
@@ -45,7 +46,7 @@ abbrev pub with_entity_by : EntityView → KnownView → Option ℕ → Option K
 with_entity_by e k (Some p) = Some (with_again e k)
 with_entity_by e k None = if nat_lt (length k.words) MAX_INSTANCES then Some (with_new e k) else None
 
--- one entity more, unless there are more participants than instances in a chart
+-- one more entity, unless there are more participants than instances in a chart
 unfoldable pub with_entity : EntityView → KnownView → Option KnownView
 with_entity e k = with_entity_by e k (known_at k.words e.word)
 
@@ -64,7 +65,7 @@ none_known = record { words = []; participants = []; left_out = [] }
 unfoldable pub known_of : List EntityView → Option KnownView
 known_of entities = with_entities entities none_known
 
--- what a call came to, seen by view, is what was to be known; there were too many participants, or memory ran out
+-- the result, seen through view, is the defined one, unless there are too many participants, or memory ran out
 abbrev pub Knows : {X : Type 0} → (X → KnownView) → Result X ReadError → Option KnownView → Type 0
 Knows view (Ok x) next = next ≡ Some (view x)
 Knows view (Err errors.Memory) next = Unit {0}

@@ -1,4 +1,4 @@
--- The diagram that an mscgen text says.
+-- The diagram of an mscgen text.
 use Rattle.std.specs.Prelude.{◌≡◌, ℕ, List, [], ◌∷◌, length, Option, None, Some, Result, Ok, Err, nat_lt, if◌then◌else◌}
 use Rattle.diagrams.specs.Diagrams.{ParticipantView, DiagramView}
 use Rattle.diagram_mscgen.specs.Grammar.Charts.{MscView}
@@ -14,7 +14,7 @@ abbrev pub fault_by : FaultView → List ℕ → Fault
 fault_by f [] = Unfinished
 fault_by f (b ∷ bs) = NotRead (place_of f.place)
 
--- a fault of the text: nothing stands there at the text's end alone
+-- the fault of a text: only a fault at the text's end has no words
 abbrev pub fault_of : FaultView → Fault
 fault_of f = fault_by f f.words
 
@@ -33,7 +33,7 @@ abbrev pub diagram_by : Result MscView FaultView → Result DiagramView Fault
 diagram_by (Err f) = Err (fault_of f)
 diagram_by (Ok m) = with_known m (known_of m.entities)
 
--- the diagram that a text says, or its first fault
+-- the diagram of a text, or its first fault
 unfoldable pub diagram_of : List ℕ → Result DiagramView Fault
 diagram_of text = diagram_by (msc_of text)
 
@@ -42,7 +42,7 @@ abbrev pub Fails : {Y : Type 0} → ReadError → Result Y Fault → Type 0
 Fails errors.Memory read = Unit {0}
 Fails (errors.Fault fault) read = read ≡ Err fault
 
--- what a call returned, seen by view, is what reading gives, unless memory ran out
+-- the result, seen through view, is the defined one, unless memory ran out
 abbrev pub Reads : {X Y : Type 0} → (X → Y) → Result X ReadError → Result Y Fault → Type 0
 Reads view (Ok x) read = read ≡ Ok (view x)
 Reads view (Err e) read = Fails e read

@@ -1,20 +1,20 @@
--- Texts between quotation marks, as mscgen 0.20 draws them (its documentation on labels, and by trying it).
+-- Texts between quotation marks, as mscgen 0.20 draws them (its documentation on labels, and trials with it).
 use Rattle.std.specs.Prelude.{ℕ, ◌==◌, ◌||◌, List, [], ◌∷◌, ◌++◌, if◌then◌else◌}
 use Rattle.texts.specs.Bytes.Classes.{is_white_space}
 use Rattle.diagram_mscgen.specs.declared.reading.quoted.Mode.{Mode}
 use Rattle.diagram_mscgen.specs.declared.reading.quoted.Mode.TheVariants.{Plain, Escaped, LineEnd}
 
--- what a byte says, and where it leads
+-- the text of a byte, and what comes before the next byte
 abbrev pub Step : Type 0
 Step = List ℕ × Mode
 
--- a line's end is a space, and blanks behind it say nothing; a backslash waits for the byte behind it
+-- a line's end is a space, and the blanks after it are dropped; a backslash waits for the byte after it
 abbrev pub plain_step : ℕ → Step
 plain_step b =
     if b == 92 then ([], Escaped) else (
     if b == 10 || b == 13 then (32 ∷ [], LineEnd) else (b ∷ [], Plain))
 
--- behind a backslash an `n` begins a new line, and a quotation mark is one; anything else leaves the backslash as it is
+-- after a backslash an `n` begins a new line, and a quotation mark is itself; before any other byte the backslash stays
 abbrev pub escaped_step : ℕ → Step
 escaped_step b =
     if b == 110 then (10 ∷ [], Plain) else (
@@ -25,7 +25,7 @@ step Plain b = plain_step b
 step Escaped b = escaped_step b
 step LineEnd b = if is_white_space b then ([], LineEnd) else plain_step b
 
--- what is said at the end
+-- the text at the end
 abbrev pub ended : Mode → List ℕ
 ended Plain = []
 ended Escaped = 92 ∷ []
@@ -35,6 +35,6 @@ abbrev pub text_from : Mode → List ℕ → List ℕ
 text_from mode [] = ended mode
 text_from mode (b ∷ bs) = (step mode b).0 ++ text_from (step mode b).1 bs
 
--- what these bytes between quotation marks say
+-- the text of these bytes between quotation marks
 unfoldable pub text_of : List ℕ → List ℕ
 text_of raw = text_from Plain raw

@@ -1,4 +1,4 @@
-//! Arcs: what a row holds.
+//! Arcs: the items of a row.
 ghost use Rattle.std.specs.Prelude.{◌≡◌, ◌<◌, length, map, IfOk, [], Some, None};
 ghost use Rattle.diagram_mscgen.specs.Grammar.Arcs.{ends_view, arc_view, ends_of, forth_to_all, back_to_all, relation_of};
 ghost use Rattle.diagram_mscgen.specs.Grammar.Arcs.{relation_in, partner_in, pair_in, all_in, ends_in, arc_in};
@@ -12,7 +12,7 @@ use crate::grammar::token::{Kind, Token};
 use crate::grammar::words::box_of;
 use texts::bytes::Place;
 
-/// What an arc is.
+/// The kind of an arc.
 #[derive(Clone, Copy, Debug, PartialEq, Eq)]
 pub enum ArcKind {
     /// A message from one entity to another, or to itself.
@@ -27,7 +27,7 @@ pub enum ArcKind {
     Both,
     /// A line without a head.
     Line,
-    /// A box round two entities and those between them.
+    /// A box around two entities and those between them.
     Box,
     /// A note at two entities and those between them.
     Note,
@@ -35,7 +35,7 @@ pub enum ArcKind {
     Spacer,
 }
 
-/// What an arc is, and between which entities it goes.
+/// The kind of an arc, and the entities between which it goes.
 #[derive(Clone, Copy, Debug)]
 pub(crate) struct Ends<'a> {
     pub kind: ArcKind,
@@ -47,21 +47,21 @@ pub(crate) struct Ends<'a> {
 #[derive(Clone, Copy, Debug)]
 pub struct Arc<'a> {
     pub kind: ArcKind,
-    /// The word for the sender; of an arc that is no message, the one before its sign. None of a spacer.
+    /// The word for the sender. If the arc is no message, it is the word before its sign. It is empty for a spacer.
     pub from: &'a [u8],
-    /// The word for the receiver, or the one behind the sign. None of a broadcast or a spacer.
+    /// The word for the receiver, or the word after the sign. It is empty for a broadcast or a spacer.
     pub to: &'a [u8],
-    /// What stands at the arc, as it is written between its quotation marks.
+    /// The label, as it is written between its quotation marks.
     pub label: Option<&'a [u8]>,
-    /// So many rows further down it ends.
+    /// How many rows further down it ends.
     pub skip: u32,
-    /// Whether its row ends behind it.
+    /// Whether its row ends after it.
     pub ends_row: bool,
     /// Where it begins.
     pub place: Place,
 }
 
-/// An arc between the entity before a relation and the one behind it.
+/// An arc between the entity before a relation and the one after it.
 fn ends_of<'a>(relation: Relation, first: &'a [u8], second: &'a [u8]) -> Ends<'a>
     ensures { ends_view result ≡ ends_of relation first.now second.now }
 {
@@ -100,7 +100,7 @@ fn back_to_all(relation: Relation) -> Option<ArcKind>
     }
 }
 
-/// The relation that a token is.
+/// The relation of a token, if it has one.
 fn relation_of(kind: Kind) -> Option<Relation>
     ensures { result ≡ relation_of (kind_view kind.entry) }
 {
@@ -111,7 +111,7 @@ fn relation_of(kind: Kind) -> Option<Relation>
     }
 }
 
-/// The relation that has to come next, and what stands behind it.
+/// The relation that has to come next, and the tokens after it.
 #[tactic(auto, unfolding(crate::specs::Grammar::Arcs::relation_in))]
 fn relation_in<'t, 'a>(
     tokens: &'t [Token<'a>],
@@ -128,7 +128,7 @@ fn relation_in<'t, 'a>(
     }
 }
 
-/// An arc behind its first entity and its relation.
+/// The rest of an arc after its first entity and its relation.
 #[tactic(auto, unfolding(crate::specs::Grammar::Arcs::partner_in))]
 fn partner_in<'t, 'a>(
     first: &'a [u8],
@@ -169,7 +169,7 @@ fn pair_in<'t, 'a>(tokens: &'t [Token<'a>]) -> Result<(Ends<'a>, &'t [Token<'a>]
     partner_in(first, relation, rest)
 }
 
-/// An arc behind its `*`.
+/// The rest of an arc after its `*`.
 #[tactic(auto, unfolding(crate::specs::Grammar::Arcs::all_in))]
 fn all_in<'t, 'a>(tokens: &'t [Token<'a>]) -> Result<(Ends<'a>, &'t [Token<'a>]), &'t [Token<'a>]>
     ensures ends { Sees (λ next. (ends_view next.0, map seen next.1.now)) result (all_in (map seen tokens.now)) }
@@ -190,7 +190,7 @@ fn all_in<'t, 'a>(tokens: &'t [Token<'a>]) -> Result<(Ends<'a>, &'t [Token<'a>])
     ))
 }
 
-/// An arc without its attributes, and what stands behind it.
+/// An arc without its attributes, and the tokens after it.
 #[tactic(auto, unfolding(crate::specs::Grammar::Arcs::ends_in))]
 fn ends_in<'t, 'a>(tokens: &'t [Token<'a>]) -> Result<(Ends<'a>, &'t [Token<'a>]), &'t [Token<'a>]>
     ensures ends { Sees (λ next. (ends_view next.0, map seen next.1.now)) result (ends_in (map seen tokens.now)) }
@@ -210,7 +210,7 @@ fn ends_in<'t, 'a>(tokens: &'t [Token<'a>]) -> Result<(Ends<'a>, &'t [Token<'a>]
     }
 }
 
-/// An arc with its attributes and its end, and what stands behind it.
+/// An arc with its attributes and its end, and the tokens after it.
 #[tactic(auto, unfolding(crate::specs::Grammar::Arcs::arc_in))]
 pub(crate) fn arc_in<'t, 'a>(
     tokens: &'t [Token<'a>],

@@ -1,4 +1,4 @@
-//! Attributes: what stands between `[` and `]`.
+//! Attributes: the names and values between `[` and `]`.
 ghost use Rattle.std.specs.Prelude.{◌≡◌, ◌≤◌, ◌<◌, length, map, option_map, IfOk};
 ghost use Rattle.diagram_mscgen.specs.Grammar.Attributes.{attributes_view, with_attribute};
 ghost use Rattle.diagram_mscgen.specs.Grammar.Attributes.{attribute_name_in, attribute_in, attributes_at, attributes_in};
@@ -10,21 +10,21 @@ use crate::grammar::token::Token;
 use crate::grammar::words::{AttributeName, attribute_name};
 use texts::digits::number_in;
 
-/// What attributes say.
+/// The values of attributes.
 #[derive(Clone, Copy, Debug)]
 pub(crate) struct Attributes<'a> {
     pub label: Option<&'a [u8]>,
-    /// So many rows further down an arc ends.
+    /// How many rows further down an arc ends.
     pub skip: u32,
 }
 
-/// What no attributes say.
+/// The values without attributes.
 const PLAIN: Attributes<'static> = Attributes {
     label: None,
     skip: 0,
 };
 
-/// What one attribute more says, if it is one.
+/// The values with one more attribute, if its value is valid.
 fn with_attribute<'a>(
     so_far: Attributes<'a>,
     name: AttributeName,
@@ -48,7 +48,7 @@ fn with_attribute<'a>(
     }
 }
 
-/// The attribute's name that has to come next, and what stands behind it.
+/// The name of an attribute, which has to come next, and the tokens after it.
 #[tactic(auto, unfolding(crate::specs::Grammar::Attributes::attribute_name_in))]
 fn attribute_name_in<'t, 'a>(
     tokens: &'t [Token<'a>],
@@ -65,7 +65,7 @@ fn attribute_name_in<'t, 'a>(
     }
 }
 
-/// An attribute, added to what others say, and what stands behind it.
+/// The values with one more attribute, and the tokens after it.
 #[tactic(auto, unfolding(crate::specs::Grammar::Attributes::attribute_in))]
 fn attribute_in<'t, 'a>(
     so_far: Attributes<'a>,
@@ -84,7 +84,7 @@ fn attribute_in<'t, 'a>(
     }
 }
 
-/// Attributes with commas between them, and what stands behind the bracket that ends them.
+/// Attributes with commas between them, and the tokens after the bracket that ends them.
 fn attributes_at<'t, 'a>(
     tokens: &'t [Token<'a>],
 ) -> Result<(Attributes<'a>, &'t [Token<'a>]), &'t [Token<'a>]>
@@ -105,7 +105,7 @@ fn attributes_at<'t, 'a>(
     }
 }
 
-/// The attributes that may stand here, and what stands behind them.
+/// The attributes, if there are any, and the tokens after them.
 #[tactic(auto, unfolding(crate::specs::Grammar::Attributes::attributes_in))]
 pub(crate) fn attributes_in<'t, 'a>(
     tokens: &'t [Token<'a>],

@@ -12,15 +12,15 @@ use texts::bytes::Place;
 /// An entity.
 #[derive(Clone, Copy, Debug)]
 pub struct Entity<'a> {
-    /// The word that arcs have for it.
+    /// The word by which arcs name it.
     pub word: &'a [u8],
-    /// What is shown, if that isn't its word: as it is written between its quotation marks.
+    /// The label, if it has one, as it is written between its quotation marks. Without a label the word is shown.
     pub label: Option<&'a [u8]>,
     /// Where it begins.
     pub place: Place,
 }
 
-/// An entity with its attributes, whether it is the last, and what stands behind it.
+/// An entity with its attributes, whether it is the last, and the tokens after it.
 #[tactic(auto, unfolding(crate::specs::Grammar::Charts::entity_in))]
 pub(crate) fn entity_in<'t, 'a>(
     tokens: &'t [Token<'a>],

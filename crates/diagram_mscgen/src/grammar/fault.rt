@@ -12,10 +12,10 @@ use texts::bytes::{Place, START};
 /// The first fault of a text.
 #[derive(Clone, Copy, Debug)]
 pub struct Fault<'a> {
-    /// Where it is: at the token that can't stand there, or at the text's end.
+    /// The place of the token that can't be there, or of the text's end.
     pub place: Place,
-    /// What stands there, up to the line's end: at most 40 bytes, and none at the text's end. [`printable`] tells how
-    /// each of them is shown.
+    /// The bytes there, up to the line's end: at most 40, and none at the text's end. [`printable`] defines how each of
+    /// them is shown.
     pub words: &'a [u8],
 }
 
@@ -24,7 +24,7 @@ pub struct Fault<'a> {
 pub enum MscgenError<'a> {
     /// A growth was refused.
     Memory,
-    /// It isn't in mscgen's language.
+    /// The text isn't in mscgen's language.
     Fault(Fault<'a>),
 }
 
@@ -45,7 +45,7 @@ fn line_end(rest: &[u8]) -> Option<usize>
         .position(|byte| *byte == b'\n' || *byte == b'\r')
 }
 
-/// How many bytes stand before the end of the line.
+/// The number of bytes before the end of the line.
 #[tactic(auto, unfolding(crate::specs::Grammar::Faults::shown_line))]
 fn shown_line(rest: &[u8]) -> usize
     ensures value { result ≡ shown_line rest.now }
@@ -57,7 +57,7 @@ fn shown_line(rest: &[u8]) -> usize
     }
 }
 
-/// How many bytes are told.
+/// The number of bytes that are reported.
 fn shown_length(rest: &[u8]) -> usize
     ensures value { result ≡ shown_length rest.now }
     ensures within { result ≤ length rest.now }
@@ -66,7 +66,7 @@ fn shown_length(rest: &[u8]) -> usize
     if line > 40 { 40 } else { line }
 }
 
-/// What is told of a line from a fault on.
+/// The bytes of a line that are reported, from a fault on.
 #[tactic(auto, unfolding(crate::specs::Grammar::Faults::shown))]
 fn shown(rest: &[u8]) -> &[u8]
     ensures { result.now ≡ shown rest.now }

@@ -1,11 +1,11 @@
-//! How many bytes words, comments and texts in quotation marks have.
+//! The lengths of words, comments and texts in quotation marks, in bytes.
 ghost use Rattle.std.specs.Prelude.{◌≡◌, ◌≤◌, ◌<◌, ◌==◌, not, length, position, IfSome};
 ghost use Rattle.diagram_mscgen.specs.Grammar.Lengths.{word_length, comment_length, closing, is_closing};
 ghost use Rattle.texts.specs.Bytes.Classes.{is_word_byte};
 
 use texts::bytes::{begins, is_word_byte};
 
-/// The place of the first byte that no word has.
+/// The place of the first byte that can't be in a word.
 fn first_other(bytes: &[u8]) -> Option<usize>
     ensures value { result ≡ position (λ b. not (is_word_byte b)) bytes.now }
     ensures within { IfSome result (λ place. place < length bytes.now) }
@@ -13,7 +13,7 @@ fn first_other(bytes: &[u8]) -> Option<usize>
     bytes.iter().position(|byte| !is_word_byte(*byte))
 }
 
-/// With how many bytes of a word the bytes begin.
+/// The length of the word at the beginning of the bytes.
 #[tactic(auto, unfolding(crate::specs::Grammar::Lengths::word_length))]
 pub(crate) fn word_length(bytes: &[u8]) -> usize
     ensures value { result ≡ word_length bytes.now }
@@ -25,7 +25,7 @@ pub(crate) fn word_length(bytes: &[u8]) -> usize
     }
 }
 
-/// How many bytes a comment has behind its `/*`.
+/// The length of a comment after its `/*`.
 #[tactic(auto, unfolding(crate::specs::Grammar::Lengths::comment_length))]
 pub(crate) fn comment_length(bytes: &[u8]) -> usize
     ensures value { result ≡ comment_length bytes.now }
@@ -49,7 +49,7 @@ fn is_closing(before: u8, byte: u8) -> bool
     byte == b'"' && before != b'\\'
 }
 
-/// How many bytes stand before the quotation mark that ends a text, by the byte before them.
+/// The number of bytes before the quotation mark that ends a text. `first` is the byte before them.
 #[tactic(auto, unfolding(crate::specs::Grammar::Lengths::closing), using(crate::proofs::GrammarLemmas::ByteLoops::moved_on))]
 pub(crate) fn closing(first: u8, bytes: &[u8]) -> Option<usize>
     ensures value { result ≡ closing first bytes.now }

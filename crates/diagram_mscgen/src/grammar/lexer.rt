@@ -1,4 +1,4 @@
-//! Texts, cut into their tokens.
+//! Texts, split into their tokens.
 ghost use Rattle.std.specs.Prelude.{◌≡◌, ◌++◌, ◌≤◌, ◌<◌, length, map, drop, take, IfOk, OnOk};
 ghost use Rattle.diagram_mscgen.specs.Grammar.Tokens.{seen, first_token, tokens_of, mark_length};
 ghost use Rattle.diagram_mscgen.specs.Grammar.Pieces.{piece_at};
@@ -8,7 +8,7 @@ use crate::grammar::token::{Token, kind_of};
 use std::alloc::{AllocError, Global};
 use texts::bytes::{Place, START, begins};
 
-/// How many bytes a byte order mark has, if the text begins with one.
+/// The length of the byte order mark, or 0 if the text begins with none.
 #[tactic(auto, unfolding(crate::specs::Grammar::Tokens::mark_length))]
 fn mark_length(text: &[u8]) -> usize
     ensures value { result ≡ mark_length text.now }

@@ -1,4 +1,4 @@
-//! Texts, read whole.
+//! Whole texts.
 ghost use Rattle.std.specs.Prelude.{◌≡◌};
 ghost use Rattle.diagram_mscgen.specs.Grammar.Faults.{Reads, msc_of};
 
@@ -8,7 +8,7 @@ use crate::grammar::stop::Stop;
 use crate::grammar::whole::{Msc, msc_in};
 use std::alloc::Global;
 
-/// What a text says, or its first fault.
+/// The entities and arcs of a text, or its first fault.
 #[tactic(auto, unfolding(crate::specs::Grammar::Faults::msc_of))]
 pub fn read(alloc: Global, text: &[u8]) -> Result<Msc<'_>, MscgenError<'_>>
     ensures { Reads result (msc_of text.now) }

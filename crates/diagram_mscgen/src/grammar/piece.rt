@@ -8,7 +8,7 @@ use crate::grammar::relation::Relation;
 use crate::grammar::signs::sign_at;
 use texts::bytes::{begins, is_white_space, is_word_byte, line_length};
 
-/// What a piece of a text is.
+/// The kind of a piece of a text.
 #[derive(Clone, Copy, Debug)]
 pub(crate) enum Shape {
     /// A blank or a comment.
@@ -21,18 +21,18 @@ pub(crate) enum Shape {
     Spacer,
     /// Punctuation.
     Mark,
-    /// What can't be read.
+    /// Bytes that can't be read.
     Unknown,
 }
 
-/// A piece of a text, with its number of bytes.
+/// A piece of a text, with its length in bytes.
 #[derive(Clone, Copy, Debug)]
 pub(crate) struct Piece {
     pub shape: Shape,
     pub length: usize,
 }
 
-/// The text in quotation marks whose first one stands before these bytes.
+/// The text in quotation marks whose first mark is before these bytes.
 fn text_at(bytes: &[u8]) -> Piece
     ensures piece { result ≡ text_by (length bytes.now) (closing 34 bytes.now) }
     ensures within { result.length ≤ length bytes.now + 1 }

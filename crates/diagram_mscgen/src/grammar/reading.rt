@@ -1,4 +1,4 @@
-//! Marks, names and words that stand where they have to, or may.
+//! Marks, names and words that are required or optional.
 ghost use Rattle.std.specs.Prelude.{◌≡◌, ◌<◌, length, map, option_map, IfOk, IfSome, Some, None};
 ghost use Rattle.diagram_mscgen.specs.Grammar.Reading.{Sees, Finds, is_mark, skip_mark, behind_mark, name_of, name_in, word_of};
 ghost use Rattle.diagram_mscgen.specs.Grammar.Reading.{next_word, is_spacer, skip_spacer, end_in};
@@ -6,7 +6,7 @@ ghost use Rattle.diagram_mscgen.specs.Grammar.Tokens.{seen, kind_view};
 
 use crate::grammar::token::{Kind, Token};
 
-/// Tokens that are left to read.
+/// The tokens that are left to read.
 #[derive(Clone, Copy, Debug)]
 pub(crate) struct Left<'t, 'a> {
     pub tokens: &'t [Token<'a>],
@@ -21,7 +21,7 @@ pub(crate) fn is_mark(mark: u8, kind: Kind) -> bool
     }
 }
 
-/// What stands behind this mark, if it comes next.
+/// The tokens after this mark, if it comes next.
 #[tactic(auto, unfolding(crate::specs::Grammar::Reading::skip_mark))]
 pub(crate) fn skip_mark<'t, 'a>(mark: u8, tokens: &'t [Token<'a>]) -> Option<&'t [Token<'a>]>
     ensures rest { Finds (λ rest. map seen rest.now) result (skip_mark mark (map seen tokens.now)) }
@@ -37,7 +37,7 @@ pub(crate) fn skip_mark<'t, 'a>(mark: u8, tokens: &'t [Token<'a>]) -> Option<&'t
     }
 }
 
-/// What stands behind this mark, which has to come next.
+/// The tokens after this mark, which has to come next.
 #[tactic(auto, unfolding(crate::specs::Grammar::Reading::behind_mark))]
 pub(crate) fn behind_mark<'t, 'a>(
     mark: u8,
@@ -52,7 +52,7 @@ pub(crate) fn behind_mark<'t, 'a>(
     }
 }
 
-/// The name that a word or a text is.
+/// The name of a token, if it is a word or a text.
 fn name_of<'a>(kind: Kind<'a>) -> Option<&'a [u8]>
     ensures { Finds (λ name. name.now) result (name_of (kind_view kind.entry)) }
 {
@@ -62,7 +62,7 @@ fn name_of<'a>(kind: Kind<'a>) -> Option<&'a [u8]>
     }
 }
 
-/// The name that has to come next, and what stands behind it.
+/// The name that has to come next, and the tokens after it.
 #[tactic(auto, unfolding(crate::specs::Grammar::Reading::name_in))]
 pub(crate) fn name_in<'t, 'a>(
     tokens: &'t [Token<'a>],
@@ -79,7 +79,7 @@ pub(crate) fn name_in<'t, 'a>(
     }
 }
 
-/// The word that a token is.
+/// The word of a token, if it is one.
 fn word_of<'a>(kind: Kind<'a>) -> Option<&'a [u8]>
     ensures { Finds (λ word. word.now) result (word_of (kind_view kind.entry)) }
 {
@@ -89,7 +89,7 @@ fn word_of<'a>(kind: Kind<'a>) -> Option<&'a [u8]>
     }
 }
 
-/// The word that comes next, if there is one, and what stands behind it.
+/// The word that comes next, if there is one, and the tokens after it.
 #[tactic(auto, unfolding(crate::specs::Grammar::Reading::next_word))]
 pub(crate) fn next_word<'t, 'a>(tokens: &'t [Token<'a>]) -> Option<(&'a [u8], &'t [Token<'a>])>
     ensures word { Finds (λ word. (word.0.now, map seen word.1.now)) result (next_word (map seen tokens.now)) }
@@ -113,7 +113,7 @@ fn is_spacer(kind: Kind) -> bool
     }
 }
 
-/// What stands behind a row without an arc, if it comes next.
+/// The tokens after a row without an arc, if it comes next.
 #[tactic(auto, unfolding(crate::specs::Grammar::Reading::skip_spacer))]
 pub(crate) fn skip_spacer<'t, 'a>(tokens: &'t [Token<'a>]) -> Option<&'t [Token<'a>]>
     ensures rest { Finds (λ rest. map seen rest.now) result (skip_spacer (map seen tokens.now)) }
@@ -129,7 +129,8 @@ pub(crate) fn skip_spacer<'t, 'a>(tokens: &'t [Token<'a>]) -> Option<&'t [Token<
     }
 }
 
-/// The end of an item, and whether it ends the list too: a comma doesn't, and a semicolon does.
+/// Whether an item's end also ends the list, and the tokens after it. A comma doesn't end the list, and a semicolon
+/// does.
 #[tactic(auto, unfolding(crate::specs::Grammar::Reading::end_in))]
 pub(crate) fn end_in<'t, 'a>(
     tokens: &'t [Token<'a>],

@@ -1,21 +1,21 @@
-//! How two entities are related.
+//! Relations between two entities.
 
-/// What a sign or a word between two entities says.
+/// The meaning of a sign or a word between two entities.
 #[derive(Clone, Copy, Debug, PartialEq, Eq)]
 pub enum Relation {
-    /// A message to the entity behind the sign.
+    /// A message to the entity after the sign.
     To,
-    /// A message from the entity behind the sign.
+    /// A message from the entity after the sign.
     From,
-    /// A message to the entity behind the sign, which never receives it.
+    /// A message to the entity after the sign, which never receives it.
     LostTo,
-    /// A message from the entity behind the sign, which is never received.
+    /// A message from the entity after the sign, which is never received.
     LostFrom,
     /// An arrow with two heads.
     Both,
     /// A line without a head.
     Line,
-    /// A box round two entities and those between them.
+    /// A box around two entities and those between them.
     Box,
     /// A note at two entities and those between them.
     Note,

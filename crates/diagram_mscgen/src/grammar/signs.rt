@@ -17,7 +17,7 @@ const MARKS: [(&[u8], Shape); 7] = [
     (b"*", Shape::Mark),
 ];
 
-/// Signs of three bytes and more.
+/// Signs of three or more bytes.
 const LONG_SIGNS: [(&[u8], Shape); 10] = [
     (b"<<=>>", Shape::Sign(Relation::Both)),
     (b"<<>>", Shape::Sign(Relation::Both)),
@@ -31,7 +31,7 @@ const LONG_SIGNS: [(&[u8], Shape); 10] = [
     (b"|||", Shape::Spacer),
 ];
 
-/// Signs of two bytes, and the one mark that begins some of them.
+/// Signs of two bytes, and the mark `=`, with which some of them begin.
 const SHORT_SIGNS: [(&[u8], Shape); 17] = [
     (b"->", Shape::Sign(Relation::To)),
     (b"=>", Shape::Sign(Relation::To)),

@@ -1,4 +1,4 @@
-//! Why readers of tokens stop.
+//! The causes for which readers of tokens stop.
 ghost use Rattle.std.specs.Prelude.{◌≡◌};
 ghost use Rattle.diagram_mscgen.specs.declared.grammar.stop.Stop.TheVariants.{Memory};
 
@@ -10,7 +10,7 @@ use std::alloc::AllocFailed;
 pub(crate) enum Stop<'t, 'a> {
     /// A growth was refused.
     Memory,
-    /// These tokens can't stand here.
+    /// These tokens can't be here.
     At(&'t [Token<'a>]),
 }
 

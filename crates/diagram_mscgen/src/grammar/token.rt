@@ -7,12 +7,12 @@ use crate::grammar::piece::Shape;
 use crate::grammar::relation::Relation;
 use texts::bytes::Place;
 
-/// What a token is.
+/// The kind of a token.
 #[derive(Clone, Copy, Debug)]
 pub enum Kind<'a> {
     /// Letters, digits and `_`.
     Word(&'a [u8]),
-    /// What stands between two quotation marks.
+    /// The bytes between two quotation marks.
     Text(&'a [u8]),
     /// An arc's sign.
     Sign(Relation),
@@ -20,11 +20,11 @@ pub enum Kind<'a> {
     Spacer,
     /// Punctuation: one of `,`, `;`, `=`, `*` and the brackets.
     Mark(u8),
-    /// What can't be read.
+    /// Bytes that can't be read.
     Unknown,
 }
 
-/// A word, a text or a sign.
+/// A token of a text: a word, a text in quotation marks, a sign or a mark.
 #[derive(Clone, Copy, Debug)]
 pub struct Token<'a> {
     pub kind: Kind<'a>,
@@ -34,7 +34,7 @@ pub struct Token<'a> {
     pub rest: &'a [u8],
 }
 
-/// What stands between the first byte and the last.
+/// The bytes between the first one and the last one.
 #[tactic(auto, unfolding(crate::specs::Grammar::Tokens::inner))]
 fn inner(bytes: &[u8]) -> &[u8]
     ensures { result.now ≡ inner bytes.now }
@@ -55,7 +55,7 @@ fn first_byte(bytes: &[u8]) -> u8
     }
 }
 
-/// The token that a piece with these bytes is, if it is one.
+/// The kind of token that a piece with these bytes is, if it is one.
 pub(crate) fn kind_of(shape: Shape, bytes: &[u8]) -> Option<Kind<'_>>
     ensures { option_map kind_view result ≡ kind_of shape bytes.now }
 {

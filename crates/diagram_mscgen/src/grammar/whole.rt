@@ -15,7 +15,7 @@ use crate::grammar::token::Token;
 use crate::grammar::words::is_option;
 use std::alloc::Global;
 
-/// What a text says.
+/// The chart of a text.
 #[derive(Debug, Drop)]
 pub struct Msc<'a> {
     /// The entities, in the order of the text.
@@ -24,7 +24,7 @@ pub struct Msc<'a> {
     pub arcs: Vec<Arc<'a>>,
 }
 
-/// An option, whether it is the last, and what stands behind it.
+/// Whether an option is the last one, and the tokens after it.
 #[tactic(auto, unfolding(crate::specs::Grammar::Charts::option_in))]
 fn option_in<'t, 'a>(tokens: &'t [Token<'a>]) -> Result<(bool, &'t [Token<'a>]), &'t [Token<'a>]>
     ensures option { Sees (λ next. (next.0, map seen next.1.now)) result (option_in (map seen tokens.now)) }
@@ -51,7 +51,7 @@ fn is_given(tokens: &[Token]) -> bool
     }
 }
 
-/// What stands behind the options, the first of which stands here.
+/// The tokens after the options, the first of which begins here.
 fn options_at<'t, 'a>(tokens: &'t [Token<'a>]) -> Result<&'t [Token<'a>], &'t [Token<'a>]>
     ensures { Sees (λ rest. map seen rest.now) result (options_at (map seen tokens.now)) }
 {
@@ -65,7 +65,7 @@ fn options_at<'t, 'a>(tokens: &'t [Token<'a>]) -> Result<&'t [Token<'a>], &'t [T
     }
 }
 
-/// What stands behind the options that may stand here.
+/// The tokens after the options, if there are any.
 #[tactic(auto, unfolding(crate::specs::Grammar::Charts::options_in))]
 fn options_in<'t, 'a>(tokens: &'t [Token<'a>]) -> Result<&'t [Token<'a>], &'t [Token<'a>]>
     ensures { Sees (λ rest. map seen rest.now) result (options_in (map seen tokens.now)) }
@@ -77,7 +77,7 @@ fn options_in<'t, 'a>(tokens: &'t [Token<'a>]) -> Result<&'t [Token<'a>], &'t [T
     }
 }
 
-/// The entities, and what stands behind them.
+/// The entities, and the tokens after them.
 fn entities_in<'t, 'a>(
     alloc: Global,
     tokens: &'t [Token<'a>],
@@ -100,7 +100,7 @@ fn entities_in<'t, 'a>(
     }
 }
 
-/// Whether no arc comes behind one with this end.
+/// Whether an arc with this end is the last one.
 fn is_last(ends_row: bool, rest: &[Token]) -> bool
     ensures { result ≡ is_last ends_row (map seen rest.now) }
 {
@@ -110,7 +110,7 @@ fn is_last(ends_row: bool, rest: &[Token]) -> bool
     }
 }
 
-/// The arcs up to the brace, and what stands behind them.
+/// The arcs up to the brace, and the tokens from the brace on.
 fn arcs_in<'t, 'a>(
     alloc: Global,
     tokens: &'t [Token<'a>],
@@ -139,7 +139,7 @@ fn is_msc(word: &[u8]) -> bool
     word == b"msc".as_slice()
 }
 
-/// What stands behind `msc {`.
+/// The tokens after `msc {`.
 #[tactic(auto, unfolding(crate::specs::Grammar::Charts::body_in))]
 fn body_in<'t, 'a>(tokens: &'t [Token<'a>]) -> Result<&'t [Token<'a>], &'t [Token<'a>]>
     ensures { Sees (λ rest. map seen rest.now) result (body_in (map seen tokens.now)) }
@@ -150,7 +150,7 @@ fn body_in<'t, 'a>(tokens: &'t [Token<'a>]) -> Result<&'t [Token<'a>], &'t [Toke
     }
 }
 
-/// Whether nothing stands behind the brace that ends a chart.
+/// Checks that nothing follows the brace that ends a chart.
 #[tactic(auto, unfolding(crate::specs::Grammar::Charts::end_of))]
 fn end_of<'t, 'a>(tokens: &'t [Token<'a>]) -> Result<(), &'t [Token<'a>]>
     ensures { Sees (λ _. tt) result (end_of (map seen tokens.now)) }
@@ -159,7 +159,7 @@ fn end_of<'t, 'a>(tokens: &'t [Token<'a>]) -> Result<(), &'t [Token<'a>]>
     if rest.is_empty() { Ok(()) } else { Err(rest) }
 }
 
-/// What stands before the entities is left out.
+/// The tokens after `msc {` and the options.
 #[tactic(auto, unfolding(crate::specs::Grammar::Charts::head_in))]
 fn head_in<'t, 'a>(tokens: &'t [Token<'a>]) -> Result<&'t [Token<'a>], &'t [Token<'a>]>
     ensures { Sees (λ rest. map seen rest.now) result (head_in (map seen tokens.now)) }
@@ -167,7 +167,7 @@ fn head_in<'t, 'a>(tokens: &'t [Token<'a>]) -> Result<&'t [Token<'a>], &'t [Toke
     options_in(body_in(tokens)?)
 }
 
-/// The chart that the tokens say, all of them.
+/// The chart of all these tokens.
 #[tactic(auto, unfolding(crate::specs::Grammar::Charts::msc_in))]
 pub(crate) fn msc_in<'t, 'a>(
     alloc: Global,

@@ -1,4 +1,4 @@
-//! The words of mscgen's language, in any letters.
+//! The words of mscgen's language, which are case-insensitive.
 ghost use Rattle.std.specs.Prelude.{◌≡◌, ◌↔◌, IsTrue, map};
 ghost use Rattle.std.specs.List.{list_any};
 ghost use Rattle.diagram_mscgen.specs.Grammar.Words.{is_one_of, is_option, is_style, box_of, attribute_name};
@@ -7,13 +7,13 @@ ghost use Rattle.texts.specs.Bytes.Words.{is_spelled};
 use crate::grammar::relation::Relation;
 use texts::bytes::is_spelled;
 
-/// What stands before `=` in an option.
+/// The names of options, which come before `=`.
 const OPTIONS: [&[u8]; 4] = [b"hscale", b"width", b"arcgradient", b"wordwraparcs"];
 
-/// Boxes round entities.
+/// Boxes around entities.
 const BOXES: [&[u8]; 3] = [b"box", b"abox", b"rbox"];
 
-/// Attributes that change how something is drawn, and no more.
+/// Attributes that only change how something is drawn.
 const STYLES: [&[u8]; 15] = [
     b"url",
     b"id",
@@ -32,11 +32,11 @@ const STYLES: [&[u8]; 15] = [
     b"arctextbgcolor",
 ];
 
-/// What an attribute's name says.
+/// The meaning of an attribute's name.
 #[derive(Clone, Copy, Debug)]
 pub(crate) enum AttributeName {
     Label,
-    /// So many rows further down an arc ends.
+    /// How many rows further down an arc ends.
     Skip,
     /// How something is drawn.
     Style,
@@ -48,14 +48,14 @@ fn has_word(words: &[&[u8]], word: &[u8]) -> bool
     words.iter().any(|known| is_spelled(*known, word))
 }
 
-/// Whether the word is one of these, in any letters.
+/// Whether the word is one of these, case-insensitively.
 fn is_one_of(words: &[&[u8]], word: &[u8]) -> bool
     ensures { result ≡ is_one_of (map (λ known. known.now) words.now) word.now }
 {
     has_word(words, word)
 }
 
-/// Whether the word may stand before `=` in an option.
+/// Whether the word is the name of an option.
 #[tactic(auto, unfolding(crate::specs::Grammar::Words::is_option))]
 pub(crate) fn is_option(word: &[u8]) -> bool
     ensures { result ≡ is_option word.now }
@@ -63,7 +63,7 @@ pub(crate) fn is_option(word: &[u8]) -> bool
     is_one_of(&OPTIONS, word)
 }
 
-/// Whether an attribute of this name changes only how something is drawn.
+/// Whether an attribute of this name only changes how something is drawn.
 #[tactic(auto, unfolding(crate::specs::Grammar::Words::is_style))]
 fn is_style(word: &[u8]) -> bool
     ensures { result ≡ is_style word.now }
@@ -71,7 +71,7 @@ fn is_style(word: &[u8]) -> bool
     is_one_of(&STYLES, word)
 }
 
-/// What a word between two entities says.
+/// The meaning of a word between two entities.
 #[tactic(auto, unfolding(crate::specs::Grammar::Words::box_of))]
 pub(crate) fn box_of(word: &[u8]) -> Option<Relation>
     ensures { result ≡ box_of word.now }
@@ -85,7 +85,7 @@ pub(crate) fn box_of(word: &[u8]) -> Option<Relation>
     }
 }
 
-/// What an attribute's name says.
+/// The meaning of an attribute's name.
 #[tactic(auto, unfolding(crate::specs::Grammar::Words::attribute_name))]
 pub(crate) fn attribute_name(word: &[u8]) -> Option<AttributeName>
     ensures { result ≡ attribute_name word.now }

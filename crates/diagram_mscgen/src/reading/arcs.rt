@@ -1,4 +1,4 @@
-//! What arcs become.
+//! The items of arcs.
 ghost use Rattle.std.specs.Prelude.{◌≡◌, ◌≤◌, ◌<◌, ◌+◌, ◌^◌, length, map, unwrap_or, IfOk, OnOk, []};
 ghost use Rattle.diagrams.specs.Diagrams.{arrow_view, AnArrow};
 ghost use Rattle.diagrams.specs.LeftOuts.{with_one};
@@ -15,10 +15,10 @@ use diagrams::{Arrow, Item, Kind, LeftOut, Note, leave_out};
 use std::alloc::{AllocError, Global};
 use std::marker::Model;
 
-/// What the arcs so far became. A contract sees a record of its fields.
+/// The items of the arcs so far. A contract sees a record of its fields.
 #[derive(Drop)]
 pub(crate) struct Rows {
-    /// The number of the row that comes next, from 0.
+    /// The number of the next row, from 0.
     row: u64,
     pub items: Vec<Item>,
     pub left_out: Vec<LeftOut>,
@@ -34,7 +34,7 @@ impl Model for Rows {
     ghost view = { λ s. record { row = s.row; items = map item_view s.items.items; left_out = s.left_out.items } };
 }
 
-/// What stands at an arc, as it is written.
+/// The label of an arc, as it is written.
 fn written<'a>(arc: &Arc<'a>) -> &'a [u8]
     ensures { result.now ≡ unwrap_or (arc_view arc.now).label [] }
 {
@@ -44,14 +44,14 @@ fn written<'a>(arc: &Arc<'a>) -> &'a [u8]
     }
 }
 
-/// What stands at an arc.
+/// The label of an arc.
 fn label_of(alloc: Global, arc: &Arc<'_>) -> Result<Vec<u8>, AllocError>
     ensures { IfOk result (λ label. label.items ≡ label_of (arc_view arc.now)) }
 {
     text_of(alloc, written(arc))
 }
 
-/// Where arrows go: the last row of the chart, and whether nobody receives them.
+/// The parts that all arrows of an arc share: the chart's last row, whether nobody receives them, and the sender.
 #[derive(Clone, Copy)]
 struct Way {
     last: u64,
@@ -60,7 +60,7 @@ struct Way {
 }
 
 impl Rows {
-    /// An arrow to a participant.
+    /// Adds an arrow to a participant.
     fn add_arrow(
         &mut self,
         alloc: Global,
@@ -85,14 +85,14 @@ impl Rows {
         Ok(())
     }
 
-    /// Something that has no meaning.
+    /// Skips an arc, and counts it under this kind.
     fn leave(&mut self, kind: Kind, arc: &Arc<'_>) -> Result<(), AllocError>
         ensures { OnOk result (self.new ≡ without kind (arc_view arc.now) self.old) }
     {
         leave_out(&mut self.left_out, kind, place_of(arc.place))
     }
 
-    /// A message from one participant to another.
+    /// Adds a message from one participant to another. A message to itself is skipped.
     fn add_message(
         &mut self,
         alloc: Global,
@@ -110,7 +110,7 @@ impl Rows {
         }
     }
 
-    /// A note.
+    /// Adds a note. A note at two participants or without a text is skipped.
     fn add_note(
         &mut self,
         alloc: Global,
@@ -136,7 +136,7 @@ impl Rows {
         Ok(())
     }
 
-    /// An arc between two participants.
+    /// Adds an arc between two participants.
     fn add_pair(
         &mut self,
         alloc: Global,
@@ -176,7 +176,7 @@ impl Rows {
         }
     }
 
-    /// An arrow to a participant, if it isn't the sender.
+    /// Adds an arrow to a participant, if it isn't the sender.
     fn add_other(
         &mut self,
         alloc: Global,
@@ -192,7 +192,7 @@ impl Rows {
         self.add_arrow(alloc, arc, way, receiver)
     }
 
-    /// An arrow to each of so many participants, but the sender.
+    /// Adds an arrow to each of `count` participants except the sender.
     fn add_others(
         &mut self,
         alloc: Global,
@@ -208,7 +208,7 @@ impl Rows {
         Ok(())
     }
 
-    /// A row without an arc.
+    /// Adds a row without an arc, which is counted as skipped if it has a label.
     fn add_spacer(&mut self, arc: &Arc<'_>) -> Result<(), AllocError>
         ensures { OnOk result (self.new ≡ with_spacer (arc_view arc.now) (arc_view arc.now).label self.old) }
     {
@@ -218,7 +218,7 @@ impl Rows {
         }
     }
 
-    /// An arc to all other participants.
+    /// Adds an arc to all other participants.
     fn add_all(
         &mut self,
         alloc: Global,
@@ -245,7 +245,7 @@ impl Rows {
         Ok(())
     }
 
-    /// An arc between participants with these words.
+    /// Adds an arc between participants with these words.
     fn add_ends(
         &mut self,
         alloc: Global,
@@ -263,7 +263,7 @@ impl Rows {
         Ok(())
     }
 
-    /// What an arc says.
+    /// Adds the items of an arc.
     fn add_event(
         &mut self,
         alloc: Global,
@@ -285,7 +285,7 @@ impl Rows {
         }
     }
 
-    /// The row that comes behind an arc.
+    /// Begins the next row, if the arc ends its own.
     fn end_row(&mut self, ends: bool)
         requires { self.old.row + 1 < 2 ^ 64 }
         ensures { self.new ≡ ended_row ends self.old }
@@ -295,7 +295,7 @@ impl Rows {
         }
     }
 
-    /// One arc more.
+    /// Adds one more arc.
     #[tactic(auto, unfolding(crate::specs::Reading::Arcs::with_arc))]
     fn add(
         &mut self,
@@ -315,7 +315,7 @@ impl Rows {
     }
 }
 
-/// An arc that names an entity that there isn't.
+/// The fault of an arc that names an entity which doesn't exist.
 fn unknown_in(arc: &Arc<'_>) -> ReadError
     ensures { result ≡ ReadError.Fault (Fault.UnknownEntity arc.now.place.line) }
 {
@@ -331,7 +331,7 @@ fn last_row(arcs: &[Arc<'_>]) -> u64
     (rows as u64).saturating_sub(1)
 }
 
-/// What a chart's arcs become.
+/// The items of a chart's arcs.
 #[tactic(auto, unfolding(crate::specs::Reading::Arcs::rows_of))]
 pub(crate) fn rows_of(
     alloc: Global,

@@ -15,7 +15,7 @@ use std::marker::Model;
 /// The participants so far. A contract sees a record of its fields.
 #[derive(Drop)]
 pub(crate) struct Known<'a> {
-    /// The words for them.
+    /// The words by which arcs name them.
     pub words: Vec<&'a [u8]>,
     pub participants: Vec<Participant>,
     pub left_out: Vec<LeftOut>,
@@ -35,7 +35,7 @@ impl<'a> Model for Known<'a> {
     } };
 }
 
-/// A place of a token, as a diagram has it.
+/// The place of a token, as a place of a diagram.
 pub(crate) fn place_of(place: texts::bytes::Place) -> Place
     ensures { result ≡ place_of place }
 {
@@ -51,7 +51,7 @@ fn is_word(known: &[u8], word: &[u8]) -> bool
     known == word
 }
 
-/// The place of the first of these words that is this one.
+/// The place of the first of these words that is equal to this one.
 fn first_place(words: &[&[u8]], word: &[u8]) -> Option<usize>
     ensures value { result ≡ position (λ known. bytes_eq known.now word.now) words.now }
     ensures within { IfSome result (λ place. place < length words.now) }
@@ -68,7 +68,7 @@ pub(crate) fn known_at(words: &[&[u8]], word: &[u8]) -> Option<usize>
     first_place(words, word)
 }
 
-/// What is shown of an entity, as it is written.
+/// The shown text of an entity, as it is written.
 fn shown<'a>(entity: &Entity<'a>) -> &'a [u8]
     ensures { result.now ≡ unwrap_or (entity_view entity.now).label (entity_view entity.now).word }
 {
@@ -78,7 +78,7 @@ fn shown<'a>(entity: &Entity<'a>) -> &'a [u8]
     }
 }
 
-/// The participant that an entity is.
+/// The participant of an entity.
 fn participant_of(alloc: Global, entity: &Entity<'_>) -> Result<Participant, AllocError>
     ensures { IfOk result (λ p. participant_view p ≡ participant_of (entity_view entity.now)) }
 {
@@ -90,7 +90,7 @@ fn participant_of(alloc: Global, entity: &Entity<'_>) -> Result<Participant, All
 }
 
 impl<'a> Known<'a> {
-    /// One entity more.
+    /// Adds one more entity.
     #[tactic(auto, unfolding(crate::specs::Reading::Entities::with_entity))]
     fn add(&mut self, alloc: Global, entity: &Entity<'a>) -> Result<(), ReadError>
         ensures { Knows (λ _. self.new) result (with_entity (entity_view entity.now) self.old) }

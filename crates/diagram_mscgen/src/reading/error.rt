@@ -8,13 +8,13 @@ use std::alloc::{AllocError, AllocFailed};
 /// Why a text isn't a diagram.
 #[derive(Clone, Copy, Debug, PartialEq, Eq)]
 pub enum Fault {
-    /// F35: what stands at this place can't be read.
+    /// F35: the text at this place can't be read.
     NotRead(Place),
     /// F21: the text ends too early.
     Unfinished,
     /// F8: it has fewer than 2 participants, or more than a chart has instances.
     Instances,
-    /// F23: the arc that begins in the line with this number names an entity that there isn't.
+    /// F23: the arc that begins in the line with this number names an entity that doesn't exist.
     UnknownEntity(u64),
 }
 

@@ -1,4 +1,4 @@
-//! What texts between quotation marks say.
+//! Texts between quotation marks, without their escapes.
 ghost use Rattle.std.specs.Prelude.{◌≡◌, ◌++◌, IfOk, OnOk};
 ghost use Rattle.texts.specs.Bytes.Classes.{is_white_space};
 ghost use Rattle.diagram_mscgen.specs.Reading.Texts.{plain_step, escaped_step, step, ended, text_of};
@@ -6,17 +6,17 @@ ghost use Rattle.diagram_mscgen.specs.Reading.Texts.{plain_step, escaped_step, s
 use std::alloc::{AllocError, Global};
 use texts::bytes::is_white_space;
 
-/// What stands before a byte.
+/// What comes before a byte.
 #[derive(Clone, Copy, Debug)]
 pub(crate) enum Mode {
     Plain,
-    /// A backslash, which waits.
+    /// A backslash that waits for the byte after it.
     Escaped,
     /// A line's end and blanks.
     LineEnd,
 }
 
-/// Adds what a byte says.
+/// Adds the text of a byte.
 fn add_plain(byte: u8, read: &mut Vec<u8>) -> Result<Mode, AllocError>
     ensures mode { IfOk result (λ mode. mode ≡ (plain_step byte).1) }
     ensures read { OnOk result (read.new.items ≡ read.old.items ++ (plain_step byte).0) }
@@ -32,7 +32,7 @@ fn add_plain(byte: u8, read: &mut Vec<u8>) -> Result<Mode, AllocError>
     Ok(Mode::Plain)
 }
 
-/// Adds what a byte says behind a backslash.
+/// Adds the text of a byte after a backslash.
 fn add_escaped(byte: u8, read: &mut Vec<u8>) -> Result<Mode, AllocError>
     ensures mode { IfOk result (λ mode. mode ≡ (escaped_step byte).1) }
     ensures read { OnOk result (read.new.items ≡ read.old.items ++ (escaped_step byte).0) }
@@ -49,7 +49,7 @@ fn add_escaped(byte: u8, read: &mut Vec<u8>) -> Result<Mode, AllocError>
     add_plain(byte, read)
 }
 
-/// Adds what a byte says.
+/// Adds the text of a byte, by what comes before it.
 fn add_byte(mode: Mode, byte: u8, read: &mut Vec<u8>) -> Result<Mode, AllocError>
     ensures mode { IfOk result (λ next. next ≡ (step mode byte).1) }
     ensures read { OnOk result (read.new.items ≡ read.old.items ++ (step mode byte).0) }
@@ -67,7 +67,7 @@ fn add_byte(mode: Mode, byte: u8, read: &mut Vec<u8>) -> Result<Mode, AllocError
     }
 }
 
-/// Adds what is said at the end.
+/// Adds the backslash that still waits at the end, if there is one.
 fn add_end(mode: Mode, read: &mut Vec<u8>) -> Result<(), AllocError>
     ensures { OnOk result (read.new.items ≡ read.old.items ++ ended mode) }
 {
@@ -80,7 +80,7 @@ fn add_end(mode: Mode, read: &mut Vec<u8>) -> Result<(), AllocError>
     }
 }
 
-/// What these bytes between quotation marks say.
+/// The text of these bytes between quotation marks.
 pub(crate) fn text_of(alloc: Global, raw: &[u8]) -> Result<Vec<u8>, AllocError>
     ensures { IfOk result (λ read. read.items ≡ text_of raw.now) }
 {

@@ -1,4 +1,4 @@
-//! Texts, read whole.
+//! Whole texts.
 ghost use Rattle.diagrams.specs.Diagrams.{diagram_view};
 ghost use Rattle.diagram_mscgen.specs.Grammar.Charts.{msc_view};
 ghost use Rattle.diagram_mscgen.specs.Grammar.Faults.{fault_view};
@@ -13,7 +13,7 @@ use crate::reading::error::{Fault, ReadError};
 use diagrams::Diagram;
 use std::alloc::Global;
 
-/// A fault of the text.
+/// The fault of a text.
 fn fault_of(fault: &crate::grammar::Fault<'_>) -> Fault
     ensures { result ≡ fault_of (fault_view fault.now) }
 {
@@ -23,7 +23,7 @@ fn fault_of(fault: &crate::grammar::Fault<'_>) -> Fault
     }
 }
 
-/// The diagram that a chart is.
+/// The diagram of a chart.
 fn diagram_in(alloc: Global, msc: &Msc<'_>) -> Result<Diagram, ReadError>
     ensures { Reads diagram_view result (with_known (msc_view msc.now) (known_of (msc_view msc.now).entities)) }
 {
@@ -43,10 +43,11 @@ fn diagram_in(alloc: Global, msc: &Msc<'_>) -> Result<Diagram, ReadError>
     })
 }
 
-/// The diagram that a text says. A text may begin with a byte order mark.
+/// The diagram of a text, which may begin with a byte order mark.
 ///
-/// F35: something can't be read; F21: the text ends too early. Then, where it is read whole: F8 for fewer than 2
-/// participants, or more than a chart has instances; F23 for the first arc that names an entity that there isn't.
+/// F35 if something can't be read, and F21 if the text ends too early. If the whole text is read, F8 comes first: there
+/// are fewer than 2 participants, or more than a chart has instances. Then comes F23, for the first arc that names an
+/// entity which doesn't exist.
 #[tactic(auto, unfolding(crate::specs::Reading::Reading::diagram_of))]
 pub fn read(alloc: Global, text: &[u8]) -> Result<Diagram, ReadError>
     ensures { Reads diagram_view result (diagram_of text.now) }

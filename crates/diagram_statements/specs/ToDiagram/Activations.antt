@@ -1,10 +1,9 @@
--- Activations: a `return` answers the arrow that activated innermost, or else the arrow that stands last.
+-- Activations: a `return` answers the arrow of the innermost activation, or otherwise the last arrow.
 use Rattle.std.specs.Prelude.{◌≡◌, ℕ, ◌-◌, Bool, true, false, ◌||◌, List, [], ◌∷◌, ◌++◌, length, take, slice_get, Option, None, Some, is_none, if◌then◌else◌}
 use Rattle.diagram_statements.specs.declared.to_diagram.activations.Activations.{Activations}
 use Rattle.diagram_statements.specs.declared.to_diagram.activations.Ends.{Ends}
 
--- the arrows that activated and weren't answered, the innermost last, the arrow that stands last, and whether arrows
--- activate
+-- the arrows of the open activations, the innermost last; the last arrow; and whether arrows activate
 pub record ActivationsView : Type 0 where
   pub activating : List Ends
   pub last : Option Ends
@@ -24,7 +23,7 @@ activated_by a None = a
 activated_by a (Some last) =
     record { activating = a.activating ++ last ∷ []; last = a.last; arrows_activate = a.arrows_activate }
 
--- the arrow that stands last activates its receiver
+-- the last arrow activates its receiver
 unfoldable pub activated : ActivationsView → ActivationsView
 activated a = activated_by a a.last
 
@@ -44,7 +43,7 @@ sent_by None a = a
 sent_by (Some true) a = activated a
 sent_by (Some false) a = deactivated a
 
--- an arrow stands last now, and may activate or end an activation
+-- an arrow becomes the last one, and may activate or end an activation
 unfoldable pub sent : Ends → Option Bool → ActivationsView → ActivationsView
 sent ends activates a =
     if a.arrows_activate then sent_by activates (with_last (Some ends) a) else with_last (Some ends) a
@@ -72,6 +71,6 @@ returned_by a (Some ends) = (Some (back_along ends), deactivated (with_last (Som
 unfoldable pub returned : ActivationsView → Option Ends × ActivationsView
 returned a = returned_by a (answered a)
 
--- a call answered this, and left these
+-- a call's answer, and the activations after it, are those of the step
 abbrev pub Answers : Option Ends → ActivationsView → Option Ends × ActivationsView → Type 0
 Answers answer a step = (answer ≡ step.0) × (a ≡ step.1)

@@ -1,4 +1,4 @@
--- What statements in branches that are taken do.
+-- The actions of statements in branches that are taken.
 use Rattle.std.specs.Prelude.{ℕ, Bool, List, Option, None, Some}
 use Rattle.diagrams.specs.declared.left_out.Kind.{Kind}
 use Rattle.diagrams.specs.declared.left_out.Kind.TheVariants as kinds
@@ -9,7 +9,7 @@ use Rattle.diagram_statements.specs.declared.to_diagram.act.Effect.TheVariants a
 use Rattle.diagram_statements.specs.Statements.{EndView, end_view, ArrowView, arrow_view, NoteAtView, note_at_view, ElementView}
 use Rattle.diagram_statements.specs.Statements as element
 
--- what is drawn, or left out
+-- an effect on a diagram: something is drawn or skipped
 pub data EffectView : Type 0 where
   Name : (participant : EndView) → EffectView
   Rename : (participant : EndView) → EffectView
@@ -28,7 +28,7 @@ effect_view (drawings.LeaveOut kind) = LeaveOut kind
 effect_view (drawings.PassBy kind) = PassBy kind
 effect_view drawings.CloseRow = CloseRow
 
--- what a statement does
+-- the action of a statement
 pub data ActView : Type 0 where
   Draw : (folded : EffectView) → ActView
   Activate : ActView
@@ -45,7 +45,7 @@ act_view (acts.Return label is_beside) = Return label.now is_beside
 act_view (acts.ArrowsActivate they_do) = ArrowsActivate they_do
 act_view acts.EndGroup = EndGroup
 
--- what a statement does, whose frames stay as they are
+-- the action of a statement that leaves the frames as they are
 abbrev pub act_of : ElementView → Option ActView
 act_of (element.Named participant) = Some (Draw (Name participant))
 act_of (element.Renamed participant) = Some (Draw (Rename participant))

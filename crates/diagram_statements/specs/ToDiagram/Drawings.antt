@@ -1,4 +1,4 @@
--- What acts make of a diagram.
+-- The effects of actions on a diagram.
 use Rattle.std.specs.Prelude.{◌≡◌, ℕ, Bool, false, List, [], map, Option, None, Some, option_map, if◌then◌else◌}
 use Rattle.diagrams.specs.declared.left_out.Kind.TheVariants as kinds
 use Rattle.diagram_statements.specs.ToDiagram.Activations.{ActivationsView, activations_view, activated, deactivated, sent, returned, with_last}
@@ -13,7 +13,7 @@ use Rattle.diagram_statements.specs.declared.statement.ArrowForm.{ArrowForm}
 use Rattle.diagram_statements.specs.declared.statement.ArrowForm.TheVariants.{Message}
 use Rattle.diagram_statements.specs.declared.statement.Place.{Place}
 
--- a diagram so far
+-- the diagram so far
 pub record DrawingView : Type 0 where
   pub participants : List NamedView
   pub activations : ActivationsView
@@ -42,7 +42,7 @@ with_activations activations d = record { participants = d.participants; activat
 abbrev pub with_participants : List NamedView → DrawingView → DrawingView
 with_participants ps d = record { participants = ps; activations = d.activations; rows = d.rows }
 
--- the participant at an end of an arrow is named; none for the edge
+-- the participant at an end of an arrow is named; the edge has none
 abbrev pub end_named : List NamedView → ℕ → Option EndView → List NamedView × Option ℕ
 end_named ps line None = (ps, None)
 end_named ps line (Some end) = ((named ps line end).0, Some (named ps line end).1)
@@ -54,7 +54,7 @@ abbrev pub ends_of : Bool → Option ℕ → Option ℕ → Ends
 ends_of goes_back first second =
     if goes_back then record { sender = second; receiver = first } else record { sender = first; receiver = second }
 
--- an arrow between these stands last, and has its row
+-- an arrow between these becomes the last one, and has its row
 abbrev pub arrow_between : Breaks → Place → ArrowView → DrawingView → List NamedView → Ends → DrawingView
 arrow_between breaks place arrow d ps ends = record {
   participants = ps;
@@ -81,14 +81,14 @@ note_at place text d participant = record {
   rows = with_note place participant.1 text d.rows;
 }
 
--- a note: at one participant its text may say an event
+-- a note: at one participant its text may state an event
 abbrev pub note_added : Place → NoteAtView → List ℕ → DrawingView → DrawingView
 note_added place AtArrow text d = with_rows (with_left_out kinds.Note place d.rows) d
 note_added place (AtParticipant word) text d =
     note_at place text d (named d.participants place.line (record { word = word; label = None }))
 note_added place AtSeveral text d = with_rows (with_left_out kinds.Note place (closed d.rows)) d
 
--- something is drawn or left out
+-- something is drawn or skipped
 abbrev pub folded : Breaks → Place → EffectView → DrawingView → DrawingView
 folded breaks place (Name end) d = with_participants (named d.participants place.line end).0 d
 folded breaks place (Rename end) d = with_participants (renamed d.participants place.line end) d
@@ -110,14 +110,14 @@ back_by breaks place label is_beside d back = record {
   rows = back_rows breaks place label is_beside d.rows back.0;
 }
 
--- a return is an arrow, or is left out where it answers nothing
+-- the arrow of a return, which is skipped if it answers no arrow
 abbrev pub given_back : Breaks → Place → List ℕ → Bool → DrawingView → DrawingView
 given_back breaks place label is_beside d = back_by breaks place label is_beside d (returned d.activations)
 
 abbrev pub activating : Bool → ActivationsView → ActivationsView
 activating they_do a = record { activating = a.activating; last = a.last; arrows_activate = they_do }
 
--- what a statement does is done; behind a group no arrow stands last
+-- the action of a statement; after a group there is no last arrow
 abbrev pub done : Breaks → Place → ActView → DrawingView → DrawingView
 done breaks place (Draw what) d = folded breaks place what d
 done breaks place Activate d = with_activations (activated d.activations) d

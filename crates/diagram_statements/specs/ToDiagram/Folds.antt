@@ -1,4 +1,4 @@
--- The diagram that statements say, from the top.
+-- The diagram of statements, from the top.
 use Rattle.std.specs.Prelude.{ℕ, List, [], ◌∷◌, map, Option, None, Some, Result, Ok, Err}
 use Rattle.diagrams.specs.Diagrams.{DiagramView, ParticipantView}
 use Rattle.diagram_statements.specs.ToDiagram.Acts.{ActView}
@@ -13,7 +13,7 @@ use Rattle.diagram_statements.specs.Statements.{StatementView}
 use Rattle.diagram_statements.specs.declared.statement.Fault.{Fault}
 use Rattle.diagram_statements.specs.declared.statement.Place.{Place}
 
--- the diagram behind a statement that may do something
+-- the diagram after a statement that may have an action
 abbrev pub behind : Breaks → Place → Option ActView → DrawingView → DrawingView
 behind breaks place None d = d
 behind breaks place (Some act) d = done breaks place act d
@@ -23,13 +23,13 @@ abbrev pub folded_by : (List Frame → DrawingView → Result DrawingView Fault)
 folded_by others breaks place d (Err fault) = Err fault
 folded_by others breaks place d (Ok step) = others step.0 (behind breaks place step.1 d)
 
--- what statements draw, within these frames and behind what is drawn so far
+-- the drawing of statements, within these frames and after what is drawn so far
 abbrev pub folded_from : Breaks → List Frame → DrawingView → List StatementView → Result DrawingView Fault
 folded_from breaks frames d [] = Ok d
 folded_from breaks frames d (s ∷ ss) =
     folded_by (λ f e. folded_from breaks f e ss) breaks s.place d (framed frames s)
 
--- a participant with the label that is shown
+-- a participant with its label as it is shown
 abbrev pub participant_of : Breaks → NamedView → ParticipantView
 participant_of breaks p = record { label = label_of breaks p.label; line = p.line }
 
@@ -41,11 +41,11 @@ finished breaks (Ok d) = Ok (record {
   left_out = d.rows.left_out;
 })
 
--- the diagram that statements say
+-- the diagram of statements
 unfoldable pub folded_of : Breaks → List StatementView → Result DiagramView Fault
 folded_of breaks statements = finished breaks (folded_from breaks [] no_drawing statements)
 
--- a fault of the text stands behind those of the statements above it
+-- a fault of the text comes after those of the statements above it
 abbrev pub unless : Option Fault → Result DiagramView Fault → Result DiagramView Fault
 unless later (Err fault) = Err fault
 unless None (Ok d) = Ok d

@@ -1,5 +1,5 @@
--- Groups and boxes that are open, and which branches are taken: the first one of a group, all parallel ones, and none
--- of what breaks off.
+-- Open groups and boxes, and the branches that are taken: the first one of a group, all parallel ones, and none of a
+-- group that breaks off.
 use Rattle.std.specs.Prelude.{◌≡◌, ℕ, ◌-◌, Bool, true, false, not, ◌&&◌, List, [], ◌∷◌, ◌++◌, length, take, slice_get, Option, None, Some, Result, Ok, Err, option_map, if◌then◌else◌}
 use Rattle.diagrams.specs.declared.left_out.Kind.{Kind}
 use Rattle.diagrams.specs.declared.left_out.Kind.TheVariants as kinds
@@ -42,14 +42,14 @@ is_break Break = true
 is_break Parallel = false
 is_break Choice = false
 
--- what is left out of a group that begins
+-- the kind under which the beginning of a group is skipped
 abbrev pub begun_kind : Group → Kind
 begun_kind group = if is_break group then kinds.Branch else kinds.Frame
 
 abbrev pub if_taken : Bool → ActView → Option ActView
 if_taken taken act = if taken then Some act else None
 
--- the frames behind a statement, and what it does
+-- the frames after a statement, and its action
 abbrev pub Step : Type 0
 Step = Result (List Frame × Option ActView) Fault
 
@@ -109,11 +109,11 @@ framed_by frames place element.Divider = passed frames element.Divider
 framed_by frames place element.Delay = passed frames element.Delay
 framed_by frames place element.Reference = passed frames element.Reference
 
--- the frames behind a statement, and what it does, or a fault
+-- the frames after a statement, and its action, or a fault
 unfoldable pub framed : List Frame → StatementView → Step
 framed frames s = framed_by frames s.place s.element
 
--- what a call returned and left is the step, unless memory ran out
+-- a call's result, and the frames after it, are those of the step, unless memory ran out
 abbrev pub Frames : Result (Option Act) ReadError → List Frame → Step → Type 0
 Frames (Ok act) frames step = step ≡ Ok (frames, option_map act_view act)
 Frames (Err e) frames step = Fails e step

@@ -12,16 +12,16 @@ abbrev pub tag_of : ℕ → Option (List ℕ) → ℕ
 tag_of all None = 0
 tag_of all (Some rest) = tag_by all (skip_word (codes "/") (behind_blanks rest))
 
--- how many bytes a tag for a new line has that comes next
+-- the length of a tag for a new line that comes next
 unfoldable pub tag_length : List ℕ → ℕ
 tag_length bytes = tag_of (length bytes) (behind_word (codes "<br") bytes)
 
--- how many bytes a sign for a new line has that comes next
+-- the length of a sign for a new line that comes next
 unfoldable pub break_length : Breaks → List ℕ → ℕ
 break_length PlantUml bytes = if starts_with nat_eq bytes (codes "\\n") then 2 else 0
 break_length Mermaid bytes = if begins (codes "\\n") bytes then 2 else tag_length bytes
 
--- a text whose first bytes, so many, still belong to a sign
+-- a text; this number of its first bytes still belongs to a sign
 abbrev pub label_from : Breaks → ℕ → List ℕ → List ℕ
 label_from breaks within [] = []
 label_from breaks within (b ∷ bs) =

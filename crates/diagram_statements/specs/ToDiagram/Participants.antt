@@ -3,7 +3,7 @@ use Rattle.std.specs.Prelude.{◌≡◌, ℕ, zero, suc, Bool, List, [], ◌∷�
 use Rattle.diagram_statements.specs.declared.to_diagram.participants.Named.{Named}
 use Rattle.diagram_statements.specs.Statements.{EndView}
 
--- a participant: its word in the text, its label there, and the line that names it first
+-- a participant: its word in the text, its label there, and the line that first names it
 pub record NamedView : Type 0 where
   pub word : List ℕ
   pub label : List ℕ
@@ -21,7 +21,7 @@ abbrev pub label_or : List ℕ → Option (List ℕ) → List ℕ
 label_or word None = word
 label_or word (Some label) = label
 
--- a participant without a label is labelled by its word
+-- a participant without a label has its word as the label
 abbrev pub new_named : ℕ → EndView → NamedView
 new_named line end = record { word = end.word; label = label_or end.word end.label; line = line }
 
@@ -29,15 +29,15 @@ abbrev pub named_by : List NamedView → ℕ → EndView → Option ℕ → List
 named_by ps line end (Some place) = (ps, place)
 named_by ps line end None = (ps ++ new_named line end ∷ [], length ps)
 
--- the participants with one that is named, and its place: the first line that names it decides
+-- the participants with a named one, and its place: the first line that names it decides
 unfoldable pub named : List NamedView → ℕ → EndView → List NamedView × ℕ
 named ps line end = named_by ps line end (place_in end.word ps)
 
--- a call left these participants, and answered the place
+-- a call's place, and the participants after it, are those of the step
 abbrev pub Names : ℕ → List NamedView → List NamedView × ℕ → Type 0
 Names place ps step = (ps ≡ step.0) × (place ≡ step.1)
 
--- the participant at this place is labelled so
+-- the participant with this label
 abbrev pub relabelled : List ℕ → NamedView → NamedView
 relabelled label p = record { word = p.word; label = label; line = p.line }
 
@@ -46,6 +46,6 @@ with_label label place [] = []
 with_label label zero (p ∷ ps) = relabelled label p ∷ ps
 with_label label (suc place) (p ∷ ps) = p ∷ with_label label place ps
 
--- the participants with one that is named with its label, which stands from now on
+-- the participants with one that is named with its label, which counts from now on
 unfoldable pub renamed : List NamedView → ℕ → EndView → List NamedView
 renamed ps line end = with_label (label_or end.word end.label) (named ps line end).1 (named ps line end).0

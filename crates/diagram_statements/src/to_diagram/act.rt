@@ -1,8 +1,8 @@
-//! What statements in branches that are taken do.
+//! The actions of statements in branches that are taken.
 use crate::{Arrow, End, NoteAt};
 use diagrams::Kind;
 
-/// What is drawn, or left out.
+/// An effect on a diagram: something is drawn or skipped.
 #[derive(Clone, Copy, Debug)]
 pub(crate) enum Effect<'a> {
     Name(End<'a>),
@@ -10,13 +10,13 @@ pub(crate) enum Effect<'a> {
     Arrow(Arrow<'a>),
     Note(NoteAt<'a>, &'a [u8]),
     LeaveOut(Kind),
-    /// It is left out, and drawn below the arrow above it.
+    /// It is skipped, and the next item is below the arrow above it.
     PassBy(Kind),
-    /// What comes is below the arrow above it.
+    /// The next item is below the arrow above it.
     CloseRow,
 }
 
-/// What a statement does.
+/// The action of a statement.
 #[derive(Clone, Copy, Debug)]
 pub(crate) enum Act<'a> {
     Draw(Effect<'a>),

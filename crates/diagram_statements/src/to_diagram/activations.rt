@@ -1,22 +1,22 @@
-//! Activations: which arrow a `return` answers.
+//! Activations: they decide which arrow a `return` answers.
 ghost use Rattle.std.specs.Prelude.{◌≡◌, [], None, false, OnOk};
 ghost use Rattle.diagram_statements.specs.ToDiagram.Activations.{last_of, has_edge, activations_view, activated, deactivated, sent, answered, returned, Answers};
 
 use std::alloc::{AllocError, Global};
 
-/// From which participant an arrow goes to which one, by their places. None is the edge of the diagram.
+/// The sender and the receiver of an arrow, by their places. None is the edge of the diagram.
 #[derive(Clone, Copy, Debug)]
 pub(crate) struct Ends {
     pub sender: Option<usize>,
     pub receiver: Option<usize>,
 }
 
-/// What a `return` may answer.
+/// The arrows that a `return` may answer.
 #[derive(Debug, Drop)]
 pub(crate) struct Activations {
-    /// The arrows that activated and weren't answered, the innermost last.
+    /// The arrows of the open activations, the innermost last.
     pub activating: Vec<Ends>,
-    /// The arrow that stands last in its group.
+    /// The last arrow, unless a group ended after it.
     pub last: Option<Ends>,
     pub arrows_activate: bool,
 }
@@ -47,7 +47,7 @@ impl Activations {
         }
     }
 
-    /// The arrow that stands last activates its receiver.
+    /// The last arrow activates its receiver.
     #[tactic(auto, unfolding(crate::specs::ToDiagram::Activations::activated))]
     pub(crate) fn activate(&mut self) -> Result<(), AllocError>
         ensures { OnOk result (activations_view self.new ≡ activated (activations_view self.old)) }
@@ -58,7 +58,7 @@ impl Activations {
         Ok(())
     }
 
-    /// The innermost activation ends.
+    /// Ends the innermost activation.
     #[tactic(auto, unfolding(crate::specs::ToDiagram::Activations::deactivated))]
     pub(crate) fn deactivate(&mut self)
         ensures { activations_view self.new ≡ deactivated (activations_view self.old) }
@@ -66,7 +66,7 @@ impl Activations {
         let _ = self.activating.pop();
     }
 
-    /// An arrow stands last now. It may activate, or end an activation.
+    /// An arrow becomes the last one. It may activate, or end an activation.
     #[tactic(auto, unfolding(crate::specs::ToDiagram::Activations::sent))]
     pub(crate) fn send(&mut self, ends: Ends, activates: Option<bool>) -> Result<(), AllocError>
         ensures { OnOk result (activations_view self.new ≡ sent ends activates (activations_view self.old)) }
@@ -85,7 +85,8 @@ impl Activations {
         }
     }
 
-    /// The arrow that a `return` answers: the one that activated innermost, or else the one that stands last.
+    /// The arrow that a `return` answers: that of the innermost activation, or otherwise the last one, unless that is
+    /// at the edge.
     #[tactic(auto, unfolding(crate::specs::ToDiagram::Activations::answered))]
     fn answered(&self) -> Option<Ends>
         ensures { result ≡ answered (activations_view self.now) }
@@ -99,7 +100,7 @@ impl Activations {
         }
     }
 
-    /// A `return`: an arrow back along the one that it answers, whose activation ends.
+    /// The arrow of a `return`: it goes back along the one that it answers, whose activation ends.
     #[tactic(auto, unfolding(crate::specs::ToDiagram::Activations::returned))]
     pub(crate) fn give_back(&mut self) -> Option<Ends>
         ensures { Answers result (activations_view self.new) (returned (activations_view self.old)) }

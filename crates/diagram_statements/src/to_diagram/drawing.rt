@@ -1,4 +1,4 @@
-//! What acts make of a diagram.
+//! The effects of actions on a diagram.
 ghost use Rattle.std.specs.Prelude.{◌≡◌, map, OnOk, IfOk, option_map};
 ghost use Rattle.diagram_statements.specs.Statements.{arrow_view, end_view, note_at_view};
 ghost use Rattle.diagram_statements.specs.ToDiagram.Acts.{act_view, effect_view};
@@ -14,7 +14,7 @@ use crate::{Arrow, ArrowForm, End, NoteAt, Place};
 use diagrams::Kind;
 use std::alloc::{AllocError, Global};
 
-/// A diagram so far.
+/// The diagram so far.
 #[derive(Debug, Drop)]
 pub(crate) struct Drawing<'a> {
     pub participants: Vec<Named<'a>>,
@@ -22,7 +22,7 @@ pub(crate) struct Drawing<'a> {
     pub rows: Rows,
 }
 
-/// The place of the participant at an end of an arrow; none for the edge.
+/// The place of the participant at an end of an arrow, or none for the edge.
 fn name_end<'a>(
     participants: &mut Vec<Named<'a>>,
     line: u64,
@@ -67,7 +67,7 @@ impl<'a> Drawing<'a> {
         }
     }
 
-    /// An arrow names its participants, stands last, and has its row.
+    /// Adds an arrow: it names its participants, becomes the last arrow, and has its row.
     fn arrow(
         &mut self,
         alloc: Global,
@@ -90,7 +90,7 @@ impl<'a> Drawing<'a> {
         self.rows.draw(alloc, breaks, place, sent)
     }
 
-    /// A note. One at no participant is beside the arrow above it.
+    /// Adds a note. A note at an arrow leaves the arrow's row open.
     fn note(
         &mut self,
         alloc: Global,
@@ -114,7 +114,7 @@ impl<'a> Drawing<'a> {
         }
     }
 
-    /// Something is drawn or left out.
+    /// Draws or skips something.
     fn draw(
         &mut self,
         alloc: Global,
@@ -144,7 +144,7 @@ impl<'a> Drawing<'a> {
         }
     }
 
-    /// A `return` is an arrow, or is left out where it answers nothing.
+    /// Adds the arrow of a `return`. It is skipped if it answers no arrow.
     fn give_back(
         &mut self,
         alloc: Global,
@@ -169,7 +169,7 @@ impl<'a> Drawing<'a> {
         }
     }
 
-    /// What a statement does is done.
+    /// Performs the action of a statement.
     pub(crate) fn perform(
         &mut self,
         alloc: Global,

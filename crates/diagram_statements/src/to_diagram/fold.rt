@@ -1,4 +1,4 @@
-//! Diagrams of statements.
+//! The diagrams of statements.
 ghost use Rattle.std.specs.Prelude.{◌≡◌, [], map, IfOk};
 ghost use Rattle.diagrams.specs.Diagrams.{diagram_view, participant_view};
 ghost use Rattle.diagram_statements.specs.Readings.{read_view};
@@ -15,7 +15,7 @@ use crate::{ReadError, ReadText, Statement};
 use diagrams::{Diagram, Participant};
 use std::alloc::{AllocError, Global};
 
-/// What the statements draw.
+/// The drawing of the statements.
 fn folded<'a>(
     alloc: Global,
     breaks: Breaks,
@@ -33,7 +33,7 @@ fn folded<'a>(
     Ok(drawing)
 }
 
-/// A participant with the label that is shown.
+/// A participant with its label as it is shown.
 fn participant_of(
     alloc: Global,
     breaks: Breaks,
@@ -47,7 +47,7 @@ fn participant_of(
     })
 }
 
-/// The participants with the labels that are shown.
+/// The participants with their labels as they are shown.
 fn participants_of(
     alloc: Global,
     breaks: Breaks,
@@ -62,7 +62,7 @@ fn participants_of(
     Ok(participants)
 }
 
-/// The diagram that these statements say, from the top.
+/// The diagram of these statements, from the top.
 #[tactic(auto, unfolding(crate::specs::ToDiagram::Folds::folded_of))]
 fn folded_of(
     alloc: Global,
@@ -80,12 +80,12 @@ fn folded_of(
     })
 }
 
-/// The diagram that a text says of which this is read.
+/// The diagram of a text with these statements.
 ///
 /// # Errors
 ///
-/// The first fault from the top: a branch or an end that stands outside of a group, or what can't be read, or an end
-/// too early. Memory, where a growth was refused.
+/// The first fault from the top: a branch or an end outside of a group, text that can't be read, or an end that comes
+/// too early. Memory, if a growth was refused.
 #[tactic(auto, unfolding(crate::specs::ToDiagram::Folds::diagram_of))]
 pub fn diagram_of(alloc: Global, breaks: Breaks, read: &ReadText<'_>) -> Result<Diagram, ReadError>
     ensures { Reads diagram_view result (diagram_of breaks (read_view read.now)) }

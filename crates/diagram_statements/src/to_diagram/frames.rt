@@ -1,4 +1,4 @@
-//! Groups and boxes that are open, and which branches are taken.
+//! Open groups and boxes, and the branches that are taken.
 ghost use Rattle.std.specs.Prelude.{◌≡◌, ◌∷◌, ◌++◌, [], option_map};
 ghost use Rattle.diagram_statements.specs.ToDiagram.Acts.{act_view, act_of};
 ghost use Rattle.diagram_statements.specs.ToDiagram.Frames.{top_frame, is_taken, is_parallel, is_break, begun_kind, if_taken, branched, ended, framed};
@@ -9,18 +9,18 @@ use crate::to_diagram::act::{Act, Effect};
 use crate::{Element, Fault, Group, Place, ReadError, Statement};
 use diagrams::Kind;
 
-/// What an open group or box is.
+/// The kind of an open group or box.
 #[derive(Clone, Copy, Debug)]
 pub(crate) enum FrameKind {
     Box,
     Group(Group),
 }
 
-/// A group or a box that is open.
+/// An open group or box.
 #[derive(Clone, Copy, Debug)]
 pub(crate) struct Frame {
     pub kind: FrameKind,
-    /// Whether the statements of its present branch are taken: those around it are too.
+    /// Whether the statements of its present branch are taken. If so, those around it are too.
     pub is_taken: bool,
 }
 
@@ -64,7 +64,7 @@ fn is_break(group: Group) -> bool
     }
 }
 
-/// What is left out of a group that begins.
+/// The kind under which the beginning of a group is skipped.
 fn begun_kind(group: Group) -> Kind
     ensures { result ≡ begun_kind group }
 {
@@ -75,14 +75,14 @@ fn begun_kind(group: Group) -> Kind
     }
 }
 
-/// An act, where it is taken.
+/// An action, if it is taken.
 fn if_taken(taken: bool, act: Act<'_>) -> Option<Act<'_>>
     ensures { option_map act_view result ≡ if_taken taken (act_view act.entry) }
 {
     if taken { Some(act) } else { None }
 }
 
-/// What a statement does, whose frames stay as they are.
+/// The action of a statement that leaves the frames as they are.
 fn act_of(element: Element<'_>) -> Option<Act<'_>>
     ensures { option_map act_view result ≡ act_of (element_view element.entry) }
 {
@@ -104,7 +104,7 @@ fn act_of(element: Element<'_>) -> Option<Act<'_>>
     }
 }
 
-/// A group or a box begins.
+/// Begins a group or a box.
 fn begin<'a>(
     frames: &mut Vec<Frame>,
     kind: FrameKind,
@@ -118,7 +118,7 @@ fn begin<'a>(
     Ok(act)
 }
 
-/// Another branch of the innermost group.
+/// Begins another branch of the innermost group.
 #[tactic(auto, unfolding(crate::specs::ToDiagram::Frames::branched, crate::specs::ToDiagram::Frames::is_taken))]
 fn branch<'a>(frames: &mut Vec<Frame>, place: Place) -> Result<Option<Act<'a>>, ReadError>
     ensures { Frames result frames.new.items (branched place frames.old.items) }
@@ -140,7 +140,7 @@ fn branch<'a>(frames: &mut Vec<Frame>, place: Place) -> Result<Option<Act<'a>>, 
     begin(frames, frame.kind, around && parallel, act)
 }
 
-/// The innermost group or box ends.
+/// Ends the innermost group or box.
 #[tactic(auto, unfolding(crate::specs::ToDiagram::Frames::ended, crate::specs::ToDiagram::Frames::is_taken))]
 fn end<'a>(frames: &mut Vec<Frame>, place: Place) -> Result<Option<Act<'a>>, ReadError>
     ensures { Frames result frames.new.items (ended place frames.old.items) }
@@ -151,7 +151,7 @@ fn end<'a>(frames: &mut Vec<Frame>, place: Place) -> Result<Option<Act<'a>>, Rea
     Ok(if_taken(is_taken(frames), Act::EndGroup))
 }
 
-/// What a statement does within these frames, if it does anything, and the frames behind it.
+/// The action of a statement within these frames, if it has one. The frames are then those after it.
 #[tactic(auto, unfolding(crate::specs::ToDiagram::Frames::framed))]
 pub(crate) fn framed<'a>(
     frames: &mut Vec<Frame>,

@@ -10,11 +10,11 @@ use texts::{begins, begins_with, behind_blanks, behind_word, skip_word};
 pub enum Breaks {
     /// PlantUML's `\n`.
     PlantUml,
-    /// Mermaid's `\n` and `<br/>`, in any letters.
+    /// Mermaid's `\n` and `<br/>`, which are case-insensitive.
     Mermaid,
 }
 
-/// How many bytes a tag for a new line has that comes next; else 0.
+/// The length of a tag for a new line that comes next, or 0.
 #[tactic(auto, unfolding(crate::specs::ToDiagram::Labels::tag_length))]
 fn tag_length(bytes: &[u8]) -> usize
     ensures { result ≡ tag_length bytes.now }
@@ -30,7 +30,7 @@ fn tag_length(bytes: &[u8]) -> usize
     }
 }
 
-/// How many bytes a sign for a new line has that comes next; else 0.
+/// The length of a sign for a new line that comes next, or 0.
 #[tactic(auto, unfolding(crate::specs::ToDiagram::Labels::break_length))]
 fn break_length(breaks: Breaks, bytes: &[u8]) -> usize
     ensures { result ≡ break_length breaks bytes.now }

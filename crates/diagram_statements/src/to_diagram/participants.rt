@@ -6,7 +6,7 @@ ghost use Rattle.diagram_statements.specs.ToDiagram.Participants.{named_view, pl
 use crate::End;
 use std::alloc::AllocError;
 
-/// A participant: its word in the text, its label there, and the number of the line that names it first.
+/// A participant: its word in the text, its label there, and the number of the line that first names it.
 #[derive(Clone, Copy, Debug)]
 pub(crate) struct Named<'a> {
     pub word: &'a [u8],
@@ -51,7 +51,7 @@ fn new_named<'a>(line: u64, end: End<'a>) -> Named<'a>
     }
 }
 
-/// The place of the participant that a statement in this line names. It is new where no line above names it.
+/// The place of the participant that a statement in this line names. It is new if no line above names it.
 #[tactic(auto, unfolding(crate::specs::ToDiagram::Participants::named))]
 pub(crate) fn name<'a>(
     participants: &mut Vec<Named<'a>>,
@@ -72,7 +72,7 @@ pub(crate) fn name<'a>(
     }
 }
 
-/// A participant that a statement in this line names with its label, which stands from now on.
+/// Names a participant in this line with its label, which counts from now on.
 #[tactic(auto, unfolding(crate::specs::ToDiagram::Participants::renamed))]
 pub(crate) fn rename<'a>(
     participants: &mut Vec<Named<'a>>,
@@ -91,7 +91,7 @@ pub(crate) fn rename<'a>(
     Ok(())
 }
 
-/// The participant at this place is labelled so.
+/// Sets the label of the participant at this place.
 #[tactic(auto, using(crate::proofs::ToDiagramLemmas::LabelLemmas::labelled))]
 fn set_label<'a>(participants: &mut Vec<Named<'a>>, place: usize, label: &'a [u8])
     requires { place < length participants.old.items }

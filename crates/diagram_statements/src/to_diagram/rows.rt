@@ -1,4 +1,4 @@
-//! Rows of arrows and notes, and what is left out.
+//! Rows of arrows and notes, and the skipped constructs.
 ghost use Rattle.std.specs.Prelude.{◌≡◌, OnOk};
 ghost use Rattle.diagram_statements.specs.ToDiagram.Rows.{rows_view, sent_view, at_place, kind_of_form, is_lost, pair_of, message_of, no_rows, closed};
 ghost use Rattle.diagram_statements.specs.ToDiagram.Rows.{with_left_out, opened, with_row, with_arrow, with_note};
@@ -14,9 +14,9 @@ use std::alloc::{AllocError, Global};
 pub(crate) struct Rows {
     pub items: Vec<Item>,
     pub left_out: Vec<LeftOut>,
-    /// How many rows there are.
+    /// The number of rows.
     pub count: u64,
-    /// Whether an arrow stands directly above, so that one beside it is in its row.
+    /// Whether an arrow is directly above, so that an arrow beside it is in its row.
     pub is_open: bool,
 }
 
@@ -38,7 +38,7 @@ fn at_place(place: Place) -> diagrams::Place
     }
 }
 
-/// For what it is an arrow is left out.
+/// The kind under which an arrow of this form is skipped, if it is.
 fn kind_of_form(form: ArrowForm) -> Option<Kind>
     ensures { result ≡ kind_of_form form }
 {
@@ -59,7 +59,8 @@ fn is_lost(form: ArrowForm) -> bool
     }
 }
 
-/// The participants of an arrow that goes from one to another, or for what its ends it is left out.
+/// The participants of an arrow that goes from one to another, or the kind under which the arrow is skipped for its
+/// ends.
 fn pair_of(ends: Ends) -> Result<(usize, usize), Kind>
     ensures { result ≡ pair_of ends }
 {
@@ -75,7 +76,7 @@ fn pair_of(ends: Ends) -> Result<(usize, usize), Kind>
     }
 }
 
-/// The participants between which a message goes, or for what it is left out.
+/// The participants between which a message goes, or the kind under which the arrow is skipped.
 #[tactic(auto, unfolding(crate::specs::ToDiagram::Rows::message_of))]
 fn message_of(form: ArrowForm, ends: Ends) -> Result<(usize, usize), Kind>
     ensures { result ≡ message_of form ends }
@@ -98,21 +99,21 @@ impl Rows {
         }
     }
 
-    /// What comes is below the arrow above it.
+    /// Closes the row: the next item is below the arrow above it.
     pub(crate) fn close(&mut self)
         ensures { rows_view self.new ≡ closed (rows_view self.old) }
     {
         self.is_open = false;
     }
 
-    /// Something is left out.
+    /// Skips a construct.
     pub(crate) fn leave_out(&mut self, kind: Kind, place: Place) -> Result<(), AllocError>
         ensures { OnOk result (rows_view self.new ≡ with_left_out kind place (rows_view self.old)) }
     {
         leave_out(&mut self.left_out, kind, at_place(place))
     }
 
-    /// An arrow has a row of its own, or is beside the one above it.
+    /// Begins a row for an arrow, unless it is beside the arrow above it.
     fn open(&mut self, is_beside: bool) -> Result<(), AllocError>
         ensures { OnOk result (rows_view self.new ≡ opened is_beside (rows_view self.old)) }
     {
@@ -123,7 +124,7 @@ impl Rows {
         Ok(())
     }
 
-    /// Another row. Where its number would not fit, the answer is that of no memory.
+    /// Begins another row. F6 if its number doesn't fit.
     fn next(&mut self) -> Result<(), AllocError>
         ensures { OnOk result (rows_view self.new ≡ with_row (rows_view self.old)) }
     {
@@ -136,7 +137,7 @@ impl Rows {
         }
     }
 
-    /// An arrow is drawn: a message, unless it is left out for what it is or for its ends.
+    /// Adds an arrow as a message, unless it is skipped for its form or its ends.
     #[tactic(auto, unfolding(crate::specs::ToDiagram::Rows::with_arrow))]
     pub(crate) fn draw(
         &mut self,
@@ -166,7 +167,7 @@ impl Rows {
         }
     }
 
-    /// A note at one participant has a row of its own, if it has a text; else it is left out.
+    /// Adds a note at one participant. With a text it has a row of its own; without one it is skipped.
     #[tactic(auto, unfolding(crate::specs::ToDiagram::Rows::with_note))]
     pub(crate) fn note(
         &mut self,

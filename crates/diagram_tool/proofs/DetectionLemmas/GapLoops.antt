@@ -5,7 +5,7 @@ use Rattle.std.proofs.lemmas.Bool.{ne_eqb}
 use Rattle.std.proofs.lemmas.List.{drop-drop}
 use Rattle.diagram_tool.specs.Detection.Gaps.{gap_length, gaps_from, gaps_length}
 
--- what was passed and the gaps that are left are those of the text, and there are steps enough for what is left
+-- the passed bytes and the gaps of the rest are those of the text, and there are enough steps for the rest
 pub record AreGaps (text : List ℕ) (passed : ℕ) : Type 0 where
   pub left : ℕ
   pub within : passed ≤ length text
@@ -21,7 +21,7 @@ none_yet text = record {
   same = zero-add (gaps_from (length text) text);
 }
 
--- no gap comes here
+-- no gap is here
 none_from : (n : ℕ) (bytes : List ℕ) → gap_length bytes ≡ 0 → gaps_from n bytes ≡ 0
 none_from zero bytes none = refl
 none_from (suc n) bytes none = ap (λ g. if g == 0 then 0 else g + gaps_from n (drop g bytes)) none
@@ -30,7 +30,7 @@ pub all_passed : (text rest : List ℕ) (passed gap : ℕ) → AreGaps text pass
 all_passed text rest passed gap are back is none =
     sym (add-zero passed) ∙ ap (λ n. passed + n) (sym (none_from are.left (drop passed text) (ap gap_length (sym back) ∙ sym is ∙ none))) ∙ are.same
 
--- one step, where a gap comes
+-- one step, if a gap is here
 stepped : (n : ℕ) (bytes : List ℕ) → 0 < gap_length bytes → 0 < n → (m : ℕ) × (n ≡ suc m) × (gaps_from n bytes ≡ gap_length bytes + gaps_from m (drop (gap_length bytes) bytes))
 stepped zero bytes some enough = absurd (omega arith)
 stepped (suc m) bytes some enough =

@@ -10,16 +10,16 @@ use crate::Tool;
 use crate::detection::gaps::gaps_length;
 use texts::bytes::{Place, begins, is_spelled, is_white_space, is_word_byte};
 
-/// Why a text doesn't tell its tool.
+/// Why the tool of a text isn't known.
 #[derive(Clone, Copy, Debug, PartialEq, Eq)]
 pub enum ToolError {
-    /// F35: no tool's text begins with what stands at this place.
+    /// F35: no tool's text begins with the word at this place.
     NotRead(Place),
     /// F21: there is no word.
     Unfinished,
 }
 
-/// Whether no word goes on here.
+/// Whether a word ends here.
 fn ends_word(bytes: &[u8]) -> bool
     ensures { result ≡ ends_word bytes.now }
 {
@@ -37,7 +37,7 @@ fn begins_word(word: &[u8], bytes: &[u8]) -> bool
     begins(bytes, word) && ends_word(&bytes[word.len()..])
 }
 
-/// Whether the bytes begin with this word, in any letters.
+/// Whether the bytes begin with this word, case-insensitively.
 #[tactic(auto, unfolding(crate::specs::Detection::Detection::begins_spelled))]
 fn begins_spelled(word: &[u8], bytes: &[u8]) -> bool
     ensures { result ≡ begins_spelled word.now bytes.now }
@@ -47,7 +47,7 @@ fn begins_spelled(word: &[u8], bytes: &[u8]) -> bool
         && ends_word(&bytes[word.len()..])
 }
 
-/// Whether nothing but blanks stands on the line from here on.
+/// Whether only blanks are on the line from here on.
 fn is_bare(bytes: &[u8]) -> bool
     ensures { result ≡ is_bare bytes.now }
 {
@@ -72,7 +72,7 @@ fn begins_block(bytes: &[u8]) -> bool
     begins(bytes, b"---") && is_bare(&bytes[3..])
 }
 
-/// The tool whose first word the bytes begin with.
+/// The tool with whose first word the bytes begin.
 #[tactic(auto, unfolding(crate::specs::Detection::Detection::tool_of))]
 fn tool_of(bytes: &[u8]) -> Option<Tool>
     ensures { result ≡ tool_of bytes.now }
@@ -88,15 +88,15 @@ fn tool_of(bytes: &[u8]) -> Option<Tool>
     }
 }
 
-/// The place behind these bytes, with which the text begins.
+/// The place after these bytes, with which the text begins.
 fn place_behind(bytes: &[u8]) -> Place
     ensures { result ≡ behind start bytes.now }
 {
     Place { line: 1, column: 1 }.behind(bytes)
 }
 
-/// The tool that a text tells by its first word that stands in no comment: `msc`, `@startuml`, `sequenceDiagram` in any
-/// letters, or a line `---`. A text may begin with no byte order mark.
+/// The tool of a text, by its first word outside of comments: `msc`, `@startuml`, `sequenceDiagram` (case-insensitive),
+/// or a line `---`. The text comes without its byte order mark.
 #[tactic(auto, unfolding(crate::specs::Detection::Detection::detected_tool))]
 pub fn detected_tool(text: &[u8]) -> Result<Tool, ToolError>
     ensures { result ≡ detected_tool text.now }

@@ -6,7 +6,7 @@ ghost use Rattle.diagram_tool.specs.Detection.Gaps.{length_to, block_length, beg
 
 use texts::bytes::{begins, is_white_space, line_length};
 
-/// How many bytes stand up to the first of these and with it; all of them, where these don't stand there.
+/// The number of bytes up to the first occurrence of `end` and with it, or of all bytes without one.
 fn length_to(end: &[u8], bytes: &[u8]) -> usize
     ensures value { result ≡ length_to end.now bytes.now }
     ensures within { result ≤ length bytes.now }
@@ -23,7 +23,7 @@ fn length_to(end: &[u8], bytes: &[u8]) -> usize
     passed
 }
 
-/// How many bytes a block has with which the bytes begin.
+/// The length of the block with which the bytes begin.
 #[tactic(auto, unfolding(crate::specs::Detection::Gaps::block_length))]
 fn block_length(first: &[u8], end: &[u8], bytes: &[u8]) -> usize
     requires { length first.now ≤ length bytes.now }
@@ -33,14 +33,14 @@ fn block_length(first: &[u8], end: &[u8], bytes: &[u8]) -> usize
     first.len() + length_to(end, &bytes[first.len()..])
 }
 
-/// Whether a comment begins that goes to its line's end.
+/// Whether a comment begins that extends to the end of its line.
 fn begins_line(bytes: &[u8]) -> bool
     ensures { result ≡ begins_line bytes.now }
 {
     begins(bytes, b"#") || begins(bytes, b"'") || begins(bytes, b"//") || begins(bytes, b"%%")
 }
 
-/// How many bytes the blank or the comment has with which the bytes begin, if they do.
+/// The length of the blank or the comment with which the bytes begin, or 0.
 #[tactic(auto, unfolding(crate::specs::Detection::Gaps::gap_length))]
 fn gap_length(bytes: &[u8]) -> usize
     ensures value { result ≡ gap_length bytes.now }
@@ -68,7 +68,7 @@ fn gap_length(bytes: &[u8]) -> usize
     }
 }
 
-/// How many bytes of blanks and comments the text begins with.
+/// The number of bytes of blanks and comments at the beginning of the text.
 pub(crate) fn gaps_length(text: &[u8]) -> usize
     ensures value { result ≡ gaps_length text.now }
     ensures within { result ≤ length text.now }

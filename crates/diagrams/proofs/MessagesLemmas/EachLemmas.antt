@@ -1,4 +1,4 @@
--- What holds of each element of a list, and of each element and each later one.
+-- A property of each element of a list, and a relation between each element and each later one.
 use Rattle.std.proofs.Common.{◌≡◌, ℕ, zero, suc, Bool, true, false, cond, List, [], ◌∷◌, ◌++◌, Option, None, Some, filter, refl, ap, subst}
 use Rattle.std.specs.Prelude.{slice_get, slice_set}
 use Rattle.diagrams.specs.Messages.Each.{Each, Pairs}
@@ -28,7 +28,7 @@ module _ {A : Type 0} (P : A → Type 0) where
       go true rest = (all.0, rest)
       go false rest = rest
 
-  -- one of them, and another one in its place
+  -- one element, and another one in its place
   pub each_get : (xs : List A) (i : ℕ) (x : A) → slice_get xs i ≡ Some x → Each P xs → P x
   each_get [] i x at_i all = absurd (cc at_i)
   each_get (y ∷ xs) zero x at_i all = subst P (ap (λ (o : Option A). value_or y o) at_i) all.0
@@ -43,7 +43,7 @@ module _ {A : Type 0} (P : A → Type 0) where
   each_set (x ∷ xs) zero y all its = (its, all.1)
   each_set (x ∷ xs) (suc i) y all its = (all.0, each_set xs i y all.1 its)
 
-  -- what passes a test
+  -- the elements that pass a test
   pub each_passing : (test : A → Bool) (xs : List A) → Each (λ x. test x ≡ true → P x) xs → Each P (filter test xs)
   each_passing test [] all = tt
   each_passing test (x ∷ xs) all = go (test x) refl (each_passing test xs all.1)
@@ -61,7 +61,7 @@ module _ {A : Type 0} (R : A → A → Type 0) where
       go true rest = (each_filter (R x) test xs all.0, rest)
       go false rest = rest
 
-  -- those that pass a test, which two need not have to do with each other
+  -- the elements that pass a test; the relation need not hold for the others
   pub pairs_passing : (test : A → Bool) (xs : List A) → Pairs (λ x y. test x ≡ true → test y ≡ true → R x y) xs → Pairs R (filter test xs)
   pairs_passing test [] all = tt
   pairs_passing test (x ∷ xs) all = go (test x) refl (pairs_passing test xs all.1)
@@ -74,12 +74,12 @@ module _ {A : Type 0} (R : A → A → Type 0) where
   pairs_weaker S f [] all = tt
   pairs_weaker S f (x ∷ xs) all = (each_weaker (R x) (S x) (λ y. f x y) xs all.0, pairs_weaker S f xs all.1)
 
-  -- one element more
+  -- one more element
   pub pairs_push : (xs : List A) (y : A) → Pairs R xs → Each (λ x. R x y) xs → Pairs R (xs ++ y ∷ [])
   pairs_push [] y all to = (tt, tt)
   pairs_push (x ∷ xs) y all to = (each_append (R x) xs (y ∷ []) all.0 (to.0, tt), pairs_push xs y all.1 to.1)
 
--- two tests, one after the other in any order
+-- two tests, in either order
 pub filter_swap : {A : Type 0} (f g : A → Bool) (xs : List A) → filter f (filter g xs) ≡ filter g (filter f xs)
 filter_swap f g [] = refl
 filter_swap f g (x ∷ xs) = go (f x) (g x) refl refl (filter_swap f g xs)

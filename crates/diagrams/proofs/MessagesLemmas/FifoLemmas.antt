@@ -1,4 +1,4 @@
--- The ends of messages that follow each other, by their turns: each lane is first in, first out.
+-- The ends of messages that follow each other, sorted by their turns: each lane is first in, first out.
 use Rattle.std.proofs.Common.{◌≡◌, ℕ, ◌+◌, ◌*◌, ◌≤◌, ◌==◌, not, Bool, true, false, cond, List, [], ◌∷◌, ◌++◌, length, drop, get_or, map, filter, refl, sym, ap, ◌∙◌, subst, arith, append_assoc, eqb-true}
 use Rattle.std.specs.Prelude.{fold, nat_lt}
 use Rattle.std.proofs.lemmas.Bool.{and_parts}
@@ -15,18 +15,18 @@ use Rattle.diagrams.proofs.MessagesLemmas.HistoryLemmas.{content_of, is_of, lane
 use Rattle.chart.specs.StableOrder.Order.{put_by, in_order_by}
 use Rattle.chart.proofs.StableOrderLemmas.OrderLemmas.{Least, Rising, of_key, least_filter, rising_filter, order_rises, order_kept, same_by_key}
 
--- Some of the ends that stand by their turns.
+-- Some of the ends, in the order of their turns.
 
 abbrev turn_of : End → ℕ
 turn_of e = e.turn
 
--- an instance's ends by their turns
+-- an instance's ends, sorted by their turns
 pub own_in_turn : (p : ℕ) (came : List End) → own_ends p (in_turn came) ≡ in_turn (own_ends p came)
 own_in_turn p came = same_by_key turn_of (own_ends p (in_turn came)) (in_turn (own_ends p came)) (rising_filter turn_of (λ (e : End). e.instance == p) (in_turn came) (order_rises turn_of came)) (order_rises turn_of (own_ends p came))
     (λ t. filter_swap (λ (e : End). e.turn == t) (λ (e : End). e.instance == p) (in_turn came) ∙ ap (own_ends p) (order_kept turn_of t came)
     ∙ sym (filter_swap (λ (e : End). e.turn == t) (λ (e : End). e.instance == p) came) ∙ sym (order_kept turn_of t (own_ends p came)))
 
--- those that pass two tests, where they come by their turns
+-- the ends that pass two tests, if they come in the order of their turns
 twice_kept : (f g : End → Bool) (came : List End) → Rising turn_of (filter f (filter g came)) → filter f (filter g (in_turn came)) ≡ filter f (filter g came)
 twice_kept f g came rising = same_by_key turn_of (filter f (filter g (in_turn came))) (filter f (filter g came)) (rising_filter turn_of f (filter g (in_turn came)) (rising_filter turn_of g (in_turn came) (order_rises turn_of came))) rising
     (λ t. through t (in_turn came) ∙ ap (λ l. filter f (filter g l)) (order_kept turn_of t came) ∙ sym (through t came))
@@ -98,7 +98,7 @@ lane_receives q p (m ∷ messages) = go m.is_lost refl (goes q p m) refl (lane_r
     go false l true e rest = rw (e, l) (ap (λ x. receive_end m ∷ x) rest)
     go false l false e rest = rw e rest
 
--- they come by their turns
+-- they come in the order of their turns
 least_sends : (t : ℕ) (messages : List Named) → Each (λ m. t ≤ 2 * m.begins) messages → Least turn_of t (map send_end messages)
 unfolding Least
 least_sends t [] all = tt
@@ -121,7 +121,7 @@ receives_rise [] all = tt
 receives_rise (m ∷ messages) all =
     (least_receives (2 * m.ends + 1) messages (each_weaker (λ n. m.ends ≤ n.ends) (λ n. 2 * m.ends + 1 ≤ 2 * n.ends + 1) (λ n le. omega (arith, le)) messages all.0), receives_rise messages all.1)
 
--- those of a lane that are received are its first
+-- the received messages of a lane are its first ones
 none_received : (messages : List Named) → Each (λ n. n.is_lost ≡ true) messages → received_of messages ≡ []
 none_received [] all = refl
 none_received (m ∷ messages) all = rw all.0 (none_received messages all.1)
@@ -135,12 +135,12 @@ received_first (m ∷ messages) all = go m.is_lost refl (received_first messages
     go true e (rest, is) = (m ∷ messages, sym (ap (λ l. l ++ m ∷ messages) (none_received messages (each_weaker (λ n. m.is_lost ≡ true → n.is_lost ≡ true) (λ n. n.is_lost ≡ true) (λ n f. f e) messages all.0))))
     go false e (rest, is) = (rest, ap (λ l. m ∷ l) is)
 
--- the least turn of the sends that are still to come
+-- the least turn of the sends to come
 least_first : (t : ℕ) (m : Named) (later : List Named) (ends : List End) → Least turn_of t ends → sends_of ends ≡ map send_end (m ∷ later) → t ≤ 2 * m.begins
 unfolding Least
 least_first t m later ends least is = (subst (Least turn_of t) is (least_filter turn_of t (λ (e : End). e.sends) ends least)).0
 
--- what receives take of the messages that wait on a lane, in the order of their sends
+-- receives take the messages that wait on a lane, in the order of their sends
 abbrev pub TakesFirst : List Named → List End → Type 0
 TakesFirst rest ends = (waits later taken : List Named) → sends_of ends ≡ map send_end later → receives_of ends ≡ map receive_end taken
     → waits ++ later ≡ taken ++ rest → Each (λ m. m.begins ≤ m.ends) taken → Fifo (map content waits) ends
@@ -185,7 +185,7 @@ is_false : (b : Bool) → not b ≡ true → b ≡ false
 is_false true e = absurd (cc e)
 is_false false e = refl
 
--- each lane of such messages
+-- each lane of messages that follow each other is first in, first out
 pub lane_fifo : (messages : List Named) → Pairs Follows messages → Each (λ m. m.is_lost ≡ false → m.begins ≤ m.ends) messages → (q p : ℕ) → Fifo [] (lane_ends q p (in_turn (all_ends messages)))
 lane_fifo messages follow down q p =
     first_out first.0 (lane_ends q p (in_turn (all_ends messages))) (rising_filter turn_of (is_of q p) (in_turn (all_ends messages)) (order_rises turn_of (all_ends messages))) [] own (received_of own)

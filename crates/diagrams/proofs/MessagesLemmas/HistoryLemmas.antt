@@ -1,5 +1,5 @@
--- The history of ends that come one after the other, each line's in their order, and each lane's first in, first out: it
--- is legal, and its lines are those of the ends.
+-- The history of ends that come one after the other. Each line's ends come in order, and each lane is first in, first
+-- out. The history is legal, and its lines are those of the ends.
 use Rattle.std.proofs.Common.{◌≡◌, ℕ, suc, ◌+◌, ◌<◌, ◌≤◌, ◌==◌, Bool, true, false, cond, List, [], ◌∷◌, ◌++◌, length, filter, Option, Some, refl, sym, ap, ◌∙◌, subst, arith, length-drop}
 use Rattle.std.proofs.lemmas.Bool.{eqb-true, eqb-false, eq-eqb, and_parts}
 use Rattle.std.proofs.lemmas.List.{length_push}
@@ -24,36 +24,36 @@ use Rattle.diagrams.proofs.MessagesLemmas.LineLemmas.{may_come, open_next}
 abbrev pub content_of : End → Content
 content_of e = record { name = e.name; body = [] }
 
--- it is of a message from q to p
+-- the end is one of a message from q to p
 abbrev pub is_of : ℕ → ℕ → End → Bool
 is_of q p e = cond e.sends (is_lane e.instance e.partner q p) (is_lane e.partner e.instance q p)
 
 abbrev pub lane_ends : ℕ → ℕ → List End → List End
 lane_ends q p ends = filter (is_of q p) ends
 
--- of the messages that wait on a lane, and those that are sent, each receive takes the first
+-- each receive takes the first of the messages that wait on a lane
 abbrev pub Fifo : List Content → List End → Type 0
 Fifo ms [] = Unit {0}
 Fifo ms (e ∷ ends) = (e.sends ≡ true → Fifo (ms ++ content_of e ∷ []) ends)
     × (e.sends ≡ false → (m : Content) × (rest : List Content) × (ms ≡ m ∷ rest) × (m.name ≡ e.name) × Fifo rest ends)
 
--- the coregion of an end where it comes
+-- the coregion of an end at its place in the history
 abbrev pub region_at : List Occurrence → (ℕ → Option End) → End → List End → ℕ
 region_at h lasts e ends = region_of (lasts e.instance) (greatest_region (chart_of h e.instance)) e (own_ends e.instance ends)
 
--- what happens at an end
+-- the occurrence of an end
 abbrev pub happening : List Occurrence → (ℕ → Option End) → End → List End → Occurrence
 happening h lasts e ends = cond e.sends (Send e.instance e.partner (content_of e)) (Receive e.instance e.partner (region_at h lasts e ends))
 
 abbrev pub with_last : (ℕ → Option End) → End → ℕ → Option End
 with_last lasts e p = cond (e.instance == p) (Some e) (lasts p)
 
--- what happens at all of them
+-- the history, with the occurrences of these ends
 abbrev pub history_from : List Occurrence → (ℕ → Option End) → List End → List Occurrence
 history_from h lasts [] = h
 history_from h lasts (e ∷ ends) = history_from (happening h lasts e ends ∷ h) (with_last lasts e) ends
 
--- what holds of a history and of the ends that are still to come, among n instances whose lanes have k slots
+-- the properties of a history and of the ends to come, among n instances whose lanes have k slots
 pub record Stands (n k : ℕ) (h : List Occurrence) (lasts : ℕ → Option End) (ends : List End) : Type 0 where
   pub legal : IsLegal n k h
   pub opened : (q p : ℕ) → is_closed h q p ≡ false
@@ -63,7 +63,7 @@ pub record Stands (n k : ℕ) (h : List Occurrence) (lasts : ℕ → Option End)
   pub is_open : (p : ℕ) → IsOpen (lasts p) (chart_of h p) (own_ends p ends)
   pub fifo : (q p : ℕ) → Fifo (waiting h q p) (lane_ends q p ends)
 
--- no more were sent than anything happened
+-- a history has at least as many occurrences as sent messages
 sent-few : (h : List Occurrence) (q p : ℕ) → length (sent h q p) ≤ length h
 sent-few [] q p = omega arith
 sent-few (Send a b m ∷ h) q p = go (is_lane a b q p) (sent-few h q p)
@@ -77,14 +77,14 @@ sent-few (Close a b ∷ h) q p = omega (arith, sent-few h q p)
 waiting-few : (h : List Occurrence) (q p : ℕ) → length (waiting h q p) ≤ length h
 waiting-few h q p = omega (arith, sent-few h q p, length-drop (received h q p) (sent h q p))
 
--- an end of an instance's line stands first there
+-- an end is the first of the ends of its instance
 own_first : (e : End) (ends : List End) → own_ends e.instance (e ∷ ends) ≡ e ∷ own_ends e.instance ends
 own_first e ends = rw (eq-eqb e.instance e.instance refl) refl
 
 own_other : (p : ℕ) (e : End) (ends : List End) → (e.instance == p) ≡ false → own_ends p (e ∷ ends) ≡ own_ends p ends
 own_other p e ends other = rw other refl
 
--- what the line of the end's instance gets
+-- an occurrence that appends an end's event to the line of its instance
 pub record Adds (h : List Occurrence) (o : Occurrence) (lasts : ℕ → Option End) (e : End) (ends : List End) : Type 0 where
   pub who : by o ≡ e.instance
   pub line : chart_of (o ∷ h) e.instance ≡ chart_of h e.instance ++ event_of e (region_at h lasts e ends) ∷ []
@@ -97,7 +97,7 @@ module _ (n k : ℕ) (h : List Occurrence) (lasts : ℕ → Option End) (e : End
   open_here : IsOpen (lasts e.instance) (chart_of h e.instance) (e ∷ own_ends e.instance ends)
   open_here = subst (IsOpen (lasts e.instance) (chart_of h e.instance)) (own_first e ends) (s.is_open e.instance)
 
-  -- each line then
+  -- each line after that
   room_next : (o : Occurrence) → Adds h o lasts e ends → (p : ℕ) → length (chart_of (o ∷ h) p) + length (own_ends p ends) ≤ MAX_EVENTS
   room_next o adds p = go (e.instance == p) refl
     where
@@ -160,7 +160,7 @@ module _ (n k : ℕ) (h : List Occurrence) (lasts : ℕ → Option End) (e : End
     fifo = send_fifo sends;
   }
 
-  -- a receive takes the first that waits
+  -- a receive takes the first message that waits
   first_waits : e.sends ≡ false → (m : Content) × (rest : List Content) × (waiting h e.partner e.instance ≡ m ∷ rest) × (m.name ≡ e.name) × Fifo rest (lane_ends e.partner e.instance ends)
   first_waits receives =
       let its : is_of e.partner e.instance e ≡ true =
@@ -217,7 +217,7 @@ module _ (n k : ℕ) (h : List Occurrence) (lasts : ℕ → Option End) (e : End
     fifo = receive_fifo receives;
   }
 
-  -- either
+  -- a send or a receive
   pub happens : Stands n k (happening h lasts e ends ∷ h) (with_last lasts e) ends × Adds h (happening h lasts e ends) lasts e ends
   happens = go e.sends refl
     where

@@ -15,7 +15,7 @@ use Rattle.diagrams.specs.declared.messages.end.End.{End}
 use Rattle.diagrams.specs.declared.messages.message.Named.{Named}
 use Rattle.diagrams.proofs.MessagesLemmas.ListLemmas.{from_here}
 
--- one message more
+-- one more message
 pub ends_more : (done next : List End) (n : ℕ) (messages : List Named) (m : Named) → n < length messages → m ≡ get_or messages n m
     → next ≡ done ++ ends_of m → next ++ all_ends (drop (n + 1) messages) ≡ done ++ all_ends (drop n messages)
 unfolding all_ends
@@ -41,12 +41,12 @@ may_come last line e ends is_open = go e.sends (goes_on last e) (begins e ends) 
     go false false true kept = inr (inl refl)
     go false false false kept = inl refl
 
--- a line ends in its greatest coregion with an event of one that is no less
+-- an event whose coregion is at least the greatest one ends a line in its greatest coregion
 open_at : (line : List Event) (m : Event) → 0 < events.region_of m → greatest_region line ≤ events.region_of m
     → (0 < greatest_region (line ++ m ∷ [])) × (greatest_region (line ++ m ∷ []) ≡ last_region (line ++ m ∷ []))
 open_at line m begun no_less = (omega (arith, greatest_region-push line m), omega (arith, greatest_region-push line m, last_region-push line m))
 
--- what the line is then
+-- the line after the next end
 pub open_next : (last : Option End) (line : List Event) (e : End) (ends : List End) → IsOpen last line (e ∷ ends) → IsOpen (Some e) (line ++ event_of e (region_of last (greatest_region line) e ends) ∷ []) ends
 open_next last line e [] is_open = record { held = λ h. absurd (cc h) }
 open_next last line e (f ∷ ends) is_open = record { held = λ h. go e.sends (goes_on last e) (and_parts (not e.sends) (not f.sends && e.turn == f.turn) h).0 h is_open.held }
@@ -63,7 +63,7 @@ open_next last line e (f ∷ ends) is_open = record { held = λ h. go e.sends (g
 pub end_here : (ends : List End) (n : ℕ) (e : End) (last : Option End) (line : List Event) → n < length ends → e ≡ get_or ends n e → IsOpen last line (drop n ends) → IsOpen last line (e ∷ drop (n + 1) ends)
 end_here ends n e last line within is is_open = subst (IsOpen last line) (from_here ends n e within is) is_open
 
--- an end more, and all ends
+-- one more end, and all ends
 pub line_more : (last : Option End) (line more : List Event) (ends : List End) (n : ℕ) (e : End) → n < length ends → e ≡ get_or ends n e
     → more ≡ line ++ event_of e (region_of last (greatest_region line) e (drop (n + 1) ends)) ∷ []
     → with_ends (Some e) more (drop (n + 1) ends) ≡ with_ends last line (drop n ends)

@@ -7,7 +7,7 @@ use Rattle.diagrams.specs.Messages.Lines.{lines_from}
 use Rattle.diagrams.specs.Messages.Regions.{line_of}
 use Rattle.diagrams.specs.declared.messages.end.End.{End}
 
--- one line more
+-- one more line
 pub lines_more : (ends : List End) (place count : ℕ) (done next : List LineView) (line : LineView) → place < count → line ≡ line_of (place + 1) ends → next ≡ done ++ line ∷ []
     → next ++ lines_from ends (place + 1 + 1) (count - (place + 1)) ≡ done ++ lines_from ends (place + 1) (count - place)
 unfolding lines_from

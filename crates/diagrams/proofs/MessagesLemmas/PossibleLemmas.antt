@@ -1,4 +1,4 @@
--- The lines of messages that follow each other are a possible chart's.
+-- The lines of messages that follow each other are those of a possible chart.
 use Rattle.std.proofs.Common.{◌≡◌, ℕ, zero, suc, ◌≤◌, Bool, true, false, cond, List, [], ◌∷◌, ◌++◌, length, map, None, refl, sym, ap, ◌∙◌, subst, arith, add-one}
 use Rattle.std.specs.List.{range_with_len}
 use Rattle.chart.specs.declared.history.Occurrence.{Occurrence}
@@ -19,7 +19,7 @@ use Rattle.chart.proofs.StableOrderLemmas.OrderLemmas.{order_length}
 use Rattle.diagrams.proofs.MessagesLemmas.HistoryLemmas.{Stands, history_from, history_legal, history_chart}
 use Rattle.diagrams.proofs.MessagesLemmas.LineLemmas.{open_none}
 
--- the ends of two instances
+-- each end is between two instances
 pub ends_two : (n : ℕ) (messages : List Named) → Each (IsMessage n) messages → Each (λ e. AreTwo n e.instance e.partner) (all_ends messages)
 unfolding all_ends
 ends_two n [] all = tt

@@ -1,4 +1,4 @@
--- Lines that have room for the ends of messages that a chart can be drawn of.
+-- Lines have room for the ends of messages that have a chart.
 use Rattle.std.proofs.Common.{◌≡◌, ◌≢◌, ℕ, ◌+◌, ◌<◌, ◌==◌, Bool, true, false, cond, List, [], ◌∷◌, ◌++◌, length, drop, get_or, refl, sym, ap, ◌∙◌, subst, arith, eqb-true}
 use Rattle.std.proofs.lemmas.List.{length-append}
 use Rattle.chart.specs.declared.event.Event.{Event}
@@ -18,7 +18,7 @@ use Rattle.diagrams.proofs.MessagesLemmas.ListLemmas.{from_here}
 use Rattle.diagrams.proofs.MessagesLemmas.PossibleLemmas.{ends_two}
 use Rattle.chart.proofs.StableOrderLemmas.OrderLemmas.{order_length}
 
--- none of an instance's ends has it for its partner
+-- none of an instance's ends has it as its partner
 own_apart : (n p : ℕ) (ends : List End) → Each (λ e. AreTwo n e.instance e.partner) ends → Each (λ e. e.partner ≢ p) (own_ends p ends)
 own_apart n p ends all =
     each_passing (λ (e : End). e.partner ≢ p) (λ (e : End). e.instance == p) ends
@@ -36,7 +36,7 @@ room_in_turn p ends has = record { apart = turn_each (λ (e : End). e.partner �
 pub room_here : (p : ℕ) (line : List Event) (ends : List End) (n : ℕ) (e : End) → n < length ends → e ≡ get_or ends n e → HasRoom p line (drop n ends) → HasRoom p line (e ∷ drop (n + 1) ends)
 room_here p line ends n e within is has = subst (HasRoom p line) (from_here ends n e within is) has
 
--- an event more, for the first of them
+-- one more event, for the first of them
 pub room_more : (p : ℕ) (line more : List Event) (m : Event) (e : End) (ends : List End) → HasRoom p line (e ∷ ends) → more ≡ line ++ m ∷ [] → HasRoom p more ends
 room_more p line more m e ends has is = record { apart = has.apart.1; room = omega (arith, has.room, ap length is, length-append line (m ∷ [])) }
 

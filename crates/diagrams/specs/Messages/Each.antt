@@ -1,4 +1,4 @@
--- What holds of each element of a list, and of each element and each later one.
+-- A property of each element of a list, and a relation between each element and each later one.
 use Rattle.std.specs.Prelude.{List, [], ◌∷◌}
 
 abbrev pub Each : {A : Type 0} → (A → Type 0) → List A → Type 0

@@ -1,5 +1,5 @@
--- Messages of which a chart can be drawn: each lane is first in, first out (Alur, Holzmann and Peled 1996), and no line
--- has too many events.
+-- Messages that have a chart: each lane is first in, first out (Alur, Holzmann and Peled 1996), and no line has too
+-- many events.
 use Rattle.std.specs.Prelude.{◌≡◌, ℕ, ◌≤◌, true, false, List, length}
 use Rattle.chart.specs.declared.line.TheConstants.{MAX_EVENTS}
 use Rattle.chart.specs.Histories.{AreTwo}
@@ -7,7 +7,7 @@ use Rattle.diagrams.specs.Messages.Each.{Each, Pairs}
 use Rattle.diagrams.specs.Messages.Turns.{all_ends, own_ends}
 use Rattle.diagrams.specs.declared.messages.message.Named.{Named}
 
--- n stands below m: it is no earlier sent, on m's lane no earlier received, and lost there if m is
+-- n follows m: it isn't sent earlier; on m's lane it isn't received earlier, and it is lost if m is lost
 pub record Follows (m n : Named) : Type 0 where
   pub order : m.begins ≤ n.begins
   pub taken : m.sender ≡ n.sender → m.receiver ≡ n.receiver → m.is_lost ≡ false → n.is_lost ≡ false → m.ends ≤ n.ends
@@ -18,7 +18,7 @@ pub record IsMessage (n : ℕ) (m : Named) : Type 0 where
   pub two : AreTwo n m.sender m.receiver
   pub down : m.is_lost ≡ false → m.begins ≤ m.ends
 
--- messages of which a chart of n instances can be drawn
+-- messages that have a chart of n instances
 pub record AreBuildable (n : ℕ) (messages : List Named) : Type 0 where
   pub each : Each (IsMessage n) messages
   pub follow : Pairs Follows messages

@@ -1,5 +1,5 @@
--- The events of an instance's line, of its ends in their order. Several receives of one row are a coregion: it is what
--- the drawing says.
+-- The events of an instance's line, made from its ends in their order. Several receives of one row are a coregion,
+-- because the drawing doesn't order them.
 use Rattle.std.specs.Prelude.{ℕ, ◌+◌, Bool, false, not, ◌&&◌, ◌==◌, List, [], ◌∷◌, ◌++◌, Option, None, Some, if◌then◌else◌}
 use Rattle.chart.specs.declared.event.Event.{Event}
 use Rattle.chart.specs.Charts.{LineView}
@@ -19,7 +19,7 @@ abbrev pub begins : End → List End → Bool
 begins e [] = false
 begins e (next ∷ ends) = are_together e next
 
--- the coregion of an end, where the line so far has coregions up to this one: that of the last end, a new one, or none
+-- the coregion of an end: that of the last end, a new one, or none; the line so far has coregions up to `greatest`
 abbrev pub region_of : Option End → ℕ → End → List End → ℕ
 region_of last greatest e ends = if goes_on last e then greatest else (if begins e ends then greatest + 1 else 0)
 
@@ -27,7 +27,7 @@ region_of last greatest e ends = if goes_on last e then greatest else (if begins
 abbrev pub event_of : End → ℕ → Event
 event_of e region = if e.sends then send_event e.partner e.name else receive_event e.partner e.name region
 
--- the line so far with these ends
+-- the line so far, with the events of these ends
 unfoldable pub with_ends : Option End → List Event → List End → List Event
 with_ends last line [] = line
 with_ends last line (e ∷ ends) =

@@ -1,19 +1,19 @@
--- The ends of messages, and the order in which they stand on an instance's line: by their rows, and in a row the sends
--- first, in the order of the text, and then the receives.
+-- The ends of messages, and their order on an instance's line: by their rows. In a row the sends come first, in the
+-- order of the text, and then the receives.
 use Rattle.std.specs.Prelude.{ℕ, ◌+◌, ◌*◌, true, false, ◌==◌, List, [], ◌∷◌, ◌++◌, filter, if◌then◌else◌}
 use Rattle.chart.specs.StableOrder.Order.{in_order_by}
 use Rattle.diagrams.specs.declared.messages.message.Named.{Named}
 use Rattle.diagrams.specs.declared.messages.end.End.{End}
 
--- where a message is sent: the turn of a row's sends is before that of its receives
+-- the send of a message: the turn of a row's sends is before that of its receives
 abbrev pub send_end : Named → End
 send_end m = record { turn = 2 * m.begins; instance = m.sender; partner = m.receiver; sends = true; name = m.name }
 
--- where it is received
+-- the receive of a message
 abbrev pub receive_end : Named → End
 receive_end m = record { turn = 2 * m.ends + 1; instance = m.receiver; partner = m.sender; sends = false; name = m.name }
 
--- its ends: a lost one has no receive
+-- the ends of a message: a lost one has no receive
 abbrev pub ends_of : Named → List End
 ends_of m = if m.is_lost then send_end m ∷ [] else send_end m ∷ receive_end m ∷ []
 
@@ -26,6 +26,6 @@ all_ends (m ∷ messages) = ends_of m ++ all_ends messages
 abbrev pub own_ends : ℕ → List End → List End
 own_ends p ends = filter (λ e. e.instance == p) ends
 
--- the ends by their turns, those of one turn in the order of the text
+-- the ends sorted by their turns, those of one turn in the order of the text
 abbrev pub in_turn : List End → List End
 in_turn ends = in_order_by (λ (e : End). e.turn) ends

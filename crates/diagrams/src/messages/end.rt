@@ -18,7 +18,7 @@ pub struct End {
     pub name: Name,
 }
 
-/// Where a message is sent. Where the turn would not fit, the answer is F6.
+/// The send of a message. F6 if its turn doesn't fit.
 fn send_end(message: &Named) -> Result<End, AllocError>
     ensures { IfOk result (λ end. end ≡ send_end message.now) }
 {
@@ -34,7 +34,7 @@ fn send_end(message: &Named) -> Result<End, AllocError>
     })
 }
 
-/// Where it is received. Where the turn would not fit, the answer is F6.
+/// The receive of a message. F6 if its turn doesn't fit.
 fn receive_end(message: &Named) -> Result<End, AllocError>
     ensures { IfOk result (λ end. end ≡ receive_end message.now) }
 {
@@ -53,7 +53,7 @@ fn receive_end(message: &Named) -> Result<End, AllocError>
     })
 }
 
-/// The ends of a message go behind the others.
+/// Appends the ends of a message.
 fn add_ends(ends: &mut Vec<End>, message: &Named) -> Result<(), AllocError>
     ensures { OnOk result (ends.new.items ≡ ends.old.items ++ ends_of message.now) }
 {
@@ -85,7 +85,7 @@ fn own_ends(alloc: Global, instance: InstanceNo, ends: &[End]) -> Result<Vec<End
         .collect(alloc)
 }
 
-/// The ends by their turns.
+/// Sorts the ends by their turns.
 fn put_in_turn(ends: &mut Vec<End>) -> Result<(), AllocError>
     ensures { OnOk result (ends.new.items ≡ in_turn ends.old.items) }
 {
@@ -93,7 +93,7 @@ fn put_in_turn(ends: &mut Vec<End>) -> Result<(), AllocError>
     Ok(())
 }
 
-/// An instance's ends by their turns.
+/// An instance's ends, sorted by their turns.
 pub(crate) fn ends_in_turn(
     alloc: Global,
     instance: InstanceNo,

@@ -1,4 +1,4 @@
-//! The lines of a chart, of the ends of its messages.
+//! The lines of a chart, made from the ends of its messages.
 ghost use Rattle.std.specs.Prelude.{◌≡◌, ◌≢◌, ◌<◌, ◌≤◌, ◌+◌, ◌++◌, ◌∷◌, [], length, drop, IfOk, OnOk};
 ghost use Rattle.chart.specs.Events.{greatest_region, partner_of, MayHaveRegion, region_of as chart_region_of};
 ghost use Rattle.chart.specs.declared.line.TheConstants.{MAX_EVENTS};
@@ -69,7 +69,7 @@ fn event_of(end: &End, region: u32) -> Event
     }
 }
 
-/// One event more, which the line takes.
+/// Appends an event, for which the line has room.
 fn push(line: &mut Line, event: Event) -> Result<(), AllocError>
     requires region { MayHaveRegion line.old.events (chart_region_of event) }
     requires apart { partner_of event ≢ line.old.instance }
@@ -94,7 +94,7 @@ fn greatest_region(line: &Line) -> u32
     growing.greatest_region()
 }
 
-/// The ends behind the one at this place.
+/// The ends after the one at this place.
 fn behind(ends: &[End], place: usize) -> &[End]
     requires { place < length ends.now }
     ensures { result.now ≡ drop (place + 1) ends.now }
@@ -102,7 +102,7 @@ fn behind(ends: &[End], place: usize) -> &[End]
     &ends[place + 1..]
 }
 
-/// An end goes behind the events of a line.
+/// Appends the event of an end to a line.
 fn add_end(line: &mut Line, last: Option<End>, end: &End, others: &[End]) -> Result<(), AllocError>
     requires coregion { IsOpen last line.old.events (end.now ∷ others.now) }
     requires room { HasRoom line.old.instance line.old.events (end.now ∷ others.now) }
@@ -114,7 +114,7 @@ fn add_end(line: &mut Line, last: Option<End>, end: &End, others: &[End]) -> Res
     push(line, event_of(end, region))
 }
 
-/// The line of an instance, of the ends of all messages, for which it has room.
+/// The line of an instance, made from the ends of all messages. It has room for its own ends.
 pub(crate) fn line_of(alloc: Global, instance: InstanceNo, ends: &[End]) -> Result<Line, AllocError>
     requires { HasRoom instance [] (own_ends instance ends.now) }
     ensures { IfOk result (λ line. line ≡ line_of instance ends.now) }

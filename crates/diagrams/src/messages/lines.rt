@@ -13,7 +13,7 @@ use crate::messages::message::Named;
 use chart::{Chart, InstanceNo, Line};
 use std::alloc::{AllocError, Global};
 
-/// The lines of so many instances, each of which has room for its ends.
+/// The lines of `count` instances, each of which has room for its ends.
 fn lines_of(alloc: Global, ends: &[End], count: usize) -> Result<Vec<Line>, AllocError>
     requires count { count ≤ MAX_INSTANCES }
     requires room { (p : ℕ) → HasRoom p [] (own_ends p ends.now) }
@@ -26,11 +26,11 @@ fn lines_of(alloc: Global, ends: &[End], count: usize) -> Result<Vec<Line>, Allo
     Ok(lines)
 }
 
-/// The chart of these messages, for so many instances. It fails only where there is no memory, or where a row is so far
-/// down that twice its number doesn't fit. It takes time in proportion to n log n for n messages.
+/// The chart of these messages, for `count` instances. It fails only if memory runs out, or if twice the number of a
+/// row doesn't fit. The time is in proportion to n log n for n messages.
 ///
-/// In each row an instance's sends come first, in the order of the messages, and then its receives, which are a
-/// coregion where they are several.
+/// In each row an instance's sends come first, in the order of the messages, and then its receives. Several receives of
+/// a row are a coregion.
 pub fn chart_of(alloc: Global, messages: &[Named], count: usize) -> Result<Chart, AllocError>
     requires several { 2 ≤ count }
     requires few { count ≤ MAX_INSTANCES }

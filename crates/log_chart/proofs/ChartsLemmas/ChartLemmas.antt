@@ -1,4 +1,4 @@
--- The lines of a log's hosts are a chart's, and it is a possible one.
+-- The lines of a log's hosts are lines of a chart, and the chart is possible.
 use Rattle.std.proofs.Common.{◌≡◌, ◌≢◌, ℕ, suc, ◌<◌, ◌≤◌, inl, Bool, true, false, cond, List, None, Some, length, get_or, map, take, refl, sym, ap, ◌∙◌, subst, arith}
 use Rattle.std.specs.Prelude.{All, slice_get}
 use Rattle.std.proofs.lemmas.List.{length-map}
@@ -94,7 +94,7 @@ module _ (n : ℕ) (log : List Entry) (among : AreAmong n log) where
         let own = partner_in n from to log lanes among e.instance e.index x.0 x.1 in
         subst (λ q. 1 ≤ q) (sym (event_partner log x.0) ∙ ap partner_of x.2) own.0
 
-  -- the chart of a log whose streams are of one lane each
+  -- the chart of a log whose streams are on one lane each
   pub is_chart : HaveLanes log → 2 ≤ n → n ≤ MAX_INSTANCES → first_full 1 (host_lines n log) ≡ None → IsChart (chart_from log 1 (host_lines n log))
   is_chart (from, to, lanes) several limit none = chart_is from to lanes several limit none
 

@@ -34,7 +34,7 @@ use Rattle.log_chart.proofs.ChartsLemmas.PlacedLemmas.IsOf.{head, own, after}
 use Rattle.log_chart.proofs.ChartsLemmas.RoundLemmas.{no_cycle}
 use Rattle.log_chart.proofs.ChartsLemmas.TurnLemmas.{ith_of, event_sends, event_receives, received_is}
 
--- messages by the lines that name them
+-- messages, by the lines that name them
 sent_same : (a b : ℕ) → Sent a ≡ Sent b → a ≡ b
 sent_same a b e = cc e
 
@@ -45,8 +45,8 @@ sent_begun : (a b : ℕ) → Sent a ≡ BegunMessage b → ⊥
 sent_begun a b e = absurd (cc e)
 
 module _ (lines : List LogLine) where
-  -- what an event has to do with another one that is before it, by the lines at which they stand: a line comes before the
-  -- other, or they stand at one and are in this order
+  -- how an event relates to another one that is before it, by the lines of the log to which they belong: the one line
+  -- comes before the other, or it is the same line and the events are in this order
   abbrev IsSooner : Option ℕ → Option ℕ → Place → Place → Type 0
   IsSooner None None e f = (e.instance ≡ f.instance) × (e.index < f.index)
   IsSooner None (Some b) e f = Unit {0}
@@ -81,7 +81,7 @@ module _ (n : ℕ) (from to : ℕ → ℕ) (log : List Entry) (lanes : AreOfLane
   stands_of None = None
   stands_of (Some w) = w.stands
 
-  -- where an event stands
+  -- to which line an event belongs
   abbrev stands_at : Place → Option ℕ
   stands_at e = stands_of (ith (Host e.instance) e.index)
 
@@ -89,12 +89,12 @@ module _ (n : ℕ) (from to : ℕ → ℕ) (log : List Entry) (lanes : AreOfLane
   sooner_at e f w v w_is v_is its =
       subst (λ a. IsSooner Lines a (stands_at f) e f) (sym (ap stands_of w_is)) (subst (λ b. IsSooner Lines w.stands b e f) (sym (ap stands_of v_is)) its)
 
-  -- the event of a host that stands there
+  -- the event of a host that belongs there
   placed_at : (e : Place) (x : Item) → ith (line_of n log e.instance) e.index ≡ Some x → (w : Placed) × (ith (Host e.instance) e.index ≡ Some w) × (w.item ≡ x)
   placed_at e x is =
       ith_of (λ (w : Placed). w.item) (Host e.instance) e.index x (subst (λ l. ith l e.index ≡ Some x) (sym (items_placed (by_name n log) (kept log) (begun (kept log)) e.instance)) is)
 
-  -- the line at which it stands
+  -- the line to which it belongs
   host_line : (q a : ℕ) (w : Placed) → IsOf n Lines (begun Lines) q w → w.stands ≡ Some a → (x : LogLine) × Contains Lines x × (x.entry.host ≡ q) × (x.number ≡ a)
   host_line q a w (head p r low high there item none) is = absurd (let none_is = sym none ∙ is in cc none_is)
   host_line q a w (own x x_in x_host item stands) is = (x, x_in, x_host, same_Some x.number a (sym stands ∙ is))
@@ -138,7 +138,7 @@ module _ (n : ℕ) (from to : ℕ → ℕ) (log : List Entry) (lanes : AreOfLane
                 inl (direct (host y.0 z.0 y.1 z.1 y.3 z.3 (y.2 ∙ sym z.2) less))
           ]
 
-  -- a send that stands at a line of the log, by its message
+  -- a send that belongs to a line of the log, by its message
   sends_at : (q : ℕ) (w : Placed) (v : LogLine) → Contains Lines v → IsOf n Lines (begun Lines) q w → w.item.sends ≡ true → w.item.message ≡ received_message v.number v.send → (e f : Place)
       → IsSooner Lines w.stands (Some v.number) e f
   sends_at q w v v_in (head p r low high there item none) sends same e f = subst (λ a. IsSooner Lines a (Some v.number) e f) (sym none) tt

@@ -66,7 +66,7 @@ module _ (n : ℕ) (from to : ℕ → ℕ) (log : List Entry) (lanes : AreOfLane
           let received = ap (λ l. tally (is_receive_from q) l r.index) (line_is n log r.instance p_in.0 p_in.1) in
           omega (arith, enough, sent, received, fewer)
 
-  -- a message has one name at both ends
+  -- a message has the same name at both ends
   pub same_names : (s r : Place) (a b : Event) → BelongsTo (chart_of_log n log) s r → chart_event (chart_of_log n log) s ≡ Some a → chart_event (chart_of_log n log) r ≡ Some b → name_of a ≡ name_of b
   same_names s r a b belongs a_is b_is =
       let it = message_is n from to log lanes s r belongs in

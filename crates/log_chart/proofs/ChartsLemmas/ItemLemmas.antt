@@ -24,7 +24,7 @@ abbrev pub AllBelow : ℕ → List ℕ → Type 0
 AllBelow n [] = Unit {0}
 AllBelow n (x ∷ xs) = (x < n) × AllBelow n xs
 
--- the receives of invented sends are among n
+-- the receives of invented sends are among n lines
 abbrev pub AreBelow : ℕ → List Begun → Type 0
 AreBelow n [] = Unit {0}
 AreBelow n (b ∷ given) = (b.receive < n) × AreBelow n given

@@ -20,7 +20,7 @@ use Rattle.log_chart.specs.Charts.ChartLines.{event_of, chart_from}
 use Rattle.log_chart.proofs.ChartsLemmas.ItemLemmas.{hosts_count}
 use Rattle.log_chart.proofs.ChartsLemmas.TurnLemmas.{ith_of}
 
--- the chart's lines are the hosts'
+-- the chart's lines are the lines of the hosts
 pub chart_at : (log : List Entry) (k : ℕ) (lines : List (List Item)) (p : ℕ) (x : List Item) (d : LineView) → p < length lines → x ≡ get_or lines p x
     → get_or (chart_from log k lines) p d ≡ record { instance = k + p; events = map (event_of log) x }
 unfolding chart_from
@@ -65,7 +65,7 @@ module _ (n : ℕ) (log : List Entry) where
   no_event zero m is = none-some m is
   no_event (suc i) m is = none-some m is
 
-  -- an event of the chart is one of a host
+  -- an event of the chart is an event of a host
   pub host_of_event : (e : Place) (m : Event) → chart_event chart_of_log e ≡ Some m → (1 ≤ e.instance) × (e.instance ≤ n)
   host_of_event e m is = go e.instance is
     where

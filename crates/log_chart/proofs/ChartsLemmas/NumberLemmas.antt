@@ -1,4 +1,4 @@
--- The lines of a log with the sends that they take: each by its number.
+-- The lines of a log with the sends that they take, by their numbers.
 use Rattle.std.proofs.Common.{◌≡◌, ℕ, zero, suc, ◌+◌, ◌<◌, ◌&&◌, ◌==◌, Bool, true, false, cond, List, [], ◌∷◌, None, Some, length, drop, get_or, refl, sym, ap, ◌∙◌, subst, arith}
 use Rattle.std.specs.Prelude.{All, slice_get}
 use Rattle.std.specs.Cmp.{first_so}
@@ -11,7 +11,7 @@ use Rattle.log_chart.specs.declared.entry.Entry.{Entry}
 use Rattle.log_chart.specs.declared.matching.LogLine.{LogLine}
 use Rattle.log_chart.proofs.OrderLemmas.{matched_length}
 
--- the line of this number has this entry
+-- the line with this number has this entry
 abbrev IsLineAt : List LogLine → ℕ → ℕ → Entry → LogLine → Type 0
 IsLineAt lines n number e x = (slice_get lines n ≡ Some x) × (x.entry ≡ e) × (x.number ≡ number)
 
@@ -43,7 +43,7 @@ of_entries P log all k d less =
 pub streams : (log : List Entry) → HaveStreams log → All (λ x. x.entry.stream < length (matched log)) (matched log)
 streams log have = subst (λ n. All (λ (x : LogLine). x.entry.stream < n) (matched log)) (sym (matched_length log)) (of_entries (λ (e : Entry). e.stream < length log) log have)
 
--- the entry of this number is a send
+-- the entry with this number is a send
 abbrev IsSendAt : List Entry → ℕ → Type 0
 IsSendAt log s = (e : Entry) × (slice_get log s ≡ Some e) × (is_send e.kind ≡ true)
 
@@ -96,7 +96,7 @@ module _ (whole : List Entry) where
       taken_at left y s all (ap (λ (l : LogLine). l.send) same ∙ takes_it)
   sends_in left k (y ∷ log) all (suc n) x s is takes_it = sends_in (left_after left y) (k + 1) log (left_are left y all) n x s is takes_it
 
--- what a line takes is sent by a line
+-- a line sends what a line takes
 pub sent_by : (log : List Entry) (n : ℕ) (x : LogLine) (s : ℕ) → slice_get (matched log) n ≡ Some x → x.send ≡ Some s → (y : LogLine) × (slice_get (matched log) s ≡ Some y) × (is_send y.entry.kind ≡ true)
 sent_by log n x s is takes_it =
     let at = sends_in log (sends_from 0 log) 0 log (λ c. sends_at log 0 log c (λ m e here. let same : m ≡ 0 + m = omega arith in subst (λ i. slice_get log i ≡ Some e) same here)) n x s is takes_it in

@@ -1,4 +1,4 @@
--- Where an invented send stands: directly behind the send of a message that its receiver received before.
+-- The place of an invented send: directly after the send of a message that its receiver received before.
 use Rattle.std.proofs.Common.{◌≡◌, ℕ, ◌<◌, inl, inr, ◌==◌, ◌&&◌, Bool, true, false, cond, List, [], ◌∷◌, ◌++◌, Option, None, Some, refl, sym, ap, ◌∙◌, eqb-true}
 use Rattle.std.specs.Prelude.{is_none, Contains}
 use Rattle.std.proofs.lemmas.Bool.{and_parts, false≢true}
@@ -12,7 +12,8 @@ use Rattle.log_chart.specs.declared.matching.LogLine.{LogLine}
 use Rattle.log_chart.proofs.LaneLists.{Has}
 use Rattle.log_chart.proofs.OrderLemmas.{IsAbove, Rises}
 
--- behind the send s stands one that is invented for the receive r: the receiver's line of r, and the one before it of the message s
+-- a send that is invented for the receive r directly follows the send s: the line of r, and the earlier line of the
+-- receiver with the message of s
 pub record IsBehind (lines : List LogLine) (s r : ℕ) : Type 0 where
   pub own : LogLine
   pub own_among : Contains lines own
@@ -78,7 +79,7 @@ module _ (all : List LogLine) (no_send : (x : LogLine) (s : ℕ) → Contains al
       go true there rest = by_place (is_sent_at s (lasts x.entry.peer x.entry.host)) refl there rest
       go false there rest = rest there
 
--- one at the head of q's line is for a receive of its receiver from q
+-- an invented send at the head of q's line is for a receive of its receiver from q
 head_from : (lasts : LaneSends) (all lines : List LogLine) → AllByRecursion (Contains all) lines → (q p r : ℕ) → Has (heads_to (heads (begun_from lasts lines) q) p) r
     → (x : LogLine) × Contains all x × (x.entry.peer ≡ q) × (x.entry.host ≡ p)
 unfolding begun_from heads_to

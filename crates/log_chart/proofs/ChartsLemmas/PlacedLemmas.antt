@@ -1,5 +1,5 @@
--- The events of a host's line with the lines of the log at which they stand: an event at its own line, an invented send at
--- that of the send behind which it is, and one at the head of the host's line at none.
+-- The events of a host's line, each with the line of the log to which it belongs: an event to its own line, and an
+-- invented send to the line of the send that it follows. One at the head of the host's line belongs to none.
 use Rattle.std.proofs.Common.{◌≡◌, ℕ, zero, suc, ◌<◌, ◌≤◌, inl, inr, ◌==◌, Bool, true, false, cond, List, [], ◌∷◌, ◌++◌, Option, None, Some, map, refl, sym, ap, ap₂, ◌∙◌, subst, arith, eqb-true}
 use Rattle.std.specs.Prelude.{Contains}
 use Rattle.std.specs.List.{flat_map, AllByRecursion}
@@ -51,7 +51,7 @@ items_placed hosts lines given q =
     map-append (λ (w : Placed). w.item) (map at_head (heads_in (heads given q) hosts)) (flat_map (placed_by given q) lines)
     ∙ ap₂ (λ (a b : List Item). a ++ b) (item_back None (heads_in (heads given q) hosts)) (lines_placed given q lines)
 
--- each of a list, and each with each later one
+-- a fact of each element of a list, and of each with each later one
 abbrev Each : (Placed → Type 0) → List Placed → Type 0
 Each P [] = Unit {0}
 Each P (w ∷ ws) = P w × Each P ws
@@ -82,7 +82,7 @@ pairs_at R (u ∷ ws) (suc i) (suc zero) w v all w_is v_is less = absurd (omega 
 pairs_at R (u ∷ ws) (suc zero) (suc (suc j)) w v all w_is v_is less = each_at (R w) ws (suc j) v (subst (λ x. Each (R x) ws) (same_Some u w w_is) all.0) v_is
 pairs_at R (u ∷ ws) (suc (suc i)) (suc (suc j)) w v all w_is v_is less = pairs_at R ws (suc i) (suc j) w v all.1 w_is v_is (omega (arith, less))
 
--- what stands at a line
+-- what belongs to a line
 pub data IsOf (n : ℕ) (lines : List LogLine) (given : List Begun) (q : ℕ) (w : Placed) : Type 0 where
   head : (p r : ℕ) → 1 ≤ p → p ≤ n → Has (heads_to (heads given q) p) r → w.item ≡ invented p r → w.stands ≡ None → IsOf n lines given q w
   own : (x : LogLine) → Contains lines x → x.entry.host ≡ q → w.item ≡ item_of x → w.stands ≡ Some x.number → IsOf n lines given q w
@@ -126,7 +126,7 @@ placed_are n hosts up_to lines given q i w is =
     (each_append (IsOf n lines given q) (map at_head (heads_in (heads given q) hosts)) (flat_map (placed_by given q) lines) (heads_are n lines given q hosts up_to)
     (lines_are n lines given q lines (recursion_from_All (Contains lines) lines (All-contains_itself lines)))) is
 
--- where they stand doesn't fall along a line
+-- the lines to which events belong don't fall along a host's line
 abbrev pub IsUp : Option ℕ → Option ℕ → Type 0
 IsUp None b = Unit {0}
 IsUp (Some a) None = ⊥

@@ -1,5 +1,5 @@
--- A chart is possible where each receive has its send, with its name, and no event is before itself: it is run, event by
--- event, and where no event can be made, all were.
+-- A chart is possible if each receive has its send, with its name, and no event is before itself. The chart is run
+-- event by event, and if no further event can be made, all are made.
 use Rattle.std.proofs.Common.{◌≡◌, ℕ, zero, suc, ◌+◌, ◌<◌, ◌≤◌, ◌⊎◌, inl, inr, List, Some, length, replicate, set, count_by, refl, sym, ◌∙◌, subst, arith, eq-eqb}
 use Rattle.std.specs.Prelude.{slice_index}
 use Rattle.std.proofs.lemmas.Bool.{cases_lt, cases_eq}
@@ -64,7 +64,7 @@ module _ (lines : List LineView) (chart : IsChart lines) (sent : (r : Place) →
               let found = tally_reached (is_send_to (suc p)) (chart_lines lines (suc q)) (tally (is_receive_from (suc q)) (chart_lines lines (suc p)) (suc (slice_index made p))) (length (chart_lines lines (suc q))) some (omega (arith, enough, all)) in
               by_send found.0 (record { sent = found.2; received = received; turn = found.3 })
 
-  -- a line whose next event can be made, or none of the first k
+  -- a line whose next event can be made, or there is none among the first k
   ready_one : (made : List ℕ) (k : ℕ) → k ≤ length lines → ((p : ℕ) × (p < length lines) × Ready made p) ⊎ ((p : ℕ) → p < k → Stopped made p)
   ready_one made zero few = inr (λ p less. absurd (omega (arith, less)))
   ready_one made (suc k) few =
@@ -77,7 +77,7 @@ module _ (lines : List LineView) (chart : IsChart lines) (sent : (r : Place) →
             ]
       ]
 
-  -- a line that isn't done, or none of the first k
+  -- a line that isn't done, or there is none among the first k
   undone_one : (made : List ℕ) (k : ℕ) → ((p : ℕ) × (p < k) × (slice_index made p < length (chart_lines lines (suc p)))) ⊎ ((p : ℕ) → p < k → length (chart_lines lines (suc p)) ≤ slice_index made p)
   undone_one made zero = inr (λ p less. absurd (omega (arith, less)))
   undone_one made (suc k) =
@@ -94,7 +94,7 @@ module _ (lines : List LineView) (chart : IsChart lines) (sent : (r : Place) →
             ]
       ]
 
-  -- where none can be made, all were
+  -- if no event can be made, all are made
   stopped_is : (made : List ℕ) → IsMade (length lines) (chart_lines lines) made → AreStopped (chart_lines lines) (length lines) made → IsPossible (length lines) (chart_lines lines)
   stopped_is made is stopped =
       elim (undone_one made (length lines)) [

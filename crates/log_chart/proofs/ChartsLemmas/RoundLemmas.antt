@@ -1,4 +1,4 @@
--- Of a log's line that comes before itself, a receive does that takes a logged send.
+-- If a line of a log comes before itself, so does a receive that takes a logged send.
 use Rattle.std.proofs.Common.{◌≡◌, ℕ, ◌<◌, ◌⊎◌, inl, inr, List, Some, refl, sym, subst, arith}
 use Rattle.std.specs.Prelude.{Contains}
 use Rattle.log_chart.specs.declared.matching.LogLine.{LogLine}
@@ -25,7 +25,7 @@ module _ (lines : List LogLine) where
   then_comes a d b (inl same) way = subst (λ x. Comes lines x b) (sym same) way
   then_comes a d b (inr first) way = through first way
 
-  -- it does, or it goes down one host's line
+  -- it does, or it goes along one host's line
   by_message : (a b : ℕ) → Comes lines a b → (a < b) ⊎ ByMessage a b
   by_message a b (direct (host x y x_in y_in x_is y_is same less)) = inl less
   by_message a b (direct (message y y_in y_is takes)) = inr (record { line = y; among = y_in; send = a; takes = takes; before = inl refl; behind = inl y_is })

@@ -1,4 +1,4 @@
--- The turns of a lane: the n-th event of a host's line that passes is of the n-th message that does.
+-- The turns of a lane: among the events of a host's line that pass, the n-th is of the n-th message that passes.
 use Rattle.std.proofs.Common.{◌≡◌, ℕ, zero, suc, ◌+◌, ◌≤◌, ◌==◌, ◌&&◌, not, Bool, true, false, cond, List, [], ◌∷◌, ◌++◌, length, take, map, Some, count_by, refl, sym, ap, ◌∙◌, subst, arith}
 use Rattle.std.proofs.lemmas.Option.{none-some, same_Some}
 use Rattle.std.proofs.lemmas.List.Sums.{sum_by-cons}
@@ -21,7 +21,7 @@ ith_of f [] (suc i) y is = absurd (none-some y is)
 ith_of f (x ∷ xs) (suc zero) y is = (x, refl, same_Some (f x) y is)
 ith_of f (x ∷ xs) (suc (suc i)) y is = ith_of f xs (suc i) y is
 
--- what an event is
+-- what kind an event is
 pub event_sends : (log : List Entry) (p : ℕ) (x : Item) → is_send_to p (event_of log x) ≡ (x.sends && x.partner == p)
 event_sends log p x = go x.sends
   where
@@ -56,7 +56,7 @@ received_chosen : (q : ℕ) (items : List Item) → received_from q items ≡ Ch
 received_chosen q [] = refl
 received_chosen q (x ∷ items) = ap (λ l. cond (not x.sends && x.partner == q) (x.message ∷ l) l) (received_chosen q items)
 
--- one element before others, if it passes
+-- one more element at the front, if it passes
 shifted : (b : Bool) (l : List MessageNo) (y m : MessageNo) (t n : ℕ) → ith l t ≡ Some m → n ≡ cond b 1 0 + t → ith (cond b (y ∷ l) l) n ≡ Some m
 shifted true l y m zero n is e = absurd (none-some m is)
 shifted true l y m (suc t) n is e = let same : n ≡ suc (suc t) = omega (arith, e) in subst (λ k. ith (y ∷ l) k ≡ Some m) (sym same) is
@@ -87,14 +87,14 @@ module _ (test : Item → Bool) (passes : Event → Bool) (event : Item → Even
       go true e rest = omega (arith, e, rest)
       go false e rest = omega (arith, e, rest)
 
--- of a lane of a log
+-- the turns of a lane of a log
 module _ (n : ℕ) (from to : ℕ → ℕ) (log : List Entry) (lanes : AreOfLanes from to log) (q p : ℕ) (low : 1 ≤ p) (high : p ≤ n) where
   in_order : (rest : List ℕ) × (Chosen (λ x. x.sends && x.partner == p) (line_of n log q) ≡ Chosen (λ x. not x.sends && x.partner == q) (line_of n log p) ++ map Sent rest)
   in_order =
       let law = lane_in_order n from to log lanes q p low high in
       (law.0, sym (sent_chosen p (line_of n log q)) ∙ law.1 ∙ ap (λ l. l ++ map Sent law.0) (received_chosen q (line_of n log p)))
 
-  -- a receive is of the message of its send
+  -- the message of a receive is that of its send
   pub received_is : (i j : ℕ) (x y : Item) → ith (line_of n log q) i ≡ Some x → (x.sends && x.partner == p) ≡ true → ith (line_of n log p) j ≡ Some y → (not y.sends && y.partner == q) ≡ true
       → tally (is_send_to p) (map (event_of log) (line_of n log q)) i ≡ tally (is_receive_from q) (map (event_of log) (line_of n log p)) j → x.message ≡ y.message
   received_is i j x y x_is sends y_is receives turn =
@@ -106,7 +106,7 @@ module _ (n : ℕ) (from to : ℕ → ℕ) (log : List Entry) (lanes : AreOfLane
       same_Some x.message y.message (sym one ∙ ap (λ l. ith l (tally (is_send_to p) (map (event_of log) (line_of n log q)) i)) in_order.1 ∙ ap (ith (got ++ map Sent in_order.0)) turn
       ∙ ith-append got (map Sent in_order.0) t within.1 ∙ other)
 
-  -- as many were sent
+  -- as many messages were sent
   pub sent_enough : (j : ℕ) → tally (is_receive_from q) (map (event_of log) (line_of n log p)) j ≤ count_by (is_send_to p) (map (event_of log) (line_of n log q))
   sent_enough j =
       let up = tally-le-count_by (is_receive_from q) (map (event_of log) (line_of n log p)) j in

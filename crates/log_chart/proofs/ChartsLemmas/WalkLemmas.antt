@@ -1,4 +1,4 @@
--- Lists that loops make, one element more at a time.
+-- Lists that loops make, with one more element at a time.
 use Rattle.std.proofs.Common.{◌≡◌, ℕ, zero, suc, ◌+◌, ◌<◌, ◌≤◌, Bool, true, false, cond, List, [], ◌∷◌, ◌++◌, None, Some, length, drop, get_or, map, refl, sym, ap, ◌∙◌, arith, append_assoc, add-one}
 use Rattle.std.specs.Prelude.{is_none, nat_lt, slice_get, All}
 use Rattle.std.proofs.lemmas.List.Elements.{All-nil, All-cons}
@@ -77,7 +77,7 @@ events_more f events more items n x within is grown = rw (grown, from_here items
 pub events_end : {E : Type 0} (f : Item → E) (events : List E) (items : List Item) (n : ℕ) → length items ≤ n → events ++ map f (drop n items) ≡ events
 events_end f events items n past = rw (drop_all n items past) (append-nil events)
 
--- the next one, and how many came
+-- the next event, and the number of events so far
 pub event_here : {E : Type 0} (f : Item → E) (items : List Item) (n : ℕ) (x : Item) → n < length items → x ≡ get_or items n x → slice_get (map f items) n ≡ Some (f x)
 event_here f [] n x within is = absurd (omega (arith, within))
 event_here f (i ∷ items) zero x within is = ap (λ y. Some (f y)) (sym is)
@@ -92,7 +92,7 @@ events_so_far f events items n within is =
     let rest = length-drop n items in
     omega (arith, all, joined, left, whole, rest, within)
 
--- those that are invented
+-- the invented events
 module _ (p : ℕ) (items : List Item) (n : ℕ) (x : Item) (within : n < length items) (is : x ≡ get_or items n x) (listed : List EventNo) where
   pub invented_more : (more : List EventNo) → is_none x.line ≡ true → more ≡ listed ++ record { instance = p; index = n + 1 } ∷ []
       → more ++ invented_from p (n + 1 + 1) (drop (n + 1) items) ≡ listed ++ invented_from p (n + 1) (drop n items)
@@ -149,7 +149,7 @@ chart_numbered log p (items ∷ lines) (suc i) l is = let rest = chart_numbered 
 pub chart_is_numbered : (log : List Entry) (lines : List (List Item)) → IsNumbered (chart_from log 1 lines)
 chart_is_numbered log lines i l is = let rest = chart_numbered log 1 lines i l is in omega (arith, rest)
 
--- where no line is full
+-- no line is full
 pub short_all : (p : ℕ) (lines : List (List Item)) → first_full p lines ≡ None → All (λ items. length items ≤ MAX_EVENTS) lines
 unfolding first_full
 short_all p [] none = All-nil (λ (items : List Item). length items ≤ MAX_EVENTS)

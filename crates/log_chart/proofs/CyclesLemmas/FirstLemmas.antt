@@ -1,4 +1,4 @@
--- The receive that is freed, line by line and host by host.
+-- The choice of the freed receive, line by line and host by host.
 use Rattle.std.proofs.Common.{◌≡◌, ℕ, suc, ◌+◌, ◌<◌, ◌≤◌, ◌==◌, ◌&&◌, inl, inr, Bool, true, false, List, [], Option, None, Some, length, get_or, replicate, refl, sym, ap, ap₂, ◌∙◌, subst, arith, eqb-true}
 use Rattle.std.specs.Prelude.{is_some}
 use Rattle.std.specs.Cmp.{IsTotalOrder}
@@ -21,7 +21,7 @@ use Rattle.log_chart.specs.Cycles.Sources.Leads.{through}
 use Rattle.log_chart.proofs.CyclesLemmas.SearchLemmas.{past_all}
 use Rattle.log_chart.proofs.CyclesLemmas.SourceLemmas.{rises, comes_leads, leads_comes}
 
--- lines by their hosts' names are in a total order
+-- the order of lines by their hosts' names is total
 pub by_host_total : IsTotalOrder by_host
 by_host_total = then_total (on_total (λ (x : LogLine). x.entry.host_name) nat_list_cmp_total) (on_total (λ (x : LogLine). x.number) nat_cmp_total)
 
@@ -40,7 +40,7 @@ ahead_trans : (x y : LogLine) (found : Option LogLine) → is_sooner x y ≡ tru
 ahead_trans x y None one two = refl
 ahead_trans x y (Some z) one two = sooner_trans x y z one two
 
--- so many lines were gone over
+-- after this number of lines
 pub record HasGone (lines : List LogLine) (n : ℕ) (tops sends : List (Option ℕ)) (own i : ℕ) (seen : List Bool) (stack : List ℕ) (found soonest : Option LogLine) : Type 0 where
   pub whole : length seen ≡ n
   pub empty : stack ≡ []
@@ -75,7 +75,7 @@ module _ (lines : List LogLine) (n : ℕ) (tops sends : List (Option ℕ)) (own 
   same_line : (y : LogLine) → y ≡ get_or lines i y → y ≡ x
   same_line y y_is = y_is ∙ get_or_default lines i y x within ∙ sym is
 
-  -- the line is another host's, or comes no sooner
+  -- the line is another host's, or doesn't come sooner
   pub gone_other : (x.entry.host ≡ own → is_ahead x soonest ≡ true → ⊥) → HasGone lines n tops sends own (i + 1) seen stack found soonest
   gone_other other = record {
     whole = gone.whole;
@@ -100,7 +100,7 @@ module _ (lines : List LogLine) (n : ℕ) (tops sends : List (Option ℕ)) (own 
       let less = rises lines n are i j x y (omega arith) j_in is y_is in
       through (past.before a its) (sources.all x.number y.number (host x y (i, within, sym is) (j, j_in, sym y_is) refl refl (x_own ∙ sym y_own) less))
 
-  -- it is on no cycle
+  -- the line is on no cycle
   pub gone_own : (more : List Bool) (stacked : List ℕ) → length more ≡ length seen → stacked ≡ [] → IsPast tops sends x.number more → x.entry.host ≡ own
       → ((s : ℕ) → x.send ≡ Some s → IsSeen more x.number → ⊥) → HasGone lines n tops sends own (i + 1) more stacked found soonest
   gone_own more stacked whole empty past x_own none = record {
@@ -120,11 +120,11 @@ module _ (lines : List LogLine) (n : ℕ) (tops sends : List (Option ℕ)) (own 
         ];
   }
 
-  -- what the search of this line may start from
+  -- what the search of this line may begin with
   pub gone_before : x.entry.host ≡ own → AreBefore tops sends seen x.number
   gone_before x_own = gone.later i x (omega arith) within is x_own
 
-  -- it is on one, and comes sooner
+  -- the line is on a cycle, and comes sooner
   found_on : (more : List Bool) (s : ℕ) → IsPast tops sends x.number more → x.send ≡ Some s → IsSeen more x.number → IsFound lines (Some x)
   found_on more s past takes its = (
     record {
@@ -163,14 +163,14 @@ module _ (lines : List LogLine) (n : ℕ) (tops sends : List (Option ℕ)) (own 
   gone_more more stacked next (passed_off x_own whole empty past none next_is) = rw next_is (gone_own more stacked whole empty past x_own none)
   gone_more more stacked next (passed_on x_own sooner whole empty past s takes its next_is) = rw next_is (gone_found more stacked s whole empty past x_own sooner takes its)
 
--- all lines were gone over
+-- after all lines
 pub gone_all : (lines : List LogLine) (n : ℕ) (tops sends : List (Option ℕ)) (own i : ℕ) (seen : List Bool) (stack : List ℕ) (found soonest : Option LogLine) → length lines ≤ i
     → HasGone lines n tops sends own i seen stack found soonest → (j : ℕ) (on : IsOnCycle lines j) → on.line.entry.host ≡ own → is_ahead on.line soonest ≡ true → ⊥
 gone_all lines n tops sends own i seen stack found soonest past gone j on on_own sooner =
     let inside = on.among.1 in
     gone.none on.among.0 on.line (omega (arith, inside)) inside (sym on.among.2) on_own sooner on.send on.takes (subst (λ k. Comes lines k k) (sym on.number) on.cycle)
 
--- the hosts up to one were gone over
+-- after the hosts up to one
 pub record HaveGone (lines : List LogLine) (place : ℕ) (found : Option LogLine) : Type 0 where
   pub here : IsFound lines found
   pub none : (j : ℕ) (on : IsOnCycle lines j) → on.line.entry.host ≤ place → is_ahead on.line found ≡ true → ⊥
@@ -211,7 +211,7 @@ module _ (lines : List LogLine) (hosts place : ℕ) (found : Option LogLine) (am
   pub none_found : found ≡ None → HasNone lines
   none_found is k on = none_ahead k on (ap (is_ahead on.line) is)
 
--- in the words of the code's tests
+-- the same in the words of the code's tests
 both : (a b : Bool) → (a && b) ≡ true → (a ≡ true) × (b ≡ true)
 both true true e = (refl, refl)
 both true false e = (refl, e)

@@ -1,4 +1,4 @@
--- Lines that are handed over in another order: what comes before what, and so which receive is freed, is the same.
+-- If the lines of a log are in another order, the same comes before the same, and so the freed receive is the same.
 use Rattle.std.proofs.Common.{◌≡◌, ℕ, ◌<◌, inl, inr, true, List, Option, None, Some, option_map, refl, sym, ap, ap₂, ◌∙◌, subst, arith}
 use Rattle.std.specs.Prelude.{Contains}
 use Rattle.std.specs.Cmp.Lexicographic.{slice_cmp}
@@ -54,7 +54,7 @@ module _ (place_of host_of : ℕ → ℕ) (lines others : List LogLine) (handed 
   comes_moved a b (direct its) = direct (follows_moved a b its)
   comes_moved a b (through {d = c} one two) = through (comes_moved a c one) (comes_moved c b two)
 
-  -- and back
+  -- the same in the other direction
   pub record IsFrom (c d : ℕ) : Type 0 where
     pub a : ℕ
     pub b : ℕ
@@ -151,7 +151,7 @@ module _ (place_of host_of : ℕ → ℕ) (lines others : List LogLine) (handed 
         x.2,
       )
 
-  -- lines are in the same order by their hosts
+  -- the order of lines by their hosts is the same
   sooner_moved : (x y u v : LogLine) → Contains lines x → Contains lines y → IsMoved place_of host_of x u → IsMoved place_of host_of y v → is_sooner x y ≡ true → is_sooner u v ≡ true
   sooner_moved x y u v x_in y_in x_to y_to sooner =
       ap (λ o. is_lt (ordering_then o (nat_cmp u.number v.number))) (ap₂ (slice_cmp nat_cmp) x_to.name y_to.name)

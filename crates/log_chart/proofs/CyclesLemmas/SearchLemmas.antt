@@ -11,7 +11,7 @@ use Rattle.log_chart.specs.Cycles.Sources.{IsDirect, Leads}
 use Rattle.log_chart.specs.Cycles.Sources.IsDirect.{above, sent}
 use Rattle.log_chart.specs.Cycles.Sources.Leads.{direct, through}
 
--- one line more
+-- one more line
 module _ (seen : List Bool) (stack : List ℕ) where
   pub reached_none : HasReached None seen stack seen stack
   reached_none = record {
@@ -76,7 +76,7 @@ module _ (seen : List Bool) (stack : List ℕ) where
       pushed = subst (λ l. Contains l n) (sym grown) (Contains-push stack n)
 
 module _ (tops sends : List (Option ℕ)) where
-  -- both that stand directly before a line
+  -- both lines that are directly before a line
   pub followed : (b : ℕ) (seen seen₁ seen₂ : List Bool) (stack stack₁ stack₂ : List ℕ) → HasReached (get_or tops b None) seen stack seen₁ stack₁
       → HasReached (get_or sends b None) seen₁ stack₁ seen₂ stack₂ → HasFollowed tops sends b seen stack seen₂ stack₂
   followed b seen seen₁ seen₂ stack stack₁ stack₂ one two = record {
@@ -179,7 +179,7 @@ module _ (tops sends : List (Option ℕ)) where
   pub past_all : (k : ℕ) (seen : List Bool) → IsPast tops sends k seen → (a : ℕ) → Leads tops sends a k → IsSeen seen a
   past_all k seen past a leads = leads_seen k seen past a k leads (inl refl)
 
--- what stands directly before a line is among so many
+-- what is directly before a line is among so many lines
 module _ (tops sends : List (Option ℕ)) (b n : ℕ) (are : (a : ℕ) → IsDirect tops sends a b → a < n) where
   pub top_within : IsWithin n (get_or tops b None)
   top_within = go (get_or tops b None) refl
@@ -195,7 +195,7 @@ module _ (tops sends : List (Option ℕ)) (b n : ℕ) (are : (a : ℕ) → IsDir
       go None e = tt
       go (Some a) e = are a (sent e)
 
--- a line less is to be looked at
+-- one line less is to be visited
 pub popped_less : (b : ℕ) (seen more : List Bool) (stack rest stacked : List ℕ) → stack ≡ rest ++ b ∷ [] → to_do more stacked ≤ to_do seen rest → to_do more stacked < to_do seen stack
 popped_less b seen more stack rest stacked popped less =
     let longer : length stack ≡ length rest + 1 = ap length popped ∙ length-append rest (b ∷ []) in

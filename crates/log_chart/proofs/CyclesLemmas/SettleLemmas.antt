@@ -1,4 +1,4 @@
--- Turns of freeing: each frees one receive more.
+-- Turns of freeing: each frees one more receive.
 use Rattle.std.proofs.Common.{◌≡◌, ℕ, zero, suc, ◌+◌, ◌<◌, ◌≤◌, Bool, true, false, cond, List, [], ◌∷◌, None, Some, length, set, get_or, refl, sym, ap, ◌∙◌, subst, arith}
 use Rattle.std.specs.Prelude.{All, AllPairs, Contains}
 use Rattle.std.proofs.lemmas.Bool.{false≢true}
@@ -19,7 +19,7 @@ use Rattle.log_chart.specs.Cycles.Freeing.{IsFirst, HasNone, freed, Settles, Are
 use Rattle.log_chart.specs.Cycles.Freeing.Settles.{done, turn}
 use Rattle.log_chart.specs.Cycles.Sources.{AreLines, HaveHosts}
 
--- a line of the log, with its entry; only one that takes sends has one
+-- a line of the log has its entry, and it has a send only if it is a receive that isn't freed
 abbrev IsLineOf : List Entry → ℕ → LogLine → Type 0
 IsLineOf log n x = (e : Entry) × (i : ℕ) × (i < length log) × (get_or log i e ≡ e) × (x.number ≡ n + i) × (x.entry ≡ e) × ((s : ℕ) → x.send ≡ Some s → takes e.kind ≡ true)
 
@@ -51,7 +51,7 @@ lines_of_from left n (e ∷ log) =
 pub kept_lines_of : (log : List Entry) → All (IsLineOf log 0) (kept log)
 kept_lines_of log = All-filter (λ x. stays (fate_of (matched log) x)) (IsLineOf log 0) (matched log) (lines_of_from (sends_from 0 log) 0 log)
 
--- in the words of this crate's contracts
+-- the same in the words of this crate's contracts
 above_all : (n : ℕ) (lines : List LogLine) → IsAbove n lines → (k : ℕ) (d : LogLine) → k < length lines → n < (get_or lines k d).number
 above_all n [] above k d less = absurd (omega arith)
 above_all n (x ∷ lines) above zero d less = above.0
@@ -88,7 +88,7 @@ kept_all P log all k d less =
 pub kept_among : (hosts : ℕ) (log : List Entry) → AreAmong hosts log → HaveHosts hosts (kept log)
 kept_among hosts log among = kept_all (λ e. (1 ≤ e.host) × (e.host ≤ hosts)) log (All-weaker (λ e. AreTwo hosts e.host e.peer) (λ e. (1 ≤ e.host) × (e.host ≤ hosts)) (λ e two. (two.0, two.1)) log among)
 
--- one that takes a send is no send
+-- a line that takes a send is no send
 pub kept_takes : (log : List Entry) (x : LogLine) (s : ℕ) → Contains (kept log) x → x.send ≡ Some s → is_send x.entry.kind ≡ false
 kept_takes log x s has is =
     let w = All-contains (IsLineOf log 0) (kept log) x (kept_lines_of log) has in
@@ -102,7 +102,7 @@ first_takes log k first =
     let same : k ≡ w.1 = omega (arith, w.4, on.number) in
     (w.0, omega (arith, w.2, same), ap (λ i. get_or log i w.0) same ∙ w.3, w.6 on.send on.takes)
 
--- the log in which it is freed
+-- the log with one more freed receive
 pub freed_set : (k : ℕ) (log : List Entry) (e : Entry) → k < length log → e ≡ get_or log k e → set log k (record e { kind = Freed }) ≡ freed k log
 freed_set k [] e within is = refl
 freed_set zero (x ∷ log) e within is = ap (λ (y : Entry). record y { kind = Freed } ∷ log) is
@@ -113,7 +113,7 @@ freed_length k [] = refl
 freed_length zero (x ∷ log) = refl
 freed_length (suc k) (x ∷ log) = ap suc (freed_length k log)
 
--- what holds of all lines whatever they do with their messages
+-- what holds of all lines, whatever their kinds are
 pub freed_all : (P : Entry → Type 0) → ((e : Entry) → P e → P (record e { kind = Freed })) → (k : ℕ) (log : List Entry) → All P log → All P (freed k log)
 freed_all P keeps k [] all = all
 freed_all P keeps zero (x ∷ log) all = All-cons P (record x { kind = Freed }) log (keeps x (All-head P x log all)) (All-tail P x log all)
@@ -140,7 +140,7 @@ freed_streams k log have =
 pub freed_among : (hosts k : ℕ) (log : List Entry) → AreAmong hosts log → AreAmong hosts (freed k log)
 freed_among hosts k log among = freed_all (λ (e : Entry). AreTwo hosts e.host e.peer) (λ e its. its) k log among
 
--- what holds of a line that takes a send holds of it where it is freed
+-- what holds of a line that takes a send holds of it when it is freed
 freed_one : (P : Entry → Type 0) → ((e : Entry) → takes e.kind ≡ true → P e → P (record e { kind = Freed })) → (k : ℕ) (log : List Entry) (e : Entry) → k < length log → get_or log k e ≡ e
     → takes e.kind ≡ true → All P log → All P (freed k log)
 freed_one P keeps k [] e within is one all = absurd (omega arith)
@@ -160,7 +160,7 @@ freed_lanes log k first (from, to, lanes) =
     let its = first_takes log k first in
     (from, to, freed_one (λ (e : Entry). (sender_of e ≡ from e.stream) × (receiver_of e ≡ to e.stream)) (freed_lane from to) k log its.0 its.1 its.2 its.3 lanes)
 
--- what a settled log keeps
+-- what holds of a settled log
 pub settled_streams : (log out : List Entry) → Settles log out → HaveStreams log → HaveStreams out
 settled_streams log out (done none) have = have
 settled_streams log out (turn k first rest) have = settled_streams _ out rest (freed_streams k log have)

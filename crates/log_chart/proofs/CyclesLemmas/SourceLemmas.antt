@@ -1,4 +1,4 @@
--- The tables of what stands directly before each line.
+-- The tables of what is directly before each line.
 use Rattle.std.proofs.Common.{◌≡◌, ℕ, zero, suc, ◌+◌, ◌<◌, ◌≤◌, ◌==◌, ◌⊎◌, inl, inr, Bool, true, false, cond, List, [], ◌∷◌, Option, None, Some, length, set, take, take_all, get_or, replicate, refl, sym, ap, ◌∙◌, subst, arith, eqb-true, eq-eqb, add-one}
 use Rattle.std.specs.Prelude.{fold, Contains}
 use Rattle.std.proofs.lemmas.Bool.{cases_eq, cases_lt, eqb-false, ne_eqb}
@@ -37,7 +37,7 @@ last_of last (x ∷ lines) h a is =
     go false e same = inl same
 
 module _ (lines : List LogLine) (n : ℕ) (are : AreLines n lines) where
-  -- where numbers are less, lines are earlier
+  -- lines with lesser numbers are earlier
   pub earlier : (i j : ℕ) (x y : LogLine) → i < length lines → j < length lines → x ≡ get_or lines i x → y ≡ get_or lines j y → x.number < y.number → i < j
   earlier i j x y i_in j_in x_is y_is less =
       elim (cases_lt i j) [
@@ -78,7 +78,7 @@ nothing n b a is =
           none_some a (sym (get_or_past {X = Option ℕ} (replicate n no_line) b no_line (omega (arith, whole))) ∙ is)
     ]
 
--- the tables after so many lines
+-- the tables after this number of lines
 pub record AreFilled (lines : List LogLine) (n i : ℕ) (tops sends last : List (Option ℕ)) : Type 0 where
   pub tops_whole : length tops ≡ n
   pub sends_whole : length sends ≡ n
@@ -193,7 +193,7 @@ module _ (lines : List LogLine) (n i : ℕ) (tops sends last : List (Option ℕ)
   }
 
 module _ (lines : List LogLine) (n : ℕ) (tops sends last : List (Option ℕ)) (are : AreLines n lines) (filled : AreFilled lines n (length lines) tops sends last) where
-  -- an earlier line of a host is its last one, or before that
+  -- an earlier line of a host is its last one, or is before that
   up_to_last : (j i : ℕ) (x : LogLine) → i < j → j ≤ length lines → x ≡ get_or lines i x → (z : ℕ) × (lasts_at lines j x.entry.host ≡ Some z) × ((x.number ≡ z) ⊎ Leads tops sends x.number z)
   up_to_last zero i x less j_in is = absurd (omega arith)
   up_to_last (suc j) i x less j_in is =
@@ -256,7 +256,7 @@ module _ (lines : List LogLine) (n : ℕ) (tops sends last : List (Option ℕ)) 
     all = follows_leads;
   }
 
--- the tables and the order say the same
+-- the tables and the order agree
 module _ (lines : List LogLine) (n : ℕ) (tops sends : List (Option ℕ)) (sources : AreSources lines n tops sends) where
   pub comes_leads : (a b : ℕ) → Comes lines a b → Leads tops sends a b
   comes_leads a b (comes_direct f) = sources.all a b f
@@ -266,7 +266,7 @@ module _ (lines : List LogLine) (n : ℕ) (tops sends : List (Option ℕ)) (sour
   leads_comes a b (direct d) = comes_direct (sources.sound a b d)
   leads_comes a b (through {d = c} one two) = comes_through (leads_comes a c one) (leads_comes c b two)
 
--- all lines were gone over
+-- after all lines
 pub at_end : (lines : List LogLine) (n i : ℕ) (tops sends last : List (Option ℕ)) → length lines ≤ i → AreFilled lines n i tops sends last → AreFilled lines n (length lines) tops sends last
 at_end lines n i tops sends last past filled = record {
   tops_whole = filled.tops_whole;

@@ -1,4 +1,4 @@
--- Entries of logs: their streams are among the lines, and each is of two hosts that are among the names.
+-- Entries of logs: there are at most as many streams as lines, and each entry is of two hosts with names.
 use Rattle.std.proofs.Common.{◌≡◌, ℕ, suc, ◌+◌, ◌<◌, ◌≤◌, List, [], ◌∷◌, ◌++◌, None, length, take, take_all, drop, get_or, refl, sym, ap, ◌∙◌, arith, append_assoc}
 use Rattle.std.specs.Prelude.{bytes_eq, fold, All}
 use Rattle.chart.specs.Histories.{AreTwo}
@@ -17,7 +17,7 @@ use Rattle.log_chart.specs.Named.Faults.{fault_in, first_fault}
 use Rattle.log_chart.proofs.NamedLemmas.FaultLemmas.{hosts_up, sooner_none, two_hosts}
 use Rattle.log_chart.proofs.NamedLemmas.WordLemmas.{position_up, put_within, put_longer, put_by_one}
 
--- one line more, and the last
+-- one more line, and the last
 module _ (lines : List HostEvent) (n : ℕ) (x : HostEvent) (within : n < length lines) (is : x ≡ get_or lines n x) (b after : Before) (next : after ≡ with_line b x) where
   pub entries_more : (entries more : List Entry) → more ≡ entries ++ entry_in b x ∷ [] → more ++ entries_from after (drop (n + 1) lines) ≡ entries ++ entries_from b (drop n lines)
   unfolding entries_from
@@ -35,7 +35,7 @@ pub hosts_end : (b : Before) (lines : List HostEvent) (n : ℕ) → length lines
 unfolding hosts_from
 hosts_end b lines n past = rw (drop_all n lines past) refl
 
--- there are no more streams than lines
+-- there are at most as many streams as lines
 pub entries_whole : (b : Before) (event : List HostEvent) → length (entries_from b event) ≡ length event
 unfolding entries_from
 entries_whole b [] = refl
@@ -54,7 +54,7 @@ have_streams hosts event =
     let whole = entries_whole (begun hosts) event in
     streams_from (begun hosts) event 0 (length (entries_from (begun hosts) event)) (omega arith) (omega (arith, whole))
 
--- each line is of two of the names
+-- each line is of two hosts with names
 among_from : (b : Before) (event : List HostEvent) (n : ℕ) → first_fault b event ≡ None → length (hosts_from b event) ≤ n → AreAmong n (entries_from b event)
 unfolding first_fault entries_from hosts_from
 among_from b [] n none all = All-nil (λ (e : Entry). AreTwo n e.host e.peer)

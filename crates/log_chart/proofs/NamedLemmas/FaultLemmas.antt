@@ -1,4 +1,4 @@
--- What is wrong with lines, one by one.
+-- The faults of lines, one by one.
 use Rattle.std.proofs.Common.{◌≡◌, ◌≢◌, ℕ, zero, suc, ◌+◌, ◌<◌, ◌≤◌, ◌==◌, Bool, true, false, cond, List, [], ◌∷◌, Option, None, Some, length, take, drop, get_or, refl, sym, ap, ◌∙◌, arith, eqb-true, eq-eqb}
 use Rattle.std.specs.Prelude.{bytes_eq, nat_lt, fold, Result, Ok, Err, IsErrAnd}
 use Rattle.std.proofs.lemmas.Bool.{lt-ltb, le-ltb, ltb-true}
@@ -17,12 +17,12 @@ use Rattle.std.proofs.lemmas.List.{drop_all}
 use Rattle.std.proofs.lemmas.List.Sums.{fold_more}
 use Rattle.log_chart.proofs.NamedLemmas.WordLemmas.{put_longer, words_some}
 
--- a refusal that is handed on
+-- a refusal that is passed on
 pub err_is : {A E : Type 0} (r : Result A E) (x : E) → IsErrAnd r (λ e. e ≡ x) → r ≡ Err x
 err_is (Ok a) x its = absurd its
 err_is (Err e) x its = ap (λ y. Err y) its
 
--- lines make the hosts no fewer
+-- there are at least as many hosts after more lines
 pub hosts_up : (b : Before) (event : List HostEvent) → length b.hosts ≤ length (hosts_from b event)
 unfolding hosts_from
 hosts_up b [] = omega arith
@@ -36,7 +36,7 @@ pub sooner_none : (a b : Option LogError) → sooner a b ≡ None → (a ≡ Non
 sooner_none None b none = (refl, none)
 sooner_none (Some e) b none = absurd (cc none)
 
--- of one line
+-- the fault of one line
 module _ (b : Before) (s : HostEvent) where
   -- there are too many hosts
   pub full_fault : MAX_INSTANCES < length (with_hosts b.hosts s) → fault_in b s ≡ Some Instances
@@ -57,7 +57,7 @@ module _ (b : Before) (s : HostEvent) where
       go true e = absurd (cc e)
       go false e = absurd (let its = eq-eqb (host_in b.hosts s) (peer_in b.hosts s) same in cc (e, its))
 
--- of one line more, and the last
+-- the faults of one more line, and of the last
 module _ (lines : List HostEvent) (n : ℕ) (x : HostEvent) (within : n < length lines) (is : x ≡ get_or lines n x) (b : Before) where
   pub faults_more : (next : Before) → next ≡ with_line b x → fault_in b x ≡ None → first_fault next (drop (n + 1) lines) ≡ first_fault b (drop n lines)
   unfolding first_fault
@@ -86,7 +86,7 @@ faults_end b lines n past = rw (drop_all n lines past) refl
 pub faultless : (hosts : List (List ℕ)) (lines : List HostEvent) → length (fold with_word [] hosts) ≤ MAX_INSTANCES → first_fault (begun hosts) lines ≡ None → fault_of hosts lines ≡ None
 faultless hosts lines few none = rw (le-ltb MAX_INSTANCES (length (fold with_word [] hosts)) few) none
 
--- of hosts that come first
+-- the fault of hosts that come first
 pub host_refused : (hosts : List (List ℕ)) (lines : List HostEvent) (n : ℕ) (w : List ℕ) → n < length hosts → w ≡ get_or hosts n w → (e : LogError) → IsHostRefusal (fold with_word [] (take n hosts)) w e
     → IsRefusal (fault_of hosts lines) e
 host_refused hosts lines n w within is Memory refused = tt
@@ -96,7 +96,7 @@ host_refused hosts lines n w within is Instances many =
     rw (lt-ltb MAX_INSTANCES (length (fold with_word [] hosts)) (omega (arith, many, next, some))) refl
 host_refused hosts lines n w within is (ToItself place) refused = absurd refused
 
--- what the first fault says of all lines
+-- what the first fault means for all lines
 full_all : (b : Before) (event : List HostEvent) → first_fault b event ≡ Some Instances → MAX_INSTANCES < length (hosts_from b event)
 unfolding first_fault hosts_from
 full_all b [] is = absurd (cc is)

@@ -1,4 +1,4 @@
--- Each stream is of one lane: that of the stream of its number, in the table of all streams.
+-- Each stream is on one lane: that of the stream with its number, in the table of all streams.
 use Rattle.std.proofs.Common.{◌≡◌, ℕ, ◌==◌, ◌&&◌, Bool, true, false, cond, List, [], ◌∷◌, Option, None, Some, refl, sym, ap, ◌∙◌, subst, eqb-true, eq-eqb}
 use Rattle.std.specs.Bool.{beq}
 use Rattle.std.specs.List.{position_or_len}
@@ -16,7 +16,7 @@ use Rattle.log_chart.specs.declared.named.host_event.HostEvent.{HostEvent}
 use Rattle.log_chart.specs.declared.named.stream.Stream.{Stream}
 use Rattle.log_chart.proofs.NamedLemmas.WordLemmas.{put_passes, put_keeps}
 
--- the streams with those of these lines
+-- the streams, with those of these lines
 abbrev AllStreams : Before → List HostEvent → List Stream
 AllStreams b [] = b.streams
 AllStreams b (s ∷ event) = AllStreams (with_line b s) event
@@ -47,7 +47,7 @@ one_lane x y same =
     let second = and_parts (x.receiver == y.receiver) (beq x.has_id y.has_id && x.number == y.number) first.1 in
     (eqb-true x.sender y.sender first.0, eqb-true x.receiver y.receiver second.0)
 
--- an entry is of the lane of its stream
+-- an entry is on the lane of its stream
 entry_lane : (b : Before) (s : HostEvent) → (sender_of (entry_in b s) ≡ (stream_in b s).sender) × (receiver_of (entry_in b s) ≡ (stream_in b s).receiver)
 entry_lane b s = go s.sends
   where

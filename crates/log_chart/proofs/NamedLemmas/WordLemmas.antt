@@ -1,4 +1,4 @@
--- Words that are found in a list, or put behind it.
+-- Words that are found in a list, or added at its end.
 use Rattle.std.proofs.Common.{◌≡◌, ℕ, zero, suc, ◌+◌, ◌<◌, ◌≤◌, Bool, true, false, ◌||◌, cond, List, [], ◌∷◌, ◌++◌, None, Some, length, take, get_or, refl, sym, ap, ◌∙◌, subst, arith}
 use Rattle.std.specs.Prelude.{bytes_eq, option_map, slice_get, fold, Contains}
 use Rattle.chart.specs.Names.{instance_of}
@@ -10,7 +10,7 @@ use Rattle.std.proofs.lemmas.Option.{none-some}
 use Rattle.std.proofs.lemmas.Slice.Eq.{bytes_eq-Decides}
 
 module _ {X : Type 0} (test : X → Bool) where
-  -- where one passes, the first that does is in the list
+  -- if one word passes, the first that passes is in the list
   pub found_within : (xs : List X) → list_any test xs ≡ true → position_or_len test xs < length xs
   found_within [] some = absurd (false≢true some)
   found_within (x ∷ xs) some = go (test x) refl some (λ rest. found_within xs rest)
@@ -34,7 +34,7 @@ module _ {X : Type 0} (test : X → Bool) where
       go true e = let less = found_within xs e in omega (arith, less)
       go false e = let same = not_found xs e in omega (arith, same)
 
-  -- what was found, or is put behind the list, is in it then
+  -- a word that was found, or is added, is in the list then
   pub put_within : (xs : List X) (x : X) → position_or_len test xs < length (cond (list_any test xs) xs (xs ++ x ∷ []))
   put_within xs x = go (list_any test xs) refl
     where
@@ -56,7 +56,7 @@ module _ {X : Type 0} (test : X → Bool) where
       go true = omega arith
       go false = let longer = length-append xs (x ∷ []) in omega (arith, longer)
 
-  -- which is one that passes, at this place; what was there before still is
+  -- the word there passes, and what was there before is still there
   pub put_passes : (xs : List X) (x : X) → test x ≡ true → (y : X) × (slice_get (cond (list_any test xs) xs (xs ++ x ∷ [])) (position_or_len test xs) ≡ Some y) × (test y ≡ true)
   put_passes [] x passes = (x, refl, passes)
   put_passes (z ∷ xs) x passes = go (test z) refl (list_any test xs) (put_passes xs x passes)
@@ -82,7 +82,7 @@ module _ {X : Type 0} (test : X → Bool) where
       go true = is
       go false = longer xs i is
 
-  -- where none passes, none that does is in the list
+  -- if no word passes, no such word is in the list
   none_has : (xs : List X) (x : X) → test x ≡ true → list_any test xs ≡ false → (k : ℕ) → k < length xs → get_or xs k x ≡ x → ⊥
   none_has [] x passes none k within is = omega (arith, within)
   none_has (z ∷ xs) x passes none k within is = go (test z) refl none k within is (λ others i. none_has xs x passes others i)
@@ -93,7 +93,7 @@ module _ {X : Type 0} (test : X → Bool) where
       go false e others zero within is rest = false≢true (sym e ∙ ap test is ∙ passes)
       go false e others (suc k) within is rest = rest others k (omega (arith, within)) is
 
--- words that come one after another, each if it isn't there
+-- words that come one after another, each added if it is new
 pub words_up : (words more : List (List ℕ)) → length words ≤ length (fold with_word words more)
 words_up words [] = omega arith
 words_up words (w ∷ more) =
@@ -128,7 +128,7 @@ module _ (names : List (List ℕ)) (w : List ℕ) where
           let same = not_found (bytes_eq w) names e in
           absurd (none_some p (subst (λ b. option_map suc (cond b (Some (place_in names w)) None) ≡ Some p) (le-ltb (place_in names w) (length names) (omega (arith, same))) is))
 
-  -- a name that none has
+  -- a name that no instance has
   pub lacks : instance_of names w ≡ None → list_any (bytes_eq w) names ≡ false
   lacks is = go (list_any (bytes_eq w) names) refl
     where

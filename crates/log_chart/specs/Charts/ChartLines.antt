@@ -1,4 +1,4 @@
--- The chart of a log's hosts. A message has the name of the line that sends it or, where its send is invented, of the line
+-- The chart of a log's hosts. A message has the name of the line that sends it or, if its send is invented, of the line
 -- that receives it.
 use Rattle.std.specs.Prelude.{ℕ, zero, suc, ◌<◌, nat_lt, List, [], ◌∷◌, length, map, All, Option, None, Some, if◌then◌else◌}
 use Rattle.chart.specs.Charts.{LineView}
@@ -31,6 +31,6 @@ unfoldable pub first_full : ℕ → List (List Item) → Option ℕ
 first_full p [] = None
 first_full p (items ∷ lines) = if nat_lt MAX_EVENTS (length items) then Some p else first_full (suc p) lines
 
--- of each event the line that names it is among n
+-- the lines that name these events are among n
 abbrev pub AreNamed : ℕ → List Item → Type 0
 AreNamed n items = All (λ i. naming_line i.message < n) items

@@ -1,4 +1,4 @@
--- What a log comes to.
+-- The chart of a log, and what was changed for it.
 use Rattle.std.specs.Prelude.{◌≡◌, ℕ, ◌<◌, List, Some}
 use Rattle.log_chart.specs.Fates.{fates}
 use Rattle.log_chart.specs.HostLines.{host_lines}
@@ -11,7 +11,7 @@ use Rattle.log_chart.specs.declared.charts.drawing.DrawError.{DrawError}
 use Rattle.log_chart.specs.declared.charts.drawing.DrawError.TheVariants.{Memory, Instances, LineFull}
 use Rattle.log_chart.specs.declared.charts.drawing.LogChart.{LogChart}
 
--- the chart of so many hosts' lines of a log whose receives are freed, and what is told of it
+-- the chart of the hosts' lines of a log whose receives are freed, and what was changed for it
 pub record IsLogChart (hosts : ℕ) (log : List Entry) (d : LogChart) : Type 0 where
   pub chart : d.chart ≡ chart_from log 1 (host_lines hosts log)
   pub lost : d.lost.items ≡ lost_of (matched log) (fates (matched log))
@@ -20,13 +20,13 @@ pub record IsLogChart (hosts : ℕ) (log : List Entry) (d : LogChart) : Type 0 w
   pub freed : d.freed.items ≡ freed_places log
   pub one_ended : d.is_one_ended ≡ is_one_ended (matched log) log
 
--- why there is no chart of a log whose receives are freed
+-- why a log whose receives are freed has no chart
 abbrev pub IsSettledRefusal : ℕ → List Entry → DrawError → Type 0
 IsSettledRefusal hosts log Memory = Unit {0}
 IsSettledRefusal hosts log Instances = ⊥
 IsSettledRefusal hosts log (LineFull p) = first_full 1 (host_lines hosts log) ≡ Some p
 
--- why there is none of a log, which is left as it is where its receives are freed
+-- why a log has no chart; out is the log with its freed receives
 abbrev pub IsRefusalOf : ℕ → List Entry → List Entry → DrawError → Type 0
 IsRefusalOf hosts log out Memory = Unit {0}
 IsRefusalOf hosts log out Instances = hosts < 2

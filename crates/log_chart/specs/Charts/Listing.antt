@@ -1,5 +1,5 @@
--- What is told of a log that comes to a chart: what is lost, what overtakes, which sends are invented, which receives are
--- freed.
+-- What was changed for the chart of a log: which messages are lost or overtake, which sends are invented, and which
+-- receives are freed.
 use Rattle.std.specs.Prelude.{ℕ, zero, suc, ◌+◌, ◌==◌, Bool, true, false, List, [], ◌∷◌, ◌++◌, Option, None, Some, ◌&&◌, not, is_some, is_none, length, map, filter, if◌then◌else◌}
 use Rattle.std.specs.List.{list_any}
 use Rattle.chart.specs.declared.instance.EventNo.{EventNo}
@@ -32,22 +32,21 @@ is_lost (Overtakes s) = false
 abbrev pub has_taken : List LogLine → Bool
 has_taken lines = list_any (λ x. is_some x.send) lines
 
--- a receive is freed
+-- some receive is freed
 abbrev pub has_freed : List Entry → Bool
 has_freed log = list_any (λ e. is_freed e.kind) log
 
--- the log has events, of its lines none takes a send, and none is a receive that is freed of one: it has one end of each
--- message
+-- the log has events, none of its lines takes a send, and no receive is freed: it has one end of each message
 abbrev pub is_one_ended : List LogLine → List Entry → Bool
 is_one_ended lines log = if length log == 0 then false else not (has_taken lines) && not (has_freed log)
 
--- the places of these lines whose messages are lost
+-- the places of those of these lines that are lost
 unfoldable pub lost_of : List LogLine → List Fate → List Place
 lost_of [] fates = []
 lost_of (x ∷ lines) [] = []
 lost_of (x ∷ lines) (f ∷ fates) = if is_lost f then x.entry.place ∷ lost_of lines fates else lost_of lines fates
 
--- the place of the line of this number
+-- the place of the line with this number
 abbrev pub place_at : List Entry → ℕ → Option Place
 place_at [] n = None
 place_at (e ∷ log) zero = Some e.place
@@ -69,13 +68,13 @@ overtakings_of log [] fates = []
 overtakings_of log (x ∷ lines) [] = []
 overtakings_of log (x ∷ lines) (f ∷ fates) = overtaking_of log x f ++ overtakings_of log lines fates
 
--- the invented sends of p's line, the first of which has this number
+-- the invented sends of p's line, whose first event here has this number
 unfoldable pub invented_from : ℕ → ℕ → List Item → List EventNo
 invented_from p n [] = []
 invented_from p n (i ∷ items) =
     (if is_none i.line then record { instance = p; index = n } ∷ [] else []) ++ invented_from p (n + 1) items
 
--- and of all lines, the first of which is p's
+-- those of all lines, the first of which is p's
 unfoldable pub all_invented : ℕ → List (List Item) → List EventNo
 all_invented p [] = []
 all_invented p (items ∷ lines) = invented_from p 1 items ++ all_invented (suc p) lines

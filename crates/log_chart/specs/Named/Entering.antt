@@ -1,5 +1,5 @@
--- The entries of a log, of lines by names: which instance a host is, and of which stream a line's message is. Along a lane
--- messages are paired by id where there is one, and else by name.
+-- The entries of a log, from lines with names: the instance of each host, and the stream of each line's message. Along
+-- a lane messages are paired by id, or by name if they have no id.
 use Rattle.std.specs.Prelude.{ℕ, suc, Bool, ◌&&◌, ◌==◌, List, [], ◌∷◌, ◌++◌, Option, None, Some, is_some, bytes_eq, if◌then◌else◌}
 use Rattle.std.specs.Bool.{beq}
 use Rattle.std.specs.List.{position_or_len, list_any}
@@ -9,35 +9,35 @@ use Rattle.log_chart.specs.declared.entry.Kind.TheVariants.{Send, Receive}
 use Rattle.log_chart.specs.declared.named.host_event.HostEvent.{HostEvent}
 use Rattle.log_chart.specs.declared.named.stream.Stream.{Stream}
 
--- the words with this one, if it isn't among them
+-- the words, with this one if it isn't among them
 abbrev pub with_word : List (List ℕ) → List ℕ → List (List ℕ)
 with_word words w = if list_any (bytes_eq w) words then words else words ++ w ∷ []
 
--- the place that it has then, from 0
+-- the place of the word among them then, from 0
 abbrev pub place_in : List (List ℕ) → List ℕ → ℕ
 place_in words w = position_or_len (bytes_eq w) words
 
 abbrev pub same_stream : Stream → Stream → Bool
 same_stream x y = x.sender == y.sender && (x.receiver == y.receiver && (beq x.has_id y.has_id && x.number == y.number))
 
--- the streams with this one, if it isn't among them
+-- the streams, with this one if it isn't among them
 abbrev pub with_stream : List Stream → Stream → List Stream
 with_stream streams x = if list_any (same_stream x) streams then streams else streams ++ x ∷ []
 
 abbrev pub kind_of : HostEvent → Kind
 kind_of s = if s.sends then Send else Receive
 
--- the names of messages with that of a line without an id
+-- the names of messages, with that of a line without an id
 abbrev pub names_with : List (List ℕ) → Option ℕ → List ℕ → List (List ℕ)
 names_with names None name = with_word names name
 names_with names (Some id) name = names
 
--- the number of its id or, without one, of its name
+-- the number of its id or, without an id, of its name
 abbrev pub number_in : List (List ℕ) → Option ℕ → List ℕ → ℕ
 number_in names None name = place_in names name
 number_in names (Some id) name = id
 
--- the stream of a line between these two instances, where these names of messages came before
+-- the stream of a line between these two instances, after these names of messages
 abbrev pub stream_of : List (List ℕ) → ℕ → ℕ → HostEvent → Stream
 stream_of names host peer s = record {
   sender = if s.sends then host else peer;
@@ -46,7 +46,7 @@ stream_of names host peer s = record {
   number = number_in names s.id s.name;
 }
 
--- its entry, where these streams came before
+-- its entry, after these streams
 abbrev pub entry_of : List Stream → Stream → ℕ → ℕ → HostEvent → Entry
 entry_of streams stream host peer s = record {
   host = host;
@@ -58,7 +58,7 @@ entry_of streams stream host peer s = record {
   place = s.place;
 }
 
--- the hosts with those of a line
+-- the hosts, with those of a line
 abbrev pub with_hosts : List (List ℕ) → HostEvent → List (List ℕ)
 with_hosts hosts s = with_word (with_word hosts s.host) s.peer
 
@@ -69,7 +69,7 @@ host_in hosts s = suc (place_in hosts s.host)
 abbrev pub peer_in : List (List ℕ) → HostEvent → ℕ
 peer_in hosts s = suc (place_in (with_word hosts s.host) s.peer)
 
--- what came before a line: names of hosts and of messages, and streams
+-- what is known before a line: names of hosts and of messages, and streams
 pub record Before : Type 0 where
   pub hosts : List (List ℕ)
   pub names : List (List ℕ)
@@ -78,7 +78,7 @@ pub record Before : Type 0 where
 abbrev pub stream_in : Before → HostEvent → Stream
 stream_in b s = stream_of b.names (host_in b.hosts s) (peer_in b.hosts s) s
 
--- with a line
+-- what is known after a line
 abbrev pub with_line : Before → HostEvent → Before
 with_line b s = record {
   hosts = with_hosts b.hosts s;

@@ -9,7 +9,7 @@ use Rattle.log_chart.specs.declared.named.entering.LogError.TheVariants.{Memory,
 use Rattle.log_chart.specs.declared.named.entering.Reading.{Reading}
 use Rattle.log_chart.specs.declared.named.host_event.HostEvent.{HostEvent}
 
--- what came before
+-- what is known so far
 abbrev pub before_of : Reading → Before
 before_of r = record { hosts = r.hosts; names = r.names.keys; streams = r.streams.keys }
 
@@ -24,7 +24,7 @@ pub record IsOwn (log : List Entry) (place : Place) : Type 0 where
   pub own : entry.host ≡ entry.peer
   pub at : entry.place ≡ place
 
--- what a refusal says of all lines, where these hosts come first
+-- what a refusal means for all lines, if these hosts come first
 abbrev pub IsRefusalOf : List (List ℕ) → List HostEvent → LogError → Type 0
 IsRefusalOf hosts lines Memory = Unit {0}
 IsRefusalOf hosts lines Instances = MAX_INSTANCES < length (hosts_from (begun hosts) lines)

@@ -20,7 +20,7 @@ fn naming_line(message: MessageNo) -> usize
     }
 }
 
-/// The name in a line of the log.
+/// The name in the line of the log with this number.
 fn name_at(log: &[Entry], number: usize) -> Name
     requires { number < length log.now }
     ensures { result ≡ name_at log.now number }
@@ -49,7 +49,7 @@ fn event_of(log: &[Entry], item: &Item) -> Event
     }
 }
 
-/// One event more, which the line takes.
+/// Adds one more event to a line that accepts it. It fails only if there is no memory.
 fn push(line: &mut Line, event: Event) -> Result<(), AllocError>
     requires region { region_of event ≡ 0 }
     requires apart { partner_of event ≢ line.old.instance }
@@ -63,7 +63,7 @@ fn push(line: &mut Line, event: Event) -> Result<(), AllocError>
     }
 }
 
-/// The line of a host, whose events are those of one. It fails only where there is no memory.
+/// The line of a host with these events, which a line accepts. It fails only if there is no memory.
 fn line_of(
     alloc: Global,
     log: &[Entry],
@@ -81,7 +81,7 @@ fn line_of(
     Ok(line)
 }
 
-/// The lines of the hosts, each of which is one. It fails only where there is no memory.
+/// The lines of the hosts, which are lines of a chart. It fails only if there is no memory.
 pub(crate) fn lines_of(
     alloc: Global,
     log: &[Entry],

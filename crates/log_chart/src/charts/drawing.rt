@@ -49,23 +49,23 @@ impl<T: Drop> From<AllocFailed<T>> for DrawError {
     }
 }
 
-/// What a log comes to.
+/// The chart of a log, and what was changed for it.
 #[derive(Debug, Drop)]
 pub struct LogChart {
     pub chart: Chart,
-    /// The lines of messages that are lost, in the order of the log.
+    /// The lines with the sends of lost messages, in the order of the log.
     pub lost: Vec<Place>,
     /// The messages that overtake, in the order of the log.
     pub overtaking: Vec<Overtaking>,
-    /// The sends that are invented, by instance and number.
+    /// The invented sends, by instance and number.
     pub invented: Vec<EventNo>,
-    /// The lines of receives that are freed, in the order of the log.
+    /// The lines of the freed receives, in the order of the log.
     pub freed: Vec<Place>,
-    /// Whether the log has events, and one end of each message: no receive takes a send of it, and none is freed.
+    /// Whether the log has events, and one end of each message: no receive takes a send of it, and no receive is freed.
     pub is_one_ended: bool,
 }
 
-/// The chart of these lines, which are those of one. It fails only where there is no memory.
+/// The chart of these lines, which are lines of a chart. It fails only if there is no memory.
 fn chart_of(alloc: Global, log: &[Entry], lines: &[HostLine]) -> Result<Chart, AllocError>
     requires named { All (AreNamed (length log.now)) lines.now }
     requires count { length lines.now ≤ MAX_INSTANCES }
@@ -78,7 +78,7 @@ fn chart_of(alloc: Global, log: &[Entry], lines: &[HostLine]) -> Result<Chart, A
     }
 }
 
-/// The chart of a log of so many hosts none of whose lines comes before itself, and what is told of it.
+/// The chart of a log of `hosts` hosts in which no line comes before itself, and what was changed for it.
 fn draw_settled(alloc: Global, hosts: usize, log: &[Entry]) -> Result<LogChart, DrawError>
     requires several { 2 ≤ hosts }
     requires hosts { hosts ≤ MAX_INSTANCES }
@@ -106,12 +106,12 @@ fn draw_settled(alloc: Global, hosts: usize, log: &[Entry]) -> Result<LogChart, 
     })
 }
 
-/// The chart of a log of so many hosts. It always comes out, but for F8, where there are fewer than two, and F7, where
-/// an instance has more events than a line holds: the first such one. F6 may come at any point. Receives of the log are
-/// freed as [`settle`] says.
+/// The chart of a log of `hosts` hosts. F8 refuses fewer than two hosts, and F7 an instance with more events than a
+/// line holds: the first such instance. Nothing else is refused, except that F6 may be the answer at any point.
+/// Receives of the log are freed as in [`settle`].
 ///
-/// Each line of a host is an event of its instance, in their order, but for lost messages and those that overtake,
-/// which are left out, and sends that are invented; each of these is told.
+/// The events of an instance are the lines of its host, in their order. Lost messages and messages that overtake are
+/// skipped, and sends are invented. All of these are listed.
 pub fn draw(alloc: Global, hosts: usize, log: &mut [Entry]) -> Result<LogChart, DrawError>
     requires hosts { hosts ≤ MAX_INSTANCES }
     requires streams { HaveStreams log.old }

@@ -1,4 +1,4 @@
-//! What is told of a log that comes to a chart.
+//! What is skipped, invented or freed for the chart of a log.
 ghost use Rattle.std.specs.Prelude.{◌≡◌, ◌++◌, ◌<◌, ◌≤◌, length, slice_index_or, is_none, All, IfOk, OnOk};
 ghost use Rattle.chart.specs.declared.instance.TheConstants.{MAX_INSTANCES};
 ghost use Rattle.chart.specs.declared.line.TheConstants.{MAX_EVENTS};
@@ -10,12 +10,12 @@ use crate::{Entry, Fate, HostLine, Item, Kind, LogLine, Place};
 use chart::{EventNo, InstanceNo};
 use std::alloc::{AllocError, Global};
 
-/// A message that overtakes another one of its lane: the lines of both sends.
+/// A message that overtakes another one of its lane, by the lines of both sends.
 #[derive(Clone, Copy, Debug, PartialEq, Eq)]
 pub struct Overtaking {
-    /// The send of the message that overtakes, which is left out.
+    /// The send of the message that overtakes, which is skipped.
     pub line: Place,
-    /// The send before it whose message is received later.
+    /// An earlier send, whose message is received later.
     pub overtaken: Place,
 }
 
@@ -28,7 +28,7 @@ fn is_freed(kind: Kind) -> bool
     }
 }
 
-/// The lines of receives that were freed.
+/// The places of the lines of freed receives. It fails only if there is no memory.
 pub(crate) fn freed_places(alloc: Global, log: &[Entry]) -> Result<Vec<Place>, AllocError>
     ensures { IfOk result (λ places. places.items ≡ freed_places log.now) }
 {
@@ -45,14 +45,14 @@ fn has_taken(lines: &[LogLine]) -> bool
     lines.iter().any(|line| line.send.is_some())
 }
 
-/// Whether a receive of the log is freed.
+/// Whether some receive of the log is freed.
 fn has_freed(log: &[Entry]) -> bool
     ensures { result ≡ has_freed log.now }
 {
     log.iter().any(|entry| is_freed(entry.kind))
 }
 
-/// Whether a log has events, none of its lines takes a send, and none is a receive that is freed of one.
+/// Whether a log has events, none of its lines takes a send, and no receive is freed.
 pub(crate) fn is_one_ended(lines: &[LogLine], log: &[Entry]) -> bool
     ensures { result ≡ is_one_ended lines.now log.now }
 {
@@ -71,7 +71,7 @@ fn is_lost(fate: Fate) -> bool
     }
 }
 
-/// What becomes of a line.
+/// The fate of the line with this number.
 fn fate_at(fates: &[Fate], number: usize) -> Fate
     requires { number < length fates.now }
     ensures { (d : Fate) → result ≡ slice_index_or fates.now number d }
@@ -79,7 +79,7 @@ fn fate_at(fates: &[Fate], number: usize) -> Fate
     fates[number]
 }
 
-/// The lines of messages that are lost.
+/// The places of the lines with the sends of lost messages. It fails only if there is no memory.
 pub(crate) fn lost_places(
     alloc: Global,
     lines: &[LogLine],
@@ -97,7 +97,7 @@ pub(crate) fn lost_places(
     Ok(places)
 }
 
-/// Where a line stands.
+/// The place of the line with this number.
 fn place_at(log: &[Entry], number: usize) -> Option<Place>
     ensures { result ≡ place_at log.now number }
 {
@@ -108,7 +108,7 @@ fn place_at(log: &[Entry], number: usize) -> Option<Place>
     }
 }
 
-/// What is told of a line, if its message overtakes.
+/// Adds the message of a line, if the line is a send whose message overtakes.
 fn push_overtaking(
     listed: &mut Vec<Overtaking>,
     log: &[Entry],
@@ -132,7 +132,7 @@ fn push_overtaking(
     Ok(())
 }
 
-/// The messages that overtake, each once.
+/// The messages that overtake, each once. It fails only if there is no memory.
 pub(crate) fn overtakings(
     alloc: Global,
     log: &[Entry],
@@ -149,14 +149,14 @@ pub(crate) fn overtakings(
     Ok(listed)
 }
 
-/// Whether an event stands in no line of the log.
+/// Whether an event has no line in the log.
 fn is_invented(item: &Item) -> bool
     ensures { result ≡ is_none item.now.line }
 {
     item.line.is_none()
 }
 
-/// The sends that are invented on a host's line.
+/// Adds the invented sends of a host's line.
 fn push_invented(
     listed: &mut Vec<EventNo>,
     host: InstanceNo,
@@ -176,7 +176,7 @@ fn push_invented(
     Ok(())
 }
 
-/// The sends that are invented, by instance and number.
+/// The invented sends, by instance and number. It fails only if there is no memory.
 pub(crate) fn invented_sends(alloc: Global, lines: &[HostLine]) -> Result<Vec<EventNo>, AllocError>
     requires count { length lines.now ≤ MAX_INSTANCES }
     requires short { All (λ items. length items ≤ MAX_EVENTS) lines.now }

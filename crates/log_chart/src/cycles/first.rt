@@ -12,8 +12,8 @@ use crate::cycles::sources::{Sources, sources_of};
 use chart::InstanceNo;
 use std::alloc::{AllocError, Global};
 
-/// Whether a line comes sooner than another: the one of the lesser host by the bytes of its name, and of one host the
-/// one that stands first on its line.
+/// Whether a line comes sooner than another one: its host has the lesser name, byte by byte, or they are of one host
+/// and it is above.
 fn is_sooner(line: &LogLine, other: &LogLine) -> bool
     ensures { result ≡ is_sooner line.now other.now }
 {
@@ -25,7 +25,7 @@ fn is_sooner(line: &LogLine, other: &LogLine) -> bool
     names.then(line.number.cmp(&other.number)).is_lt()
 }
 
-/// Whether a line comes sooner than the one that was found, if one was.
+/// Whether a line comes sooner than the line that was found, if one was found.
 fn is_ahead(line: &LogLine, found: &Option<LogLine>) -> bool
     ensures { result ≡ is_ahead line.now found.now }
 {
@@ -35,21 +35,21 @@ fn is_ahead(line: &LogLine, found: &Option<LogLine>) -> bool
     }
 }
 
-/// Whether a line is the host's, and comes sooner than the one that was found.
+/// Whether a line is the host's, and comes sooner than the line that was found.
 fn is_own(line: &LogLine, host: InstanceNo, found: &Option<LogLine>) -> bool
     ensures { result ≡ (line.now.entry.host == host && is_ahead line.now found.now) }
 {
     line.entry.host == host && is_ahead(line, found)
 }
 
-/// Whether a line, whose past this is, takes a send and comes before itself.
+/// Whether a line takes a send and comes before itself. `past` has what comes before the line.
 fn is_on_cycle(line: &LogLine, past: &Past) -> bool
     ensures { result ≡ (is_some line.now.send && slice_index_or past.now.seen.items line.now.number false) }
 {
     line.send.is_some() && past.has(line.number)
 }
 
-/// The line that comes soonest, with one line more.
+/// The soonest line so far, after one more line.
 fn soonest_with(
     past: &mut Past,
     sources: &Sources,
@@ -77,8 +77,8 @@ fn soonest_with(
     }
 }
 
-/// Of the line that was found so far and a host's lines, of so many lines, the one that comes soonest of those that
-/// receive a message whose send is logged and come before themselves.
+/// The soonest line of `found` and of those lines of a host that take a logged send and come before themselves. The log
+/// has `count` lines. It fails only if there is no memory.
 fn soonest_of_host(
     alloc: Global,
     count: usize,
@@ -103,8 +103,9 @@ fn soonest_of_host(
     Ok(soonest)
 }
 
-/// Of these lines, of so many by so many hosts, the one that is freed: of those that receive a message whose send is
-/// logged and come before themselves the one of the least host by its name, and of this host the first on its line.
+/// The line that is freed, of those that take a logged send and come before themselves. It is one of the host with the
+/// least name, and of this host the first. The log has `count` lines and `hosts` hosts. It fails only if there is no
+/// memory.
 pub(crate) fn first_on_cycle(
     alloc: Global,
     count: usize,

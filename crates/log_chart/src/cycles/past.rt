@@ -7,17 +7,17 @@ ghost use Rattle.log_chart.specs.Cycles.Sources.{IsDirect};
 use crate::cycles::sources::Sources;
 use std::alloc::{AllocError, Global};
 
-/// What was found so far to come before a line.
+/// The lines that were found so far to come before a line.
 #[derive(Drop)]
 pub(crate) struct Past {
     /// Whether a line was found, by its number.
     seen: Vec<bool>,
-    /// Those of them whose own sources are still to be looked at.
+    /// The lines that were found, and whose own sources are still to be visited.
     stack: Vec<usize>,
 }
 
 impl Past {
-    /// Nothing of so many lines.
+    /// No line is found, of a log of `count` lines. It fails only if there is no memory.
     pub(crate) fn nothing(alloc: Global, count: usize) -> Result<Past, AllocError>
         ensures seen { IfOk result (λ past. past.seen.items ≡ replicate count false) }
         ensures stack { IfOk result (λ past. past.stack.items ≡ []) }
@@ -28,7 +28,7 @@ impl Past {
         })
     }
 
-    /// Whether the line was found.
+    /// Whether the line with this number was found.
     pub(crate) fn has(&self, number: usize) -> bool
         ensures { result ≡ slice_index_or self.now.seen.items number false }
     {
@@ -38,7 +38,7 @@ impl Past {
         }
     }
 
-    /// Finds a line, if there is one.
+    /// Marks a line as found, if there is one.
     fn reach(&mut self, number: Option<usize>) -> Result<(), AllocError>
         requires { IsWithin (length self.old.seen.items) number }
         ensures { OnOk result (HasReached number self.old.seen.items self.old.stack.items self.new.seen.items self.new.stack.items) }
@@ -51,7 +51,7 @@ impl Past {
         Ok(())
     }
 
-    /// Finds what stands directly before a line.
+    /// Marks as found what is directly before a line.
     fn follow(&mut self, sources: &Sources, number: usize) -> Result<(), AllocError>
         requires { (a : ℕ) → IsDirect sources.now.above.items sources.now.sends.items a number
             → a < length self.old.seen.items }
@@ -63,7 +63,8 @@ impl Past {
         Ok(())
     }
 
-    /// Finds all that comes before a line. What was found before comes before it too.
+    /// Marks as found all that comes before a line. What was found already comes before it too. It fails only if there
+    /// is no memory.
     pub(crate) fn pass(&mut self, sources: &Sources, number: usize) -> Result<(), AllocError>
         requires within { (a b : ℕ) → IsDirect sources.now.above.items sources.now.sends.items a b
             → a < length self.old.seen.items }

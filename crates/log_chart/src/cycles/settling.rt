@@ -1,4 +1,4 @@
-//! Receives are freed until no line comes before itself.
+//! Frees receives until no line comes before itself.
 ghost use Rattle.std.specs.Prelude.{◌≡◌, ◌<◌, ◌≤◌, length, IfOk, OnOk, MatchOption};
 ghost use Rattle.chart.specs.declared.instance.TheConstants.{MAX_INSTANCES};
 ghost use Rattle.log_chart.specs.Entries.{HaveStreams};
@@ -9,7 +9,7 @@ use crate::cycles::first::first_on_cycle;
 use crate::{Entry, Kind, kept_lines};
 use std::alloc::{AllocError, Global};
 
-/// The receive that is to be freed next, if there is one.
+/// The receive that is freed next, if there is one. It fails only if there is no memory.
 fn next_freed(alloc: Global, hosts: usize, log: &[Entry]) -> Result<Option<usize>, AllocError>
     requires hosts { hosts ≤ MAX_INSTANCES }
     requires streams { HaveStreams log.now }
@@ -32,13 +32,13 @@ fn free(log: &mut [Entry], number: usize)
     };
 }
 
-/// Frees receives of a log, with so many hosts, until no line comes before itself.
+/// Frees receives of a log of `hosts` hosts until no line comes before itself.
 ///
-/// Of the receives that take a send of the log and come before themselves, the one of the least host by the bytes of
-/// its name, and of this host the first on its line, is freed: it takes no logged send, now or later. Then pairing
+/// Each turn frees one receive of those that take a send of the log and come before themselves. It is one of the host
+/// with the least name, byte by byte, and of this host the first. It takes no logged send, now or later. Then pairing
 /// begins anew.
 ///
-/// F6: it fails only where there is no memory. The log is then in between.
+/// F6: it fails only if there is no memory. Some of the receives may be freed then.
 pub fn settle(alloc: Global, hosts: usize, log: &mut [Entry]) -> Result<(), AllocError>
     requires hosts { hosts ≤ MAX_INSTANCES }
     requires streams { HaveStreams log.old }

@@ -1,4 +1,4 @@
-//! What stands directly before each line of a log.
+//! What is directly before each line of a log.
 ghost use Rattle.std.specs.Prelude.{◌≡◌, IfOk, replicate, slice_index_or, None};
 ghost use Rattle.log_chart.specs.Cycles.Sources.{AreLines, AreSources};
 
@@ -6,16 +6,16 @@ use crate::LogLine;
 use chart::MAX_INSTANCES;
 use std::alloc::{AllocError, Global};
 
-/// For each number of a line what stands directly before it.
+/// What is directly before each line, by the line's number.
 #[derive(Drop)]
 pub struct Sources {
-    /// The line above of its host.
+    /// The line above it on its host's line.
     above: Vec<Option<usize>>,
     /// The send that it takes.
     sends: Vec<Option<usize>>,
 }
 
-/// What a table has for a line.
+/// What a table has for the line with this number.
 fn entry_of(table: &[Option<usize>], number: usize) -> Option<usize>
     ensures { result ≡ slice_index_or table.now number None }
 {
@@ -41,7 +41,7 @@ impl Sources {
     }
 }
 
-/// A table that has nothing for so many numbers.
+/// A table of `count` numbers with nothing for any of them. It fails only if there is no memory.
 fn nothing(alloc: Global, count: usize) -> Result<Vec<Option<usize>>, AllocError>
     ensures { IfOk result (λ table. table.items ≡ replicate count None) }
 {
@@ -49,9 +49,9 @@ fn nothing(alloc: Global, count: usize) -> Result<Vec<Option<usize>>, AllocError
     Ok(table)
 }
 
-/// What stands before each of these lines, which are among so many.
+/// What is directly before each of these lines. The log has `count` lines.
 ///
-/// F6: it fails only where there is no memory.
+/// F6: it fails only if there is no memory.
 pub fn sources_of(alloc: Global, count: usize, lines: &[LogLine]) -> Result<Sources, AllocError>
     requires { AreLines count lines.now }
     ensures { IfOk result (λ s. AreSources lines.now count s.above.items s.sends.items) }

@@ -17,7 +17,7 @@ use indexmap::IndexSet;
 use std::alloc::{AllocError, AllocFailed, Global};
 use thiserror::Error;
 
-/// Why lines are no log.
+/// Why lines make no log.
 #[derive(Clone, Copy, Debug, PartialEq, Eq, Error)]
 pub enum LogError {
     /// F6: a growth was refused.
@@ -47,7 +47,7 @@ impl<T: Drop> From<AllocFailed<T>> for LogError {
     }
 }
 
-/// What came so far.
+/// What the lines so far gave.
 #[derive(Drop)]
 struct Reading {
     hosts: Names,
@@ -57,7 +57,7 @@ struct Reading {
     entries: Vec<Entry>,
 }
 
-/// The instance of a host.
+/// The instance of a host. F8 refuses the 33rd.
 fn host_in(hosts: &mut Names, name: Name) -> Result<InstanceNo, LogError>
     requires few { length hosts.old ≤ MAX_INSTANCES }
     ensures instance { IfOk result (λ p. p ≡ suc (place_in hosts.old name)) }
@@ -84,7 +84,7 @@ fn kind_of(event: &HostEvent) -> Kind
 }
 
 impl Reading {
-    /// One line more.
+    /// Adds one more line. Of the faults of one line F8 comes before F13.
     fn add(&mut self, event: &HostEvent) -> Result<(), LogError>
         requires few { length self.old.hosts ≤ MAX_INSTANCES }
         ensures before { OnOk result (before_of self.new ≡ with_line (before_of self.old) event.now) }
@@ -121,11 +121,12 @@ pub struct Log {
     pub entries: Vec<Entry>,
 }
 
-/// The entries of these lines, in their order: these hosts come first, and then those of the lines, each line's host
-/// before its peer. Along a lane messages are of one stream where they have one id or, where neither has one, one name.
+/// The entries of these lines, in their order. The instances are these hosts and then those of the lines, each line's
+/// host before its peer. Along a lane messages are of one stream if they have the same id or, if neither has an id, the
+/// same name.
 ///
-/// F8 exactly where there is a 33rd host, F13 exactly where a host is its own peer: the first line decides, and of one
-/// line F8. F6 may come at any point.
+/// F8 refuses exactly a 33rd host, and F13 exactly a host that is its own peer. The first line with one of these
+/// decides, and of the faults of one line F8 comes first. F6 may be the answer at any point.
 pub fn entries_of(alloc: Global, hosts: &[Name], lines: &[HostEvent]) -> Result<Log, LogError>
     ensures names { IfOk result (λ log. log.names ≡ hosts_from (begun hosts.now) lines.now) }
     ensures entries { IfOk result (λ log. log.entries.items ≡ entries_from (begun hosts.now) lines.now) }

@@ -2,16 +2,16 @@
 use crate::Place;
 use chart::Name;
 
-/// What a line says: a host sent a message to a peer, or received one from it.
+/// What a line records: a host sent a message to a peer, or received one from it.
 #[derive(Clone, Copy, Debug)]
 pub struct HostEvent {
     pub host: Name,
-    /// Whether it is a send; else it is a receive.
+    /// Whether it is a send. Otherwise it is a receive.
     pub sends: bool,
     pub peer: Name,
     /// The name of the message.
     pub name: Name,
-    /// The number of its id: ids that differ have numbers that differ.
+    /// The number of its id. Different ids have different numbers.
     pub id: Option<usize>,
     pub place: Place,
 }

@@ -5,7 +5,7 @@ ghost use Rattle.log_chart.specs.Named.Entering.{with_word, place_in};
 
 use chart::{InstanceNo, Name, Names, NamesError};
 
-/// The instance of a name, which is added where it is a new one. F8 where it is the 33rd.
+/// The instance of a name. A new name is added. F8 refuses the 33rd.
 pub(crate) fn instance_in(names: &mut Names, name: Name) -> Result<InstanceNo, NamesError>
     requires few { length names.old ≤ MAX_INSTANCES }
     ensures instance { IfOk result (λ p. p ≡ suc (place_in names.old name)) }

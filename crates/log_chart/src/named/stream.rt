@@ -8,17 +8,17 @@ use chart::{InstanceNo, Name};
 use indexmap::IndexSet;
 use std::alloc::AllocError;
 
-/// Messages of one lane with one id, or without ids and with one name.
+/// The messages of one lane with one id, or without an id and with one name.
 #[derive(Clone, Copy, Debug, PartialEq, Eq, Hash)]
 pub(crate) struct Stream {
     pub sender: InstanceNo,
     pub receiver: InstanceNo,
-    /// Whether the number is that of an id; else it is that of a name.
+    /// Whether `number` is that of an id. Otherwise it is that of a name.
     pub has_id: bool,
     pub number: usize,
 }
 
-/// The number of a stream, which is added where it is a new one.
+/// The number of a stream. A new stream is added. It fails only if there is no memory.
 pub(crate) fn number_of(streams: &mut IndexSet<Stream>, stream: Stream) -> Result<usize, AllocError>
     ensures number { IfOk result (λ number. number ≡ position_or_len (same_stream stream) streams.old.keys) }
     ensures kept { OnOk result (streams.new.keys ≡ with_stream streams.old.keys stream) }
@@ -27,7 +27,7 @@ pub(crate) fn number_of(streams: &mut IndexSet<Stream>, stream: Stream) -> Resul
     Ok(number)
 }
 
-/// The place of a name among those of messages, to which it is added where it is a new one.
+/// The place of a name among the names of messages, from 0. A new name is added. It fails only if there is no memory.
 fn place_of(names: &mut IndexSet<Name>, name: Name) -> Result<usize, AllocError>
     ensures place { IfOk result (λ place. place ≡ place_in names.old.keys name) }
     ensures kept { OnOk result (names.new.keys ≡ with_word names.old.keys name) }
@@ -36,7 +36,7 @@ fn place_of(names: &mut IndexSet<Name>, name: Name) -> Result<usize, AllocError>
     Ok(place)
 }
 
-/// The number of a message's id or, where it has none, the place of its name.
+/// The number of a message's id or, without an id, the place of its name. It fails only if there is no memory.
 pub(crate) fn number_in(
     names: &mut IndexSet<Name>,
     id: Option<usize>,

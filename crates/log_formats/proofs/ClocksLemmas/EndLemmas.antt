@@ -1,4 +1,4 @@
--- The ends of messages that each event is, when one message more was heard of.
+-- The ends of messages at each event, after one more heard entry.
 use Rattle.std.proofs.Common.{◌≡◌, ℕ, ◌<◌, ◌==◌, Bool, true, false, cond, List, [], ◌∷◌, ◌++◌, map, Option, None, Some, length, get_or, set, take, drop, ◌+◌, replicate, refl, sym, ap, ◌∙◌, subst, arith, eqb-true}
 use Rattle.std.proofs.lemmas.Bool.{eqb-false}
 use Rattle.std.proofs.lemmas.List.{append-nil, length-set, length-replicate, get_or-replicate, get_or-set_same, get_or-set_other, get_or-map, map-set, map_more, drop_more}
@@ -11,7 +11,7 @@ use Rattle.log_formats.specs.Clocks.Moments.{MomentView}
 use Rattle.log_formats.specs.Clocks.Saying.{with_ends, with_all_moments}
 use Rattle.log_lines.specs.Reading.{ReadView}
 
--- nothing was heard of yet
+-- nothing is heard yet
 pub ends_none : (end : End) (count : ℕ) (lists : List (List HeardView)) → lists ≡ replicate count [] → AreEnds end count [] lists
 ends_none end count lists none = record {
   whole = ap length none ∙ length-replicate count [];
@@ -45,18 +45,18 @@ module _ (end : End) (count : ℕ) (all : List HeardView) (h : HeardView) (lists
       by at less false other =
           get_or-set_other lists place at new [] (λ e. eqb-false place at other (sym e)) ∙ are.each at less ∙ sym (append-nil (ends_at end at all)) ∙ sym (more_at at false (ap (is_from at) is ∙ other))
 
-  -- one message more
+  -- one more heard entry
   pub ends_more : AreEnds end count (all ++ h ∷ []) (with_end lists (place_of end h) h)
   ends_more = go (place_of end h) refl
 
--- one message more in a list of lists, whatever they are
+-- one more element in a list of lists, of whatever type
 pub put_is : {A : Type 0} (view : A → List HeardView) (lists : List A) (place : ℕ) (old new : A) (h : HeardView) (o : Option ℕ) → o ≡ Some place → place < length lists → old ≡ get_or lists place old
     → view new ≡ view old ++ h ∷ [] → map view (set lists place new) ≡ with_end (map view lists) o h
 put_is view lists place old new h o some within read more =
     map-set view lists place new ∙ ap (set (map view lists) place) (more ∙ ap (λ l. l ++ h ∷ []) (ap view read ∙ sym (get_or-map view lists place old [] within)))
     ∙ sym (ap (λ p. with_end (map view lists) p h) some)
 
--- the next of what was heard, in its list
+-- the next heard entry, in its list
 pub ends_next : {A : Type 0} (view : A → HeardView) (end : End) (count : ℕ) (all : List A) (i : ℕ) (d : A) (place : Option ℕ) (old new : List (List HeardView)) → i < length all
     → AreEnds end count (map view (take i all)) old → place ≡ place_of end (view (get_or all i d)) → new ≡ with_end old place (view (get_or all i d)) → AreEnds end count (map view (take (i + 1) all)) new
 ends_next view end count all i d place old new within are place_is new_is =
@@ -64,7 +64,7 @@ ends_next view end count all i d place old new within are place_is new_is =
     subst (λ l. AreEnds end count l new) (sym (map_more view all i d within))
     (subst (AreEnds end count (map view (take i all) ++ h ∷ [])) (sym (new_is ∙ ap (λ p. with_end old p h) place_is)) (ends_more end count (map view (take i all)) h old are))
 
--- the next event says what its lists say
+-- the next event gives what its lists have
 pub moments_next : {A : Type 0} (view : A → MomentView) (xs : List A) (at : ℕ) (x : A) → at < length xs → x ≡ get_or xs at x → (all : List HeardView) (received sent : List (List HeardView)) (got given : List HeardView)
     (old new : ReadView) → AreEnds Receive (length xs) all received → AreEnds Send (length xs) all sent → got ≡ get_or received at [] → given ≡ get_or sent at []
     → new ≡ with_ends (map view xs) (view x) got given old
@@ -80,7 +80,7 @@ moments_next view xs at x within read all received sent got given old new receiv
 pub list_is : {A : Type 0} (view : A → List HeardView) (lists : List A) (at : ℕ) (x : A) (got : List HeardView) → at < length lists → x ≡ get_or lists at x → got ≡ view x → got ≡ get_or (map view lists) at []
 list_is view lists at x got within read got_is = got_is ∙ ap view read ∙ sym (get_or-map view lists at x [] within)
 
--- the same lists by other words
+-- equal lists
 pub ends_same : (end : End) (n k : ℕ) (some all : List HeardView) (xs ys : List (List HeardView)) → n ≡ k → some ≡ all → xs ≡ ys → AreEnds end n some xs → AreEnds end k all ys
 ends_same end n k some all xs ys count heard lists are = record {
   whole = ap length (sym lists) ∙ are.whole ∙ count;

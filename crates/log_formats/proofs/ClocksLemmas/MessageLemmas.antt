@@ -16,7 +16,7 @@ use Rattle.log_formats.specs.Clocks.Moments.{MomentView, is_by_clock, is_at, las
 use Rattle.log_formats.specs.Clocks.Saying.{clocked_at, sent_at, receive_of, send_of, with_receives, with_sends, with_worded, with_moment, with_all_moments, moments_in, by_clocks}
 use Rattle.log_formats.specs.Clocks.Stamps.{StampView, count_of}
 
--- an element by its place, and those behind it
+-- an element by its place, and the elements after it
 pub at_here : {X : Type 0} (xs : List X) (n : ℕ) (x : X) (rest : List X) → drop n xs ≡ x ∷ rest → slice_get xs n ≡ Some x
 at_here [] zero x rest e = cc
 at_here (y ∷ ys) zero x rest e = cc
@@ -35,18 +35,18 @@ same_bytes a b e = (bytes_decides a b).0 e
 apart_bytes : (a b : List ℕ) → bytes_eq a b ≡ false → a ≢ b
 apart_bytes a b differ same = false≢true (sym differ ∙ (bytes_decides a b).1 same)
 
--- what is read is an end of a message of an event
+-- an event that is read is an end of a message at an event of the log
 pub data IsEndOf : List MomentView → MomentView → LoggedEventView → Type 0 where
   as_send : {events : List MomentView} {e : MomentView} {x : LoggedEventView} (to : MomentView) → IsMessage events e to → x ≡ logged_at e.place (message_send e to) → IsEndOf events e x
   as_receive : {events : List MomentView} {e : MomentView} {x : LoggedEventView} (from : MomentView) → IsMessage events from e → x ≡ logged_at e.place (received (message_send from e)) → IsEndOf events e x
   as_begun : {events : List MomentView} {e : MomentView} {x : LoggedEventView} (s : StampView) → IsBegun events s e → x ≡ logged_at e.place (begun_receive s e) → IsEndOf events e x
 
--- the one event at a place
+-- there is one event at a place
 pub same_event : (moments : List MomentView) (p : ℕ) (e f : MomentView) → slice_get moments p ≡ Some e → slice_get moments p ≡ Some f → e ≡ f
 same_event moments p e f one other = let both : Some e ≡ Some f = sym one ∙ other in cc
 
 module _ (moments : List MomentView) where
-  -- the event with an entry as its own
+  -- the event that has an entry as its own
   record IsEventOf (s : StampView) (p : ℕ) : Type 0 where
     pub event : MomentView
     pub at : slice_get moments p ≡ Some event
@@ -83,7 +83,7 @@ module _ (moments : List MomentView) where
       go true is later = let found : Some n ≡ None = opened true is in absurd (cc)
       go false is later = All-cons (λ (x : MomentView). is_at s x ≡ false) m rest is (later (opened false is))
 
-  -- what was heard is an entry of an event's clock, of another host
+  -- a heard entry is an entry of an event's clock, of another host
   pub record IsHeard (h : HeardView) : Type 0 where
     pub to : MomentView
     pub at : slice_get moments h.at ≡ Some to
@@ -136,7 +136,7 @@ module _ (moments : List MomentView) where
   unfolding all_heard
   heard_all = heard_from 0 [] moments refl (All-nil IsHeard)
 
-  -- a message, from the event of an entry to one whose clock has that
+  -- a message, from the event with an entry to one whose clock has this event
   message_of : (h : HeardView) → (its : IsHeard h) → (p : ℕ) → (from : IsEventOf h.stamp p) → IsMessage moments from.event its.to
   message_of h its p from =
       let own = from.own in
@@ -192,7 +192,7 @@ module _ (logged : List LoggedEventView) (moments : List MomentView) where
   abbrev AllHave : ReadView → Type 0
   AllHave r = All (HasReason logged moments) r.logged
 
-  -- an end of a message is a reason
+  -- an end of a message has a reason
   reason_of : (e : MomentView) (x : LoggedEventView) → IsEndOf moments e x → HasReason logged moments x
   reason_of e x (as_send to its is) = of_send e to its is
   reason_of e x (as_receive from its is) = of_receive from e its is
@@ -243,7 +243,7 @@ all_reasons log = record {
       (All-weaker (Contains log.logged) (HasReason log.logged (moments_in log)) (λ x has. of_line has) log.logged (All-contains_itself log.logged));
 }
 
--- what the program has read is what the definitions say
+-- what the program reads is what the definitions give
 pub read_as : (log : ReadView) (moments : List MomentView) (all : List HeardView) (begun read : ReadView) → moments ≡ moments_in log → all ≡ all_heard moments
     → begun ≡ record { logged = log.logged; clocked = []; others = log.others } → read ≡ with_all_moments moments all 0 moments begun → read ≡ by_clocks log
 unfolding by_clocks

@@ -1,4 +1,4 @@
--- Where clocks are vector time, what comes before has a lesser clock.
+-- If clocks are vector time, what comes before has a lesser clock.
 use Rattle.std.proofs.Common.{◌≡◌, ℕ, ◌<◌, ◌≤◌, List, [], ◌∷◌, ◌++◌, Some, Contains, refl, sym, ap, ◌∙◌, subst, arith}
 use Rattle.std.specs.Prelude.{All, slice_get}
 use Rattle.std.proofs.lemmas.List.Elements.{All-nil, All-push, All-contains}
@@ -10,7 +10,7 @@ use Rattle.log_formats.specs.Clocks.Saying.{moments_in}
 use Rattle.log_formats.specs.Clocks.Stamps.{count_of}
 use Rattle.log_formats.specs.Clocks.VectorTime.{AreAt, ComesBefore, along, message, over, Knows, IsVectorTime, OrderLaw}
 
--- which of its host's events one is, is what its clock knows of its host
+-- an event's number among those of its host is its clock's count of its host
 abbrev CountsItself : MomentView → Type 0
 CountsItself e = e.own ≡ count_of e.stamps e.clocked.host
 
@@ -25,7 +25,7 @@ same_event : (xs : List MomentView) (p : ℕ) (e f : MomentView) → slice_get x
 same_event xs p e f one other = let both : Some e ≡ Some f = sym one ∙ other in cc
 
 module _ (events : List MomentView) (own : All CountsItself events) (time : IsVectorTime events) where
-  -- two events in order: the later one's own entry is less in the clock of the earlier one
+  -- of two events in order, the earlier one's clock counts less of the later one's host than the later one's own entry
   record IsBefore (i j : ℕ) : Type 0 where
     pub from : MomentView
     pub to : MomentView

@@ -1,4 +1,4 @@
--- What is read by clocks stands in the order of the log's events, and what comes before in it is of a lesser clock.
+-- What is read by clocks is in the order of the log's events, and what comes before in it has a lesser clock.
 use Rattle.std.proofs.Common.{◌≡◌, ℕ, zero, suc, ◌+◌, ◌<◌, ◌≤◌, ◌⊎◌, inl, inr, true, List, [], ◌∷◌, ◌++◌, Some, filter, drop, refl, sym, ap, ◌∙◌, subst, arith, Contains}
 use Rattle.std.specs.Prelude.{All, slice_get, is_some, nat_lt}
 use Rattle.std.proofs.lemmas.Bool.{and_parts, false≢true, ltb-true, cond_both, cases_lt}
@@ -18,14 +18,14 @@ use Rattle.log_formats.proofs.ClocksLemmas.MessageLemmas.{IsEndOf, as_send, as_r
 use Rattle.log_formats.proofs.ClocksLemmas.OrderLemmas.{order_law}
 
 module _ (events : List MomentView) where
-  -- what is read is an end of the event at a place
+  -- an event that is read is an end at the event at a place
   pub record IsPlaced (p : ℕ) (x : LoggedEventView) : Type 0 where
     pub event : MomentView
     pub at : slice_get events p ≡ Some event
     pub counted : 0 < event.own
     pub its : IsEndOf events event x
 
-  -- these are ends of events that rise from one place to another
+  -- these are ends at events that rise from one place to another
   abbrev pub IsRising : ℕ → ℕ → List LoggedEventView → Type 0
   IsRising low high [] = low ≤ high
   IsRising low high (x ∷ xs) = (p : ℕ) × (low ≤ p) × IsPlaced p x × IsRising p high xs
@@ -82,7 +82,7 @@ module _ (events : List MomentView) where
       moments_rise worded all its (at + 1) rest (rest_here events at m rest here) (with_moment events all at m r)
       (widen 0 at (at + 1) (with_moment events all at m r).logged (omega arith) (moment_rises at m at_m (worded m (there events at m at_m)) all its r up))
 
-  -- the place of the event of which one is
+  -- the place of the event of a read event
   abbrev pub place_at : (low high : ℕ) (xs : List LoggedEventView) → IsRising low high xs → ℕ → ℕ
   place_at low high [] rising a = 0
   place_at low high (x ∷ xs) rising zero = rising.0
@@ -106,13 +106,13 @@ module _ (events : List MomentView) where
   rises_at low high (z ∷ zs) rising (suc a) zero x y x_at y_at less = absurd (omega (arith, less))
   rises_at low high (z ∷ zs) rising (suc a) (suc b) x y x_at y_at less = rises_at rising.0 high zs rising.3 a b x y x_at y_at (omega (arith, less))
 
--- the host and the place of an end are its event's
+-- the host and the place of an end are those of its event
 end_of : (events : List MomentView) (e : MomentView) (x : LoggedEventView) → IsEndOf events e x → IsOf e x
 end_of events e x (as_send to its is) = record { place = ap (λ (l : LoggedEventView). l.place) is; host = ap (λ (l : LoggedEventView). l.event.host) is }
 end_of events e x (as_receive from its is) = record { place = ap (λ (l : LoggedEventView). l.place) is; host = ap (λ (l : LoggedEventView). l.event.host) is }
 end_of events e x (as_begun s its is) = record { place = ap (λ (l : LoggedEventView). l.place) is; host = ap (λ (l : LoggedEventView). l.event.host) is }
 
--- which of its host's events one is, its clock's text says
+-- an event's number among those of its host follows from its clock's text
 abbrev SaysItself : MomentView → Type 0
 SaysItself e = (e.stamps ≡ stamps_in e.clocked.clock) × (e.own ≡ count_of (stamps_in e.clocked.clock) e.clocked.host)
 
@@ -121,12 +121,12 @@ say_itself moments [] all = all
 say_itself moments (c ∷ events) all = say_itself (moments ++ moment_of c ∷ []) events (All-push SaysItself moments (moment_of c) all (refl, refl))
 
 module _ (events : List MomentView) (say : All SaysItself events) (time : IsVectorTime events) where
-  -- events of one host whose clocks have one text count the same
+  -- events of one host whose clocks have the same text have the same number
   same_own : (e f : MomentView) → Contains events e → Contains events f → f.clocked.host ≡ e.clocked.host → f.clocked.clock ≡ e.clocked.clock → f.own ≡ e.own
   same_own e f e_in f_in host clock =
       (All-contains SaysItself events f say f_in).1 ∙ ap (λ c. count_of (stamps_in c) f.clocked.host) clock ∙ ap (count_of (stamps_in e.clocked.clock)) host ∙ sym (All-contains SaysItself events e say e_in).1
 
-  -- a receive that may take a send is of an event whose clock has the send's
+  -- a receive that may take a send is at an event whose clock has the send's event
   pairs : (e f : MomentView) (x y : LoggedEventView) → Contains events e → Contains events f → 0 < e.own → IsEndOf events e x → IsEndOf events f y → MayTake x y → IsMessage events e f
   pairs e f x y e_in f_in counted (as_receive from its is) end takes =
       let act : Receive ≡ Send = sym (ap (λ (l : LoggedEventView). l.event.act) is) ∙ takes.sends in absurd (cc)

@@ -1,4 +1,4 @@
--- Tables of places: an event more of a host, and the first event with an entry.
+-- Tables of places: with one more event of a host, and the first event with an entry.
 use Rattle.std.proofs.Common.{◌≡◌, ℕ, ◌+◌, ◌<◌, Bool, true, false, List, [], ◌∷◌, ◌++◌, Some, length, map, get_or, take, drop, refl, sym, ap, ◌∙◌, arith, if◌then◌else◌}
 use Rattle.std.specs.Prelude.{slice_get}
 use Rattle.std.specs.Map.{lookup}
@@ -10,7 +10,7 @@ use Rattle.log_formats.specs.Clocks.Stamps.{StampView}
 use Rattle.log_formats.specs.Clocks.Tables.{same_host, stamps_of, stamps_at, AreLasts}
 use Rattle.log_formats.specs.declared.clocks.tables.Host.{Host}
 
--- what the last of some events knows, with one event more
+-- what the last of some events knows, after one more event
 pub last_more : (so_far : List StampView) (host : List ℕ) (moments : List MomentView) (m : MomentView)
     → last_stamps so_far host (moments ++ m ∷ []) ≡ (if is_of host m then m.stamps else last_stamps so_far host moments)
 last_more so_far host [] m = refl
@@ -20,7 +20,7 @@ module _ (moments : List MomentView) (at : ℕ) (m : MomentView) (here : slice_g
   front : take (at + 1) moments ≡ take at moments ++ m ∷ []
   front = take_more moments at m (slice_get_within moments at m here) ∙ ap (λ x. take at moments ++ x ∷ []) (get_or_from_slice_get moments at m m here)
 
-  -- the table of last events, when this event is noted
+  -- the table of last events, after this event is noted
   pub lasts_more : (old new : List (Host × ℕ)) → AreLasts moments at old
       → ((h : Host) → lookup (same_host h) new ≡ (if is_of h.name.now m then Some at else lookup (same_host h) old)) → AreLasts moments (at + 1) new
   lasts_more old new are step = record { last = λ h. by h (is_of h.name.now m) refl }

@@ -1,4 +1,4 @@
--- The groups of an expression, and what a match says by them.
+-- The groups of an expression, and what a match gives by them.
 use Rattle.std.proofs.Common.{◌≡◌, ℕ, ◌+◌, ◌≤◌, ◌<◌, Bool, not, cond, List, [], ◌∷◌, Option, None, Some, length, map, drop, option_map, refl, sym, ap, arith, position, string_bytes, String}
 use Rattle.std.specs.Prelude.{unwrap_or}
 use Rattle.std.specs.List.{position_or_len}
@@ -15,11 +15,11 @@ module _ {X Y : Type 0} (f : X → Y) (p : Y → Bool) where
   prefix_mapped [] = refl
   prefix_mapped (x ∷ xs) = ap (λ n. cond (not (p (f x))) (1 + n) 0) (prefix_mapped xs)
 
-  -- the first of the values that passes
+  -- the first value that passes
   pub position_mapped : (xs : List X) → position p (map f xs) ≡ position (λ x. p (f x)) xs
   position_mapped xs = rw (prefix_mapped xs, length-map xs f) refl
 
--- the number of a group, by its place among those behind the match itself
+-- the number of a group, by its place among the groups after the match itself
 pub group_placed : {A : Type 0} (name : List ℕ) (groups : List (Option (String A))) → 1 ≤ length groups
     → option_map (λ n. n + 1) (named_at name (drop 1 groups)) ≡ group_in (map (option_map string_bytes) groups) name
 unfolding group_in
@@ -35,12 +35,12 @@ module _ (window : List ℕ) (f g : ℕ → Option (ℕ × ℕ)) (count : ℕ) (
   part_same None a = refl
   part_same (Some n) a = rw (same n a.0 a.1) refl
 
-  -- a match tells the same of a host where its groups span the same
+  -- a match gives the same of a host if its groups have the same spans
   pub event_same : (e : EventGroups) → AreAmong count (Event e) → host_event (located window f) e ≡ host_event (located window g) e
   event_same e a =
       rw (same e.host a.0.0 a.0.1, same e.direction a.1.0 a.1.1, same e.peer a.2.0 a.2.1, same e.name a.3.0 a.3.1, id_same e.id a.4, id_same e.takes a.5, part_same e.arrive a.6) refl
 
-  -- a match says the same where its groups span the same
+  -- a match gives the same if its groups have the same spans
   pub found_same : (groups : Groups) → AreAmong count groups → found_by (located window f) groups ≡ found_by (located window g) groups
   unfolding found_by
   found_same (Event e) a = ap (λ x. unwrap_or (option_map said_of x) Other) (event_same e a)

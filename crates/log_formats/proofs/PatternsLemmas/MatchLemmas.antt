@@ -1,4 +1,4 @@
--- What a match says and takes, by what its groups span and where it begins.
+-- What a match gives and takes, by the spans of its groups and by where it begins.
 use Rattle.std.proofs.Common.{◌≡◌, ℕ, ◌-◌, ◌≤◌, ◌<◌, List, Option, Some, refl, ap}
 use Rattle.regex.specs.Patterns.{Match, span}
 use Rattle.regex.specs.Writes.{group_of}
@@ -9,19 +9,19 @@ use Rattle.log_formats.specs.declared.patterns.groups.Groups.{Groups}
 use Rattle.log_formats.specs.declared.patterns.groups.Groups.TheVariants.{Event, Capture, Clock}
 use Rattle.log_formats.proofs.PatternsLemmas.GroupLemmas.{event_same, found_same}
 
--- a match says and takes the same where its groups span the same
+-- a match gives and takes the same if its groups have the same spans
 pub match_same : (window first : List ℕ) (f g : ℕ → Option (ℕ × ℕ)) (count : ℕ) → ((n : ℕ) → 1 ≤ n → n < count → f n ≡ g n) → (groups : Groups) → AreAmong count groups → (end : ℕ)
     → match_step groups window first f end ≡ match_step groups window first g end
 match_same window first f g count same groups among end = ap (λ says. read_as first says (line_at window (end - 1))) (found_same window f g count same groups among)
 
--- and it tells the same of a host
+-- it gives the same of a host
 pub tells_same : (window : List ℕ) (f g : ℕ → Option (ℕ × ℕ)) (count : ℕ) → ((n : ℕ) → 1 ≤ n → n < count → f n ≡ g n) → (groups : Groups) → AreAmong count groups
     → event_in groups (located window f) ≡ event_in groups (located window g)
 tells_same window f g count same (Event e) among = event_same window f g count same e among
 tells_same window f g count same (Capture e) among = refl
 tells_same window f g count same (Clock e) among = refl
 
--- a match that begins in the first line is its own
+-- a match that begins in the first line counts for it
 pub begins_here : (groups : Groups) (window first : List ℕ) (m : Match) → line_at window (span m).0 ≡ 0 → matched groups window first (Some m) ≡ match_step groups window first (group_of m) (span m).1
 begins_here groups window first m e = rw e refl
 

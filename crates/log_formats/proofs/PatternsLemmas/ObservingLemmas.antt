@@ -1,4 +1,5 @@
--- What matches tell of receives stands by the numbers of their lines, which are those of messages from one host to another.
+-- What receives would have taken has the numbers of their lines, which are those of messages from one host to another
+-- one.
 use Rattle.std.proofs.Common.{◌≡◌, ◌∙◌, ℕ, zero, suc, ◌+◌, ◌-◌, ◌≤◌, ◌==◌, Bool, true, false, cond, List, [], ◌∷◌, None, Some, length, refl, sym, ap, subst, arith}
 use Rattle.std.specs.Prelude.{Option, AllPairs, bytes_eq, option_map, unwrap_or}
 use Rattle.regex.specs.Patterns.{Re, Match, find, span}
@@ -24,7 +25,7 @@ use Rattle.log_formats.specs.declared.patterns.groups.Groups.{Groups}
 use Rattle.log_formats.specs.declared.patterns.groups.Groups.TheVariants.{Event, Capture, Clock}
 
 module _ (peers : List PeerView) (place : Place) (first : List ℕ) (r : ReadView) (t : ObservationsView) (observed : AreObserved peers r.logged t) where
-  -- a line that isn't read leaves both
+  -- a line that isn't read changes neither
   alone_observed : AreObserved peers (with_line place (alone first).says r).logged t
   alone_observed = go (length (behind_blanks first) == 0)
     where
@@ -97,7 +98,7 @@ module _ (peers : List PeerView) (g : EventGroups) (more : ℕ) (pattern : Re) (
   unfolding pattern_read pattern_observed
   are_observed texts = texts_observed 0 texts nothing_read no_observations (none_observed peers)
 
--- expressions with other groups tell nothing
+-- expressions with other groups give nothing
 module _ (peers : List PeerView) (says : List (List ℕ) → StepView) (events : List (List ℕ) → Option HostEventView) (none : (lines : List (List ℕ)) → events lines ≡ None) (range : LineRange) where
   none_at : (n taken : ℕ) (lines : List (List ℕ)) → event_at events range n taken lines ≡ None
   none_at n (suc taken) lines = refl
@@ -138,7 +139,7 @@ module _ (groups : Groups) (none : (bytes : ℕ → Option (List ℕ)) → event
   none_pairs peers range texts =
       subst (λ (t : ObservationsView). AllPairs (λ a b. a.line ≤ b.line) t.taken) (sym (none_told peers range texts)) (λ i j d before within. absurd (omega (arith, within)))
 
--- what would have been taken stands by lines of the log, in their order
+-- what would have been taken has lines of the log, in their order
 pub observed_pairs : (groups : Groups) (more : ℕ) (pattern : Re) (peers : List PeerView) (range : LineRange) (texts : List (List ℕ))
     → AllPairs (λ a b. a.line ≤ b.line) (pattern_observed groups more pattern peers range texts).taken
 observed_pairs (Event g) more pattern peers range texts =

@@ -1,4 +1,4 @@
--- The messages of which clocks tell (Fidge 1988, Mattern 1989): from an event to one whose clock has it.
+-- The messages that follow from clocks (Fidge 1988, Mattern 1989): from an event to one whose clock has it.
 use Rattle.std.specs.Prelude.{◌≡◌, ◌≢◌, ◌<◌, ◌≤◌, List, Some, All, Contains}
 use Rattle.log_lines.specs.Events.{EventView, LoggedEventView, received}
 use Rattle.log_lines.specs.Reading.{ReadView}
@@ -8,7 +8,7 @@ use Rattle.log_formats.specs.Clocks.Moments.{MomentView}
 use Rattle.log_formats.specs.Clocks.Saying.{moments_in}
 use Rattle.log_formats.specs.Clocks.Stamps.{StampView}
 
--- a clock has an event: an entry of the event's host counts this event, or a later one
+-- a clock has an event: its entry of the event's host counts this event, or a later one
 pub record HasEvent (clock : List StampView) (e : MomentView) : Type 0 where
   pub entry : StampView
   pub among : Contains clock entry
@@ -23,7 +23,7 @@ pub record IsMessage (events : List MomentView) (from to : MomentView) : Type 0 
   pub apart : from.clocked.host ≢ to.clocked.host
   pub known : HasEvent to.stamps from
 
--- its send has the text and the clock of the event that sends it, and so has its receive
+-- the send of the message has the text and the clock of the event that sends it, and so has its receive
 abbrev pub message_send : MomentView → MomentView → EventView
 message_send from to = record { host = from.clocked.host; act = Send; peer = to.clocked.host; name = from.clocked.event; id = Some from.clocked.clock }
 
@@ -42,7 +42,7 @@ begun_receive s to = record { host = to.clocked.host; act = Receive; peer = s.ho
 abbrev pub logged_at : Place → EventView → LoggedEventView
 logged_at place e = record { event = e; place = place }
 
--- why an event is read: a line without vector time says it, or the words of an event with it do, or clocks tell of it
+-- why an event is read: a line without vector time gives it, or the words of an event do, or clocks do
 pub data HasReason : List LoggedEventView → List MomentView → LoggedEventView → Type 0 where
   of_line : {logged : List LoggedEventView} {events : List MomentView} {x : LoggedEventView} → Contains logged x → HasReason logged events x
   of_words : {logged : List LoggedEventView} {events : List MomentView} {x : LoggedEventView} (e : MomentView) → Contains events e → Contains e.worded.logged x → HasReason logged events x

@@ -7,8 +7,8 @@ use Rattle.log_lines.specs.declared.event.Place.{Place}
 use Rattle.log_formats.specs.Clocks.Stamps.{StampView, stamp_view, same_stamp, stamps_in, count_of}
 use Rattle.log_formats.specs.declared.clocks.moment.Moment.{Moment}
 
--- an event, what is read of its words alone, the entries of its clock, and which of its host's events it is by its clock, from 1 on,
--- or 0 where the clock doesn't say so
+-- an event, what its words alone give, the entries of its clock, and its number among the events of its host; its clock
+-- gives this number, from 1, or it is 0
 pub record MomentView : Type 0 where
   pub clocked : ClockedView
   pub place : Place
@@ -25,7 +25,7 @@ moment_view m = record {
   own = m.own;
 }
 
--- what is read of an event's words
+-- what an event's words give
 abbrev pub worded : ClockedAtView → ReadView
 worded c = by_words (record { logged = []; clocked = c ∷ []; others = None })
 
@@ -38,38 +38,38 @@ moment_of c = record {
   own = count_of (stamps_in c.clocked.clock) c.clocked.host;
 }
 
--- moments with those of these events
+-- the moments, with those of these events
 abbrev pub with_moments : List MomentView → List ClockedAtView → List MomentView
 with_moments moments [] = moments
 with_moments moments (c ∷ events) = with_moments (moments ++ moment_of c ∷ []) events
 
--- it says in no words what it is, and its clock tells
+-- it isn't read by its words, and its clock gives its number
 abbrev pub is_by_clock : MomentView → Bool
 is_by_clock m = is_some m.worded.others && nat_lt 0 m.own
 
--- it is this host's, and its clock tells which
+-- it is this host's, and its clock gives its number
 abbrev pub is_of : List ℕ → MomentView → Bool
 is_of host m = nat_lt 0 m.own && bytes_eq m.clocked.host host
 
--- what the last of these knows that is this host's
+-- the clock of the last of these events that is this host's
 abbrev pub last_stamps : List StampView → List ℕ → List MomentView → List StampView
 last_stamps so_far host [] = so_far
 last_stamps so_far host (m ∷ moments) = last_stamps (if is_of host m then m.stamps else so_far) host moments
 
--- an event's own entry: its host, and which of its events it is
+-- an event's own entry: its host, and its number among the events of this host
 abbrev pub own_stamp : MomentView → StampView
 own_stamp m = record { host = m.clocked.host; count = m.own }
 
--- it is this event of this host
+-- the event has this entry as its own
 abbrev pub is_at : StampView → MomentView → Bool
 is_at s m = same_stamp (own_stamp m) s
 
--- the place of the first that is, where the first of these has this place
+-- the place of the first event that has it, if the first of these has the place n
 abbrev pub place_from : ℕ → StampView → List MomentView → Option ℕ
 place_from n s [] = None
 place_from n s (m ∷ moments) = if is_at s m then Some n else place_from (n + 1) s moments
 
--- one of them is told by its clock
+-- clocks decide about one of them
 abbrev pub any_by_clock : List MomentView → Bool
 any_by_clock [] = false
 any_by_clock (m ∷ moments) = if is_by_clock m then true else any_by_clock moments

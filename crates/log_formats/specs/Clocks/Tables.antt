@@ -1,4 +1,4 @@
--- Where events are, by their hosts.
+-- The places of events, by their hosts.
 use Rattle.std.specs.Prelude.{◌≡◌, ℕ, Bool, List, [], take, Option, None, Some, slice_get, bytes_eq}
 use Rattle.std.specs.Map.{lookup}
 use Rattle.log_formats.specs.Clocks.Moments.{MomentView, last_stamps, place_from}
@@ -16,7 +16,7 @@ pub record ArePlaces (moments : List MomentView) (entries : List (Stamp × ℕ))
 abbrev pub same_host : Host → Host → Bool
 same_host h k = bytes_eq h.name.now k.name.now
 
--- what the event at a place knows: where there is none, nothing
+-- the clock of the event at a place, or no entries if there is no event
 abbrev pub stamps_of : Option MomentView → List StampView
 stamps_of None = []
 stamps_of (Some m) = m.stamps
@@ -25,6 +25,6 @@ abbrev pub stamps_at : List MomentView → Option ℕ → List StampView
 stamps_at moments None = []
 stamps_at moments (Some place) = stamps_of (slice_get moments place)
 
--- a table has the place of each host's last event, of so many first ones, whose clock tells which it is
+-- a table has the place of each host's last event among the first count events whose clocks give their numbers
 pub record AreLasts (moments : List MomentView) (count : ℕ) (entries : List (Host × ℕ)) : Type 0 where
   pub last : (h : Host) → stamps_at moments (lookup (same_host h) entries) ≡ last_stamps [] h.name.now (take count moments)

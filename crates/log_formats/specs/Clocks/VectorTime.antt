@@ -11,7 +11,7 @@ pub record AreAt (events : List MomentView) (i j : ℕ) (e f : MomentView) : Typ
   pub one : slice_get events i ≡ Some e
   pub other : slice_get events j ≡ Some f
 
--- an event stands later on its host's line, where clocks count both
+-- an event is later on its host's line, and clocks give the numbers of both
 pub record IsLater (events : List MomentView) (i j : ℕ) : Type 0 where
   pub from : MomentView
   pub to : MomentView
@@ -28,7 +28,7 @@ pub record GoesTo (events : List MomentView) (i j : ℕ) : Type 0 where
   pub at : AreAt events i j from to
   pub message : IsMessage events from to
 
--- one event comes before another: along a host's line, by a message, or by such steps one after the other
+-- one event comes before another one: along a host's line, by a message, or by several such steps
 pub data ComesBefore : List MomentView → ℕ → ℕ → Type 0 where
   along : {events : List MomentView} {i j : ℕ} → IsLater events i j → ComesBefore events i j
   message : {events : List MomentView} {i j : ℕ} → GoesTo events i j → ComesBefore events i j
@@ -38,8 +38,8 @@ pub data ComesBefore : List MomentView → ℕ → ℕ → Type 0 where
 abbrev pub Knows : MomentView → MomentView → Type 0
 Knows f e = e.own ≤ count_of f.stamps e.clocked.host
 
--- clocks are vector time: each has one entry of a host; an event counts on from those of its host before it; its clock is
--- at least that of each event that it knows; and none that it knows of another host knows it
+-- clocks are vector time: each has one entry of a host; the own entries of a host's events grow; a clock is at least
+-- that of each event that it knows; and no event knows one to which a message goes from it
 pub record IsVectorTime (events : List MomentView) : Type 0 where
   pub once : (e : MomentView) (s : StampView) → Contains events e → Contains e.stamps s → count_of e.stamps s.host ≡ s.count
   pub counts : (i j : ℕ) → (later : IsLater events i j) → later.from.own < later.to.own
@@ -52,13 +52,13 @@ pub record IsLess (u v : List StampView) : Type 0 where
   pub host : List ℕ
   pub less : count_of u host < count_of v host
 
--- the clocks of the events at two places say that one is before the other
+-- the clocks of the events at two places are in this order
 pub record AreInOrder (events : List MomentView) (i j : ℕ) : Type 0 where
   pub from : MomentView
   pub to : MomentView
   pub at : AreAt events i j from to
   pub less : IsLess from.stamps to.stamps
 
--- an event comes before another only if their clocks say so
+-- an event comes before another one only if their clocks say so
 abbrev pub OrderLaw : Type 0
 OrderLaw = (log : ReadView) → IsVectorTime (moments_in log) → (i j : ℕ) → ComesBefore (moments_in log) i j → AreInOrder (moments_in log) i j

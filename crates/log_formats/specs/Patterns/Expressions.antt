@@ -1,4 +1,5 @@
--- Expressions that tell what the lines of a log say: what the regex crate reads in a text, with its own options for bytes.
+-- Expressions by which the lines of a log are read: what the regex crate reads in a text, with its own options for
+-- bytes.
 use Rattle.std.specs.Prelude.{◌≡◌, ◌≢◌, ℕ, ◌+◌, false, List, length, Option, None, Some, IsCharBoundary}
 use Rattle.regex.specs.Bytes.{regex_source, regex_config, regex_names, IsReadFromSource}
 use Rattle.regex.specs.Failures.{IsPattern}
@@ -17,8 +18,8 @@ use Rattle.log_formats.specs.declared.patterns.expression.Fault.TheVariants.{Unr
 use Rattle.log_formats.specs.declared.patterns.missing.Group.{Group}
 use Rattle.log_formats.specs.declared.patterns.feeds.Behind.TheVariants.{Other}
 
--- the options with which an expression for bytes is read where none is chosen: letters are told apart by case, `.` is no
--- line feed, and `^` and `$` are the ends of all lines in which it is looked for
+-- the options with which an expression for bytes is read if none is chosen: it is case-sensitive, `.` matches no line
+-- feed, and `^` and `$` match at the ends of all that is searched at once
 abbrev pub own_config : Config
 own_config = record default_config { utf8 = false }
 
@@ -28,15 +29,15 @@ pub record IsCompiled (text : List ℕ) (r : Regex) : Type 0 where
   pub config : regex_config r ≡ own_config
   pub read : IsReadFromSource r
 
--- an expression of this text: what the regex crate reads in it, its groups, and how many line feeds it has
+-- an expression with this text: what the regex crate reads in it, its groups, and its number of line feeds
 pub record IsExpression (text : List ℕ) (e : Expression) : Type 0 where
   pub compiled : IsCompiled text e.regex
   pub groups : Some e.groups ≡ groups_in (regex_names e.regex)
   pub among : AreAmong (length (regex_names e.regex)) e.groups
   pub more : e.more ≡ feeds_from Other 0 text
 
--- the grammar refuses the text for such a fault, which begins at the character that this place has, counted in bytes from 1,
--- or behind the last one
+-- the grammar refuses the text for this fault, which begins at the character at this place, counted in bytes from 1, or
+-- after the last one
 pub record IsUnreadable (text : List ℕ) (kind : ErrorKind) (place : ℕ) : Type 0 where
   pub refused : Refuses own_config text kind
   pub told : kind ≢ OutOfMemory
@@ -44,8 +45,8 @@ pub record IsUnreadable (text : List ℕ) (kind : ErrorKind) (place : ℕ) : Typ
   pub boundary : IsCharBoundary text start
   pub counted : place ≡ start + 1
 
--- the text is an expression that has none of the sets of groups, and lacks this one, and that one of another set that may be
--- meant
+-- the text is an expression with none of the sets of groups; it lacks this group, and that group of another set that
+-- may be meant
 pub record LacksGroup (text : List ℕ) (group : Group) (besides : Option Group) : Type 0 where
   pub regex : Regex
   pub compiled : IsCompiled text regex
@@ -53,12 +54,12 @@ pub record LacksGroup (text : List ℕ) (group : Group) (besides : Option Group)
   pub lacked : group ≡ lacks (regex_names regex)
   pub other : besides ≡ lacks_besides (regex_names regex)
 
--- the place behind the text
+-- the place after the text
 abbrev pub behind : List ℕ → ℕ
 behind text = length text + 1
 
--- the text is no expression by which a log is read, since it has this fault at this place; that one is too large is the regex
--- crate's word
+-- the text isn't an expression by which a log is read, since it has this fault at this place; that an expression is too
+-- large is taken from the regex crate
 abbrev pub IsFault : List ℕ → ℕ → Fault → Type 0
 IsFault text place (Unreadable kind) = IsUnreadable text kind place
 IsFault text place TooLarge = IsPattern own_config text × (place ≡ behind text)

@@ -1,4 +1,4 @@
--- What a match of an expression says, by its groups.
+-- What a match of an expression gives, by its groups.
 use Rattle.std.specs.Prelude.{ℕ, Bool, false, ◌&&◌, nat_le, List, [], ◌∷◌, Option, None, Some, length, option_map, is_some, unwrap_or, slice_range, if◌then◌else◌}
 use Rattle.diagram_statements.specs.Options.{◌>>=◌}
 use Rattle.log_lines.specs.Events.{EventView, LineView, AnEvent, AClocked, AMessage, Nothing, Other}
@@ -17,7 +17,7 @@ use Rattle.log_lines.specs.declared.plain.Direction.TheVariants.{Sends, Receives
 unfoldable pub span_bytes : List ℕ → ℕ × ℕ → Option (List ℕ)
 span_bytes window s = if nat_le s.0 s.1 && nat_le s.1 (length window) then Some (slice_range window s.0 s.1) else None
 
--- the bytes of each group, where these are their spans
+-- the bytes of each group, with these spans
 abbrev pub located : List ℕ → (ℕ → Option (ℕ × ℕ)) → ℕ → Option (List ℕ)
 located window spans n = spans n >>= span_bytes window
 
@@ -30,23 +30,25 @@ abbrev pub id_of : (ℕ → Option (List ℕ)) → Option ℕ → Option (List �
 id_of bytes None = None
 id_of bytes (Some n) = bytes n >>= if_there
 
--- what a line says of this event, where the word for its direction tells this
+-- what a line gives for this event, by its direction
 abbrev pub by_direction : Direction → EventView → LineView
 by_direction Sends e = AnEvent (record e { act = Send })
 by_direction Receives e = AnEvent (record e { act = Receive })
 by_direction Arrives e = Nothing
 by_direction Unknown e = Other
 
--- a group took part, if there is one
+-- an optional group takes part
 abbrev pub has_part : (ℕ → Option (List ℕ)) → Option ℕ → Bool
 has_part bytes None = false
 has_part bytes (Some n) = is_some (bytes n)
 
--- what a match tells by the word for its direction, or by a group that marks arrivals
+-- the direction of a match: an arrival if the group for arrivals takes part, and otherwise by the word for the
+-- direction
 abbrev pub direction_found : (ℕ → Option (List ℕ)) → EventGroups → Option Direction
 direction_found bytes g = if has_part bytes g.arrive then Some Arrives else option_map direction_of (bytes g.direction)
 
--- what a match tells of a host: what it did with a message, or that one reached it, and what its receive would have taken
+-- what a match gives of a host: what it did with a message, or that a message reached it, and what its receive would
+-- have taken
 pub record HostEventView : Type 0 where
   pub host : List ℕ
   pub direction : Direction
@@ -73,7 +75,7 @@ host_event bytes g = do
   name ← bytes g.name
   Some (record { host = host; direction = direction; peer = peer; name = name; id = id_of bytes g.id; takes = id_of bytes g.takes })
 
--- what a line says of it
+-- what a line gives for it
 abbrev pub said_of : HostEventView → LineView
 said_of e = by_direction e.direction (record { host = e.host; act = Send; peer = e.peer; name = e.name; id = e.id })
 
@@ -99,6 +101,6 @@ found_in bytes (groups.Event g) = event_found bytes g
 found_in bytes (groups.Capture g) = captured_found bytes g
 found_in bytes (groups.Clock g) = clocked_found bytes g
 
--- what a match says of which these are the groups; one in which a group took no part isn't read
+-- what a match with these groups gives; if one of them takes no part, the match isn't read
 unfoldable pub found_by : (ℕ → Option (List ℕ)) → Groups → LineView
 found_by bytes g = unwrap_or (found_in bytes g) Other

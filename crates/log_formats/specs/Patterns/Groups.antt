@@ -1,20 +1,20 @@
--- The groups of an expression (after ShiViz's convention: what a group says is told by its name).
+-- The groups of an expression (after ShiViz's convention: a group has the meaning of its name).
 use Rattle.std.specs.Prelude.{ℕ, ◌+◌, ◌≤◌, ◌<◌, Bool, false, List, [], ◌∷◌, Option, None, Some, option_map, position, string_bytes, String, bytes_eq, codes}
 use Rattle.texts.specs.Words.{or_else}
 use Rattle.diagram_statements.specs.Options.{◌>>=◌}
 use Rattle.log_formats.specs.declared.patterns.groups.Groups.{Groups}
 use Rattle.log_formats.specs.declared.patterns.groups.Groups.TheVariants.{Event, Capture, Clock}
 
--- the group is called so
+-- the group has this name
 abbrev pub is_named : List ℕ → Option (List ℕ) → Bool
 is_named name None = false
 is_named name (Some word) = bytes_eq word name
 
--- the place of the first group that is called so
+-- the place of the first group with this name
 abbrev pub named_at : {A : Type 0} → List ℕ → List (Option (String A)) → Option ℕ
 named_at name groups = position (λ g. is_named name (option_map string_bytes g)) groups
 
--- the number of the group that is called so: group 0 is the match itself
+-- the number of the first group with this name; group 0 is the match itself
 unfoldable pub group_in : List (Option (List ℕ)) → List ℕ → Option ℕ
 group_in [] name = None
 group_in (g ∷ groups) name = option_map (λ n. n + 1) (position (is_named name) groups)
@@ -51,11 +51,11 @@ clock_groups names = do
   event ← group_in names (codes "event")
   Some (Clock (record { host = host; clock = clock; event = event }))
 
--- what the groups say: the first of the three sets that the expression has whole
+-- the set of groups: the first of the three sets that the expression has
 abbrev pub groups_in : List (Option (List ℕ)) → Option Groups
 groups_in names = or_else (event_groups names) (or_else (capture_groups names) (clock_groups names))
 
--- a group of so many, and not the match itself
+-- one of count groups, and not the match itself
 abbrev pub IsAmong : ℕ → ℕ → Type 0
 IsAmong count n = (1 ≤ n) × (n < count)
 

@@ -1,4 +1,4 @@
--- How receives were chosen, by the matches of an expression: a match that tells of an arrival, and the group `takes` of a
+-- How receives were chosen, by the matches of an expression: a match that is an arrival, and the group `takes` of a
 -- receive (this project's profile of logs).
 use Rattle.std.specs.Prelude.{ℕ, ◌+◌, List, [], ◌∷◌, Option, None, Some}
 use Rattle.regex.specs.Patterns.{Re}
@@ -15,36 +15,37 @@ use Rattle.log_formats.specs.Patterns.Found.{HostEventView}
 use Rattle.log_formats.specs.Patterns.PatternReading.{pattern_step, pattern_event, event_at}
 use Rattle.log_formats.specs.declared.patterns.groups.Groups.{Groups}
 
--- the words of a group for what a receive would have taken
+-- the words of the group for what a receive would have taken
 abbrev pub takes_words : Option (List ℕ) → List (List ℕ)
 takes_words None = []
 takes_words (Some text) = words_of text
 
--- with what a match tells of a host, by its direction
+-- the observations, with what a match gives of a host, by its direction
 abbrev pub with_directed : List PeerView → Direction → HostEventView → ObservationsView → ObservationsView
 with_directed peers Sends e t = with_message (host_of peers e.host) (host_of peers e.peer) [] t
 with_directed peers Receives e t = with_message (host_of peers e.host) (host_of peers e.peer) (short_patterns peers (takes_words e.takes)) t
 with_directed peers Arrives e t = with_arrival (host_of peers e.host) (host_of peers e.peer) e.name e.id t
 with_directed peers Unknown e t = t
 
--- with what a match tells, if it tells of a host
+-- the observations, with what a match gives, if it gives something of a host
 abbrev pub with_told : List PeerView → Option HostEventView → ObservationsView → ObservationsView
 with_told peers None t = t
 with_told peers (Some e) t = with_directed peers e.direction e t
 
--- with these lines of a text, the first of which has this number, where so many lines are a part of what was said before
+-- the observations, with these lines of a text: the first has this number, and the first taken lines belong to an
+-- earlier match
 abbrev pub with_told_lines : List PeerView → (List (List ℕ) → StepView) → (List (List ℕ) → Option HostEventView) → LineRange → ℕ → ℕ → List (List ℕ) → ObservationsView → ObservationsView
 with_told_lines peers says events range n taken [] t = t
 with_told_lines peers says events range n taken (line ∷ lines) t =
     with_told_lines peers says events range (n + 1) (step_at says range n taken (line ∷ lines)).takes lines (with_told peers (event_at events range n taken (line ∷ lines)) t)
 
--- with these texts
+-- the observations, with these texts
 abbrev pub with_told_texts : List PeerView → (List (List ℕ) → StepView) → (List (List ℕ) → Option HostEventView) → LineRange → List (List ℕ) → ObservationsView → ObservationsView
 with_told_texts peers says events range [] t = t
 with_told_texts peers says events range (text ∷ texts) t =
     with_told_texts peers says events range texts (with_told_lines peers says events range 1 0 (all_lines text) t)
 
--- what the texts tell
+-- the observations of the texts
 unfoldable pub pattern_observed : Groups → ℕ → Re → List PeerView → LineRange → List (List ℕ) → ObservationsView
 pattern_observed groups more pattern peers range texts =
     with_told_texts peers (pattern_step groups more pattern) (pattern_event groups more pattern) range texts no_observations

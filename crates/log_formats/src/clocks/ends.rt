@@ -1,4 +1,4 @@
-//! The ends of messages that each event is.
+//! The ends of messages at each event.
 ghost use Rattle.std.specs.Prelude.{◌≡◌, [], map, replicate, IfOk, OnOk};
 ghost use Rattle.log_formats.specs.Clocks.Ends.{place_of, with_end, AreEnds};
 ghost use Rattle.log_formats.specs.Clocks.Hearing.{heard_view};
@@ -13,7 +13,7 @@ pub(crate) enum End {
     Receive,
 }
 
-/// The place of this end's event, if the log has it.
+/// The place of the event at this end, if the log has it.
 fn place_of(end: End, heard: &Heard<'_>) -> Option<usize>
     ensures { result ≡ place_of end (heard_view heard.now) }
 {
@@ -23,7 +23,7 @@ fn place_of(end: End, heard: &Heard<'_>) -> Option<usize>
     }
 }
 
-/// An empty list for each of so many events.
+/// An empty list for each of `count` events. It fails only if there is no memory.
 fn no_ends<'a>(alloc: Global, count: usize) -> Result<Vec<Vec<Heard<'a>>>, AllocError>
     ensures { IfOk result (λ lists. map (λ list. map heard_view list.items) lists.items ≡ replicate count []) }
 {
@@ -34,7 +34,7 @@ fn no_ends<'a>(alloc: Global, count: usize) -> Result<Vec<Vec<Heard<'a>>>, Alloc
     Ok(lists)
 }
 
-/// Puts what was heard into the list of this place, if there is one.
+/// Adds a heard entry to the list of this place, if there is one.
 fn put<'a>(
     lists: &mut Vec<Vec<Heard<'a>>>,
     place: Option<usize>,
@@ -51,7 +51,8 @@ fn put<'a>(
     Ok(())
 }
 
-/// For each of so many events what was heard by messages of which it is this end, in the order in which it was heard.
+/// For each of `count` events the heard entries whose messages have this end there, in the order of `all`. It fails
+/// only if there is no memory.
 pub(crate) fn ends_of<'a>(
     alloc: Global,
     end: End,

@@ -1,4 +1,4 @@
-//! What events have heard of, by their clocks.
+//! What events have heard of other hosts, by their clocks.
 ghost use Rattle.std.specs.Prelude.{◌≡◌, [], List, map, option_map, if◌then◌else◌, IfOk, OnOk};
 ghost use Rattle.log_formats.specs.Clocks.Hearing.{heard_view, grew, heard_of, with_grown, grown, knows_of, may_know_of, may_imply, implies, is_implied, with_direct, with_heard, all_heard};
 ghost use Rattle.log_formats.specs.Clocks.Moments.{MomentView, moment_view, is_by_clock};
@@ -11,25 +11,25 @@ use crate::clocks::tables::{Host, count_at, last_in, note_last, place_in, places
 use indexmap::IndexMap;
 use std::alloc::{AllocError, Global};
 
-/// An entry of an event's clock that grew.
+/// A heard entry: an entry of an event's clock that grew.
 #[derive(Clone, Copy, Debug)]
 pub(crate) struct Heard<'a> {
     pub stamp: Stamp<'a>,
-    /// The event of this host with this entry, by its place, if the log has it.
+    /// The place of the event to which it refers: the event of its host with this entry as its own, if the log has it.
     pub source: Option<usize>,
-    /// The event that has heard of it, by its place, and its host.
+    /// The place of the event that has heard of it, and the host of that event.
     pub at: usize,
     pub host: &'a [u8],
 }
 
-/// Whether the entry of another host grew since the event at this place.
+/// Whether this is the entry of another host, and grew since the event at the place `before`.
 fn grew(host: &[u8], moments: &[Moment<'_>], before: Option<usize>, stamp: &Stamp<'_>) -> bool
     ensures { result ≡ grew host.now (stamps_at (map moment_view moments.now) before) (stamp_view stamp.now) }
 {
     stamp.host != host && count_at(moments, before, stamp.host) < stamp.count
 }
 
-/// What an event hears of by this entry of its clock.
+/// The heard entry of an event, for this entry of its clock.
 fn heard_of<'a>(
     places: &IndexMap<Stamp<'a>, usize>,
     at: usize,
@@ -48,7 +48,7 @@ fn heard_of<'a>(
     }
 }
 
-/// The entries of an event's clock that grew since the event at a place.
+/// The entries of an event's clock that grew since the event at a place. It fails only if there is no memory.
 fn grown_since<'a>(
     alloc: Global,
     moments: &[Moment<'a>],
@@ -69,7 +69,7 @@ fn grown_since<'a>(
     Ok(found)
 }
 
-/// The entries of an event's clock that grew since its host's last event.
+/// The entries of an event's clock that grew since its host's last event. It fails only if there is no memory.
 fn grown<'a>(
     alloc: Global,
     moments: &[Moment<'a>],
@@ -87,7 +87,7 @@ fn grown<'a>(
     grown_since(alloc, moments, places, at, moment, before)
 }
 
-/// Whether an event of another host, if there is one, knows of what was heard.
+/// Whether `moment`, the event to which the entry `by` refers, is of another host and knows of what was heard.
 fn knows_of(by: &Heard<'_>, heard: &Heard<'_>, moment: Option<&Moment<'_>>) -> bool
     ensures { result ≡ knows_of (heard_view by.now) (heard_view heard.now) (option_map (λ m. moment_view m.now) moment.entry) }
 {
@@ -100,8 +100,8 @@ fn knows_of(by: &Heard<'_>, heard: &Heard<'_>, moment: Option<&Moment<'_>>) -> b
     }
 }
 
-/// Whether an event of another host that the log lacks may know of what was heard, whose event, if the log has it, is
-/// this one. It can't where this knows of it.
+/// Whether an event of another host that the log lacks may know of what was heard. `moment` is the event to which the
+/// heard entry refers. If that event knows of the lacking one, this one can't know of it.
 fn may_know_of(by: &Heard<'_>, heard: &Heard<'_>, moment: Option<&Moment<'_>>) -> bool
     ensures { result ≡ may_know_of (heard_view by.now) (heard_view heard.now) (option_map (λ m. moment_view m.now) moment.entry) }
 {
@@ -114,7 +114,7 @@ fn may_know_of(by: &Heard<'_>, heard: &Heard<'_>, moment: Option<&Moment<'_>>) -
     }
 }
 
-/// Whether an entry whose event the log lacks may tell of another one that grew.
+/// Whether an entry may imply another one that grew, if the log lacks the event to which it refers.
 fn may_imply(moments: &[Moment<'_>], by: &Heard<'_>, heard: &Heard<'_>) -> bool
     ensures { result ≡ may_imply (map moment_view moments.now) (heard_view by.now) (heard_view heard.now) }
 {
@@ -124,8 +124,8 @@ fn may_imply(moments: &[Moment<'_>], by: &Heard<'_>, heard: &Heard<'_>) -> bool
     }
 }
 
-/// Whether an entry tells of another one that grew: the event behind it knows of this, or may know of it where the log
-/// lacks that event. So a message that clocks tell is never one that came by a host whose lines are missing.
+/// Whether an entry implies another one that grew: the event to which it refers knows of the other, or may know of it
+/// if the log lacks this event. So a message that follows from clocks never came by a host whose lines are missing.
 fn implies(moments: &[Moment<'_>], by: &Heard<'_>, heard: &Heard<'_>) -> bool
     ensures { result ≡ implies (map moment_view moments.now) (heard_view by.now) (heard_view heard.now) }
 {
@@ -135,7 +135,7 @@ fn implies(moments: &[Moment<'_>], by: &Heard<'_>, heard: &Heard<'_>) -> bool
     }
 }
 
-/// Whether one of the entries that grew tells of this one.
+/// Whether one of the entries that grew implies this one.
 fn is_implied(moments: &[Moment<'_>], found: &[Heard<'_>], heard: &Heard<'_>) -> bool
     ensures { result ≡ is_implied (map moment_view moments.now) (map heard_view found.now) (heard_view heard.now) }
 {
@@ -147,7 +147,7 @@ fn is_implied(moments: &[Moment<'_>], found: &[Heard<'_>], heard: &Heard<'_>) ->
     false
 }
 
-/// Adds those of the entries that grew of which no other tells.
+/// Adds those of the entries that grew that no other one implies.
 fn add_direct<'a>(
     moments: &[Moment<'a>],
     found: &[Heard<'a>],
@@ -164,7 +164,7 @@ fn add_direct<'a>(
     Ok(())
 }
 
-/// Adds what an event has heard of directly, if its clock tells what it is.
+/// Adds what an event has heard of directly, if its clock decides about it.
 fn add_heard<'a>(
     alloc: Global,
     moments: &[Moment<'a>],
@@ -187,7 +187,7 @@ fn add_heard<'a>(
     add_direct(moments, &found, all)
 }
 
-/// What events have heard of directly, of those of which their clocks tell what they are.
+/// What events have heard of directly, of the events about which clocks decide. It fails only if there is no memory.
 #[tactic(auto, unfolding(crate::specs::Clocks::Hearing::all_heard))]
 pub(crate) fn all_heard<'a>(
     alloc: Global,

@@ -14,14 +14,14 @@ use std::alloc::{AllocError, Global};
 pub(crate) struct Moment<'a> {
     pub clocked: Clocked<'a>,
     pub place: Place,
-    /// What is read of its words alone.
+    /// What its words alone give.
     pub worded: Read<'a>,
     pub stamps: Vec<Stamp<'a>>,
-    /// Which event of its host it is, by its clock: the first is 1. It is 0 where the clock doesn't say so.
+    /// The number of this event among those of its host, by its clock, from 1. It is 0 if the clock doesn't give it.
     pub own: u32,
 }
 
-/// What is read of an event's words.
+/// Reads the words of an event. It fails only if there is no memory.
 fn worded<'a>(alloc: Global, event: ClockedAt<'a>) -> Result<Read<'a>, AllocError>
     ensures { IfOk result (λ read. read_view read ≡ worded (clocked_at_view event.entry)) }
 {
@@ -30,7 +30,7 @@ fn worded<'a>(alloc: Global, event: ClockedAt<'a>) -> Result<Read<'a>, AllocErro
     by_words(alloc, read)
 }
 
-/// The event, read.
+/// Reads an event. It fails only if there is no memory.
 fn moment_of<'a>(alloc: Global, event: ClockedAt<'a>) -> Result<Moment<'a>, AllocError>
     ensures { IfOk result (λ m. moment_view m ≡ moment_of (clocked_at_view event.entry)) }
 {
@@ -46,7 +46,7 @@ fn moment_of<'a>(alloc: Global, event: ClockedAt<'a>) -> Result<Moment<'a>, Allo
     })
 }
 
-/// The events, read.
+/// Reads events. It fails only if there is no memory.
 pub(crate) fn moments_of<'a>(
     alloc: Global,
     events: &[ClockedAt<'a>],
@@ -60,14 +60,14 @@ pub(crate) fn moments_of<'a>(
     Ok(moments)
 }
 
-/// Whether the event says in no words what it is, and its clock tells.
+/// Whether the event isn't read by its words, and its clock gives its number.
 pub(crate) fn is_by_clock(moment: &Moment<'_>) -> bool
     ensures { result ≡ is_by_clock (moment_view moment.now) }
 {
     moment.worded.others.is_some() && 0 < moment.own
 }
 
-/// The event's own entry: its host, and which of its events it is.
+/// The event's own entry: its host, and its number among the events of this host.
 pub(crate) fn own_stamp<'a>(moment: &Moment<'a>) -> Stamp<'a>
     ensures { stamp_view result ≡ own_stamp (moment_view moment.now) }
 {
@@ -77,7 +77,7 @@ pub(crate) fn own_stamp<'a>(moment: &Moment<'a>) -> Stamp<'a>
     }
 }
 
-/// Whether one of the events is told by its clock.
+/// Whether clocks decide about one of the events.
 pub(crate) fn any_by_clock(moments: &[Moment<'_>]) -> bool
     ensures { result ≡ any_by_clock (map moment_view moments.now) }
 {

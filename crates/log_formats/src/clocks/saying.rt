@@ -1,4 +1,4 @@
-//! What events say, by their words or by their clocks.
+//! Reads events with vector time, by their words or by their clocks.
 ghost use Rattle.std.specs.Prelude.{◌≡◌, List, length, map, option_map, IfOk, OnOk};
 ghost use Rattle.log_lines.specs.Events.{clocked_view, event_view};
 ghost use Rattle.log_lines.specs.Reading.{read_view};
@@ -15,15 +15,15 @@ use crate::clocks::moment::{Moment, any_by_clock, is_by_clock, moments_of};
 use log_lines::{Act, Clocked, Event, LineSays, Read};
 use std::alloc::{AllocError, Global};
 
-/// What is read of a log by clocks.
+/// What is read of a log with vector time.
 #[derive(Debug, Drop)]
 pub struct Timed<'a> {
     pub read: Read<'a>,
-    /// Whether there is an event of which its clock tells what it is.
+    /// Whether clocks decide about some event.
     pub is_timed: bool,
 }
 
-/// The event at a place, or its own where there is none.
+/// The event of a moment, or `own` if there is none.
 fn clocked_at<'a>(own: Clocked<'a>, moment: Option<&Moment<'a>>) -> Clocked<'a>
     ensures { clocked_view result ≡ clocked_at (clocked_view own.entry) (option_map (λ m. moment_view m.now) moment.entry) }
 {
@@ -33,7 +33,7 @@ fn clocked_at<'a>(own: Clocked<'a>, moment: Option<&Moment<'a>>) -> Clocked<'a>
     }
 }
 
-/// The event behind what was heard, or its own where the log has none.
+/// The event to which a heard entry refers, or `own` if the log lacks it.
 fn sent_at<'a>(moments: &[Moment<'a>], own: Clocked<'a>, source: Option<usize>) -> Clocked<'a>
     ensures { clocked_view result ≡ sent_at (map moment_view moments.now) (clocked_view own.entry) source }
 {
@@ -43,8 +43,8 @@ fn sent_at<'a>(moments: &[Moment<'a>], own: Clocked<'a>, source: Option<usize>) 
     }
 }
 
-/// The receive of what an event has heard of. Its name is the text of the send, and its id the clock of the send:
-/// without a send in the log they are its own.
+/// The receive for a heard entry. Its name is the text of the send, and its id the clock of the send. If the log lacks
+/// the send, they are those of the receive's own event.
 fn receive_of<'a>(moments: &[Moment<'a>], moment: &Moment<'a>, heard: &Heard<'a>) -> Event<'a>
     ensures { event_view result ≡ receive_of (map moment_view moments.now) (moment_view moment.now) (heard_view heard.now) }
 {
@@ -58,7 +58,7 @@ fn receive_of<'a>(moments: &[Moment<'a>], moment: &Moment<'a>, heard: &Heard<'a>
     }
 }
 
-/// The send of which a host has heard.
+/// The send for an entry that another host has heard.
 fn send_of<'a>(moment: &Moment<'a>, heard: &Heard<'a>) -> Event<'a>
     ensures { event_view result ≡ send_of (moment_view moment.now) (heard_view heard.now) }
 {
@@ -71,7 +71,7 @@ fn send_of<'a>(moment: &Moment<'a>, heard: &Heard<'a>) -> Event<'a>
     }
 }
 
-/// Adds the receives of what an event has heard of.
+/// Adds the receives for the entries that an event has heard.
 fn add_receives<'a>(
     moments: &[Moment<'a>],
     moment: &Moment<'a>,
@@ -88,7 +88,7 @@ fn add_receives<'a>(
     Ok(())
 }
 
-/// Adds the sends of which hosts have heard so.
+/// Adds the sends for the entries by which hosts have heard of an event.
 fn add_sends<'a>(
     moment: &Moment<'a>,
     sent: &[Heard<'a>],
@@ -104,7 +104,7 @@ fn add_sends<'a>(
     Ok(())
 }
 
-/// Adds what an event says in words, or that it isn't read.
+/// Adds what an event's words give, or counts it as not read.
 fn add_worded<'a>(moment: &Moment<'a>, read: &mut Read<'a>) -> Result<(), AllocError>
     ensures { OnOk result (read_view read.new ≡ with_worded (moment_view moment.now) (read_view read.old)) }
 {
@@ -115,7 +115,7 @@ fn add_worded<'a>(moment: &Moment<'a>, read: &mut Read<'a>) -> Result<(), AllocE
     Ok(())
 }
 
-/// Adds what an event says, of which these are the ends of messages.
+/// Adds what an event gives. `received` and `sent` have the ends of messages there.
 fn add_moment<'a>(
     moments: &[Moment<'a>],
     moment: &Moment<'a>,
@@ -133,7 +133,7 @@ fn add_moment<'a>(
     add_sends(moment, sent, read)
 }
 
-/// Adds what the events say.
+/// Adds what the events give.
 fn add_moments<'a>(
     moments: &[Moment<'a>],
     received: &[Vec<Heard<'a>>],
@@ -155,9 +155,9 @@ fn add_moments<'a>(
     Ok(())
 }
 
-/// What is read of a log, with what its events with vector time say: in the words `out M to B` and `in M from A`, or
-/// else by their clocks. An event whose clock doesn't tell which of its host it is, and that says nothing in words, is
-/// among what isn't read. It takes time in proportion to the number of events, if few entries of a clock grow at once.
+/// Reads a log's events with vector time: by the words `out M to B` and `in M from A`, or by their clocks. An event
+/// that has no such words, and whose clock doesn't give its number, counts as not read. It takes time in proportion to
+/// the number of events, if few entries of a clock grow at once. It fails only if there is no memory.
 #[tactic(auto, unfolding(crate::specs::Clocks::Saying::by_clocks, crate::specs::Clocks::Saying::is_timed))]
 pub fn by_clocks<'a>(alloc: Global, read: Read<'a>) -> Result<Timed<'a>, AllocError>
     ensures read { IfOk result (λ timed. read_view timed.read ≡ by_clocks (read_view read.entry)) }

@@ -7,14 +7,14 @@ use std::alloc::{AllocError, Global};
 use texts::digits::number_in;
 use texts::{behind_blanks, first_place, is_comma, stripped};
 
-/// An entry of a clock: a host, and how many of its events are known.
+/// An entry of a clock: a host, and the number of its events that are known.
 #[derive(Clone, Copy, Debug, PartialEq, Eq, Hash)]
 pub(crate) struct Stamp<'a> {
     pub host: &'a [u8],
     pub count: u32,
 }
 
-/// What stands behind this byte, if the bytes begin with it.
+/// The bytes after the byte `mark`, if the bytes begin with it.
 fn behind_mark(mark: u8, bytes: &[u8]) -> Option<&[u8]>
     ensures { option_map (λ b. b.now) result ≡ behind_mark mark bytes.now }
 {
@@ -24,7 +24,7 @@ fn behind_mark(mark: u8, bytes: &[u8]) -> Option<&[u8]>
     }
 }
 
-/// What `"HOST":COUNT` says.
+/// The entry that `"HOST":COUNT` gives.
 #[tactic(auto, unfolding(crate::specs::Clocks::Stamps::stamp_in))]
 fn stamp_in(part: &[u8]) -> Option<Stamp<'_>>
     ensures { option_map stamp_view result ≡ stamp_in part.now }
@@ -38,7 +38,7 @@ fn stamp_in(part: &[u8]) -> Option<Stamp<'_>>
     })
 }
 
-/// What stands between the braces of a clock, if there is something.
+/// The part between the braces of a clock, if there is one.
 #[tactic(auto, unfolding(crate::specs::Clocks::Stamps::inside))]
 fn inside(clock: &[u8]) -> Option<&[u8]>
     ensures { option_map (λ b. b.now) result ≡ inside clock.now }
@@ -48,7 +48,7 @@ fn inside(clock: &[u8]) -> Option<&[u8]>
     Some(&behind[..end])
 }
 
-/// Adds an entry, if this part is one.
+/// Adds an entry, if this part is an entry.
 fn add_part<'a>(stamps: &mut Vec<Stamp<'a>>, part: &'a [u8]) -> Result<(), AllocError>
     ensures { OnOk result (map stamp_view stamps.new.items ≡ with_stamp (map stamp_view stamps.old.items) (stamp_in part.now)) }
 {
@@ -58,7 +58,7 @@ fn add_part<'a>(stamps: &mut Vec<Stamp<'a>>, part: &'a [u8]) -> Result<(), Alloc
     Ok(())
 }
 
-/// The entries of a list of them, without those that can't be read.
+/// The entries of a list, without parts that can't be read. It fails only if there is no memory.
 #[tactic(auto, unfolding(crate::specs::Clocks::Stamps::listed))]
 fn listed(alloc: Global, list: &[u8]) -> Result<Vec<Stamp<'_>>, AllocError>
     ensures { IfOk result (λ stamps. map stamp_view stamps.items ≡ listed list.now) }
@@ -70,7 +70,7 @@ fn listed(alloc: Global, list: &[u8]) -> Result<Vec<Stamp<'_>>, AllocError>
     Ok(stamps)
 }
 
-/// The entries of a clock, without those that can't be read.
+/// The entries of a clock, without parts that can't be read. It fails only if there is no memory.
 pub(crate) fn stamps_in(alloc: Global, clock: &[u8]) -> Result<Vec<Stamp<'_>>, AllocError>
     ensures { IfOk result (λ stamps. map stamp_view stamps.items ≡ stamps_in clock.now) }
 {
@@ -80,7 +80,7 @@ pub(crate) fn stamps_in(alloc: Global, clock: &[u8]) -> Result<Vec<Stamp<'_>>, A
     }
 }
 
-/// What these entries know of a host: of none 0.
+/// The count of the first entry of this host, or 0 if there is none.
 pub(crate) fn count_of(stamps: &[Stamp<'_>], host: &[u8]) -> u32
     ensures { result ≡ count_of (map stamp_view stamps.now) host.now }
 {

@@ -1,4 +1,4 @@
-//! Where events are, by their hosts.
+//! The places of events, by their hosts.
 ghost use Rattle.std.specs.Prelude.{◌≡◌, Some, map, option_map, if◌then◌else◌, bytes_eq, IfOk, OnOk};
 ghost use Rattle.std.specs.Map.{lookup};
 ghost use Rattle.log_formats.specs.Clocks.Moments.{moment_view, is_of};
@@ -18,7 +18,7 @@ pub(crate) struct Host<'a> {
     pub name: &'a [u8],
 }
 
-/// The event with this entry as its own is at this place.
+/// Notes the place of the event with this entry as its own.
 fn put_place<'a>(
     places: &mut IndexMap<Stamp<'a>, usize>,
     stamp: Stamp<'a>,
@@ -31,7 +31,7 @@ fn put_place<'a>(
     Ok(())
 }
 
-/// The place of the first event with each entry as its own.
+/// For each entry the place of the first event that has it as its own. It fails only if there is no memory.
 pub(crate) fn places_of<'a>(
     alloc: Global,
     moments: &[Moment<'a>],
@@ -54,7 +54,7 @@ pub(crate) fn place_in<'a>(places: &IndexMap<Stamp<'a>, usize>, stamp: Stamp<'a>
     places.get(&stamp).copied()
 }
 
-/// The host's last event is at this place.
+/// Notes the place of the host's last event.
 fn put_last<'a>(
     lasts: &mut IndexMap<Host<'a>, usize>,
     host: Host<'a>,
@@ -67,7 +67,7 @@ fn put_last<'a>(
     Ok(())
 }
 
-/// The event at this place is its host's last one, if its clock tells which it is.
+/// Notes the event at this place as its host's last one, if its clock gives its number.
 pub(crate) fn note_last<'a>(
     lasts: &mut IndexMap<Host<'a>, usize>,
     at: usize,
@@ -90,7 +90,7 @@ pub(crate) fn last_in<'a>(lasts: &IndexMap<Host<'a>, usize>, host: Host<'a>) -> 
     lasts.get(&host).copied()
 }
 
-/// What an event knows of a host, if there is one: else 0.
+/// The count that an event has of a host, or 0 if there is no event.
 fn count_in(moment: Option<&Moment<'_>>, host: &[u8]) -> u32
     ensures { result ≡ count_of (stamps_of (option_map (λ m. moment_view m.now) moment.entry)) host.now }
 {
@@ -100,7 +100,7 @@ fn count_in(moment: Option<&Moment<'_>>, host: &[u8]) -> u32
     }
 }
 
-/// What the event at a place knows of a host, if there is one: else 0.
+/// The count that the event at a place has of a host, or 0 if there is no event.
 pub(crate) fn count_at(moments: &[Moment<'_>], place: Option<usize>, host: &[u8]) -> u32
     ensures { result ≡ count_of (stamps_at (map moment_view moments.now) place) host.now }
 {

@@ -1,4 +1,4 @@
-//! Expressions that tell what the lines of a log say.
+//! Expressions by which the lines of a log are read.
 ghost use Rattle.std.specs.Prelude.{IfOk, IfErr};
 ghost use Rattle.log_formats.specs.Patterns.Expressions.{IsCompiled, IsExpression, IsBad};
 
@@ -10,24 +10,24 @@ use regex::bytes::Regex;
 use regex_syntax::ErrorKind;
 use std::alloc::Global;
 
-/// An expression that tells what the lines of a log say.
+/// An expression by which the lines of a log are read.
 #[derive(Drop)]
 pub struct Expression {
     pub(crate) regex: Regex,
     pub(crate) groups: Groups,
-    /// With how many lines behind a line it is matched.
+    /// The number of further lines in which it is searched, after a line.
     pub(crate) more: usize,
 }
 
 /// Why a text is no such expression.
 #[derive(Clone, Copy, Debug, PartialEq, Eq)]
 pub enum Fault {
-    /// The grammar refuses it for this.
+    /// The grammar refuses the text for this.
     Unreadable(ErrorKind),
-    /// What it comes to is too large.
+    /// The compiled expression would be too large.
     TooLarge,
-    /// It has none of the sets of groups whole. It lacks the first of the set that is meant, and where another set may
-    /// be meant too, the first of that.
+    /// It has none of the sets of groups. The first group is the one that it lacks of the set that is meant. If another
+    /// set may be meant too, the second group is the one that it lacks of that set.
     Lacks(Group, Option<Group>),
 }
 
@@ -36,11 +36,12 @@ pub enum Fault {
 pub enum BadExpression {
     /// F6: a growth was refused.
     Memory,
-    /// F39: the text has a fault that begins at this place, counted in bytes from 1. It may be the one behind its end.
+    /// F39: the text has a fault that begins at this place, counted in bytes from 1. The place may be the one after its
+    /// end.
     At(usize, Fault),
 }
 
-/// The text, compiled with the crate's own options.
+/// Compiles the text with the own options of the crate `regex`.
 fn compiled(alloc: Global, text: &str) -> Result<Regex, BadExpression>
     ensures ok { IfOk result (IsCompiled text.now) }
     ensures err { IfErr result (IsBad text.now) }
@@ -59,9 +60,12 @@ fn compiled(alloc: Global, text: &str) -> Result<Regex, BadExpression>
 }
 
 impl Expression {
-    /// Reads an expression, in the syntax of Rust's regex crate and with its own options. Its groups are `host`, `dir`,
-    /// `peer`, `name` and perhaps `id`, `takes` and `arrive`, or `src`, `dst`, `name` and perhaps `id`, or `host`,
-    /// `clock` and `event`: the first of these sets that it has whole.
+    /// Reads an expression, in the syntax of Rust's regex crate and with its own options. The expression has one of
+    /// these sets of groups, and of several the first:
+    ///
+    /// - `host`, `dir`, `peer`, `name`, and optionally `id`, `takes` and `arrive`
+    /// - `src`, `dst`, `name`, and optionally `id`
+    /// - `host`, `clock` and `event`
     pub fn new(alloc: Global, text: &str) -> Result<Expression, BadExpression>
         ensures ok { IfOk result (IsExpression text.now) }
         ensures err { IfErr result (IsBad text.now) }

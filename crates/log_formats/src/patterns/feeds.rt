@@ -1,21 +1,21 @@
-//! How many lines an expression is matched with.
+//! The number of lines in which an expression is searched.
 ghost use Rattle.std.specs.Prelude.{◌≡◌, ◌+◌, ◌≤◌, ◌<◌, ◌^◌, length};
 ghost use Rattle.log_formats.specs.Patterns.Feeds.{is_feed, behind_plain, behind_next, opened, depth_plain, depth_next, feeds_from};
 ghost use Rattle.log_formats.specs.declared.patterns.feeds.Behind.TheVariants as stands;
 
-/// What a byte of an expression stands behind.
+/// What comes directly before a byte of an expression.
 #[derive(Clone, Copy, Debug, PartialEq, Eq)]
 pub(crate) enum Behind {
-    /// A backslash that takes it for itself.
+    /// A backslash that isn't escaped.
     Backslash,
     /// The bracket that opens a class.
     Bracket,
-    /// The caret behind such a bracket.
+    /// The caret after such a bracket.
     Caret,
     Other,
 }
 
-/// Whether the byte is a line feed, or the letter of one, and stands in no class that begins with `[^`.
+/// Whether the byte is a line feed, or the letter of `\n`, and isn't in a class that begins with `[^`.
 fn is_feed(behind: Behind, depth: usize, byte: u8) -> bool
     ensures { result ≡ is_feed behind depth byte }
 {
@@ -37,7 +37,7 @@ fn behind_plain(byte: u8) -> Behind
     }
 }
 
-/// What the next byte stands behind.
+/// What comes directly before the next byte.
 fn behind_next(behind: Behind, byte: u8) -> Behind
     ensures { result ≡ behind_next behind byte }
 {
@@ -54,7 +54,7 @@ fn behind_next(behind: Behind, byte: u8) -> Behind
     }
 }
 
-/// How many classes are open behind a bracket that opens one.
+/// The number of open classes after a bracket that opens one, counted from the outermost class that begins with `[^`.
 fn opened(depth: usize) -> usize
     requires { depth < 2 ^ 63 }
     ensures value { result ≡ opened depth }
@@ -63,7 +63,7 @@ fn opened(depth: usize) -> usize
     if depth == 0 { 0 } else { depth + 1 }
 }
 
-/// How many are open behind a byte that closes none.
+/// The same after a byte that closes no class.
 fn depth_plain(depth: usize, byte: u8) -> usize
     requires { depth < 2 ^ 63 }
     ensures value { result ≡ depth_plain depth byte }
@@ -72,7 +72,7 @@ fn depth_plain(depth: usize, byte: u8) -> usize
     if byte == b'[' { opened(depth) } else { depth }
 }
 
-/// How many classes are open behind the byte, from the outermost that begins with `[^` on.
+/// The same after any byte.
 fn depth_next(behind: Behind, depth: usize, byte: u8) -> usize
     requires { depth < 2 ^ 63 }
     ensures value { result ≡ depth_next behind depth byte }
@@ -98,8 +98,8 @@ fn depth_next(behind: Behind, depth: usize, byte: u8) -> usize
     }
 }
 
-/// How many line feeds an expression has: each `\n`, and each byte that is one. Those in classes that begin with `[^`
-/// don't count, since such a class matches other bytes.
+/// The number of line feeds of an expression: each `\n`, and each byte that is a line feed. Those in classes that begin
+/// with `[^` don't count, since such a class matches other bytes.
 #[tactic(auto, unfolding(crate::specs::Patterns::Feeds::feeds_from))]
 pub(crate) fn feeds_in(expression: &[u8]) -> usize
     ensures value { result ≡ feeds_from stands.Other 0 expression.now }

@@ -1,4 +1,4 @@
-//! What a match of an expression says.
+//! What a match of an expression gives, by its groups.
 ghost use Rattle.std.specs.Prelude.{◌≡◌, option_map};
 ghost use Rattle.regex.specs.Locations.{location};
 ghost use Rattle.log_lines.specs.Events.{line_view};
@@ -9,7 +9,7 @@ use crate::patterns::host_event::event_found;
 use log_lines::{Act, Clocked, Event, LineSays};
 use regex::CaptureLocations;
 
-/// The bytes of this span, if it is one.
+/// The bytes of a span, if it is within the window.
 #[tactic(auto, unfolding(crate::specs::Patterns::Found::span_bytes))]
 fn span_bytes(window: &[u8], start: usize, end: usize) -> Option<&[u8]>
     ensures { option_map (λ b. b.now) result ≡ span_bytes window.now (start, end) }
@@ -21,7 +21,7 @@ fn span_bytes(window: &[u8], start: usize, end: usize) -> Option<&[u8]>
     }
 }
 
-/// The bytes of a group, if it took part.
+/// The bytes of a group, if it takes part in the match.
 pub(crate) fn group_bytes<'a>(
     locations: &CaptureLocations,
     window: &'a [u8],
@@ -35,7 +35,8 @@ pub(crate) fn group_bytes<'a>(
     }
 }
 
-/// The bytes of a group, if the expression has it, and they aren't empty: an id, or what a receive would have taken.
+/// The bytes of an optional group, if the expression has the group, and they aren't empty. They are an id, or what a
+/// receive would have taken.
 pub(crate) fn id_of<'a>(
     locations: &CaptureLocations,
     window: &'a [u8],
@@ -85,7 +86,7 @@ fn clocked_found<'a>(
     Some(LineSays::Clocked(Clocked { host, clock, event }))
 }
 
-/// What a match says, if each group took part.
+/// What a match gives, if each group that it needs takes part.
 fn found_in<'a>(
     locations: &CaptureLocations,
     window: &'a [u8],
@@ -100,7 +101,7 @@ fn found_in<'a>(
     }
 }
 
-/// What a match says, by its groups. A match in which one of them took no part says nothing that is read.
+/// What a match gives, by its groups. If one of the groups takes no part, the match isn't read.
 #[tactic(auto, unfolding(crate::specs::Patterns::Found::found_by))]
 pub(crate) fn found_by<'a>(
     locations: &CaptureLocations,

@@ -13,9 +13,9 @@ pub struct EventGroups {
     pub peer: usize,
     pub name: usize,
     pub id: Option<usize>,
-    /// What a receive would have taken.
+    /// The group of what a receive would have taken.
     pub takes: Option<usize>,
-    /// Where it takes part a message arrived, whatever the direction is.
+    /// The group that marks arrivals, whatever the direction is.
     pub arrive: Option<usize>,
 }
 
@@ -36,7 +36,7 @@ pub struct ClockGroups {
     pub event: usize,
 }
 
-/// What the groups of an expression say.
+/// The set of groups of an expression.
 #[derive(Clone, Copy, Debug, PartialEq, Eq)]
 pub enum Groups {
     /// `host`, `dir`, `peer`, `name` and perhaps `id`, `takes` and `arrive`.
@@ -47,7 +47,7 @@ pub enum Groups {
     Clock(ClockGroups),
 }
 
-/// Whether the group is called so.
+/// Whether the group has this name.
 fn is_named(group: &Option<String>, name: &[u8]) -> bool
     ensures { result ≡ is_named name.now (option_map string_bytes group.now) }
 {
@@ -57,7 +57,7 @@ fn is_named(group: &Option<String>, name: &[u8]) -> bool
     }
 }
 
-/// The place of the first group that is called so.
+/// The place of the first group with this name, from 0.
 fn named_at(groups: &[Option<String>], name: &[u8]) -> Option<usize>
     ensures value { result ≡ named_at name.now groups.now }
     ensures within { IfSome result (λ place. place < length groups.now) }
@@ -65,7 +65,7 @@ fn named_at(groups: &[Option<String>], name: &[u8]) -> Option<usize>
     groups.iter().position(|group| is_named(group, name))
 }
 
-/// The number of the group that is called so.
+/// The number of the first group with this name, from 1.
 pub(crate) fn group_in(expression: &Regex, name: &[u8]) -> Option<usize>
     ensures value { result ≡ group_in (regex_names expression.now) name.now }
     ensures among { IfSome result (IsAmong (length (regex_names expression.now))) }
@@ -123,7 +123,7 @@ fn clock_groups(expression: &Regex) -> Option<Groups>
     Some(Groups::Clock(ClockGroups { host, clock, event }))
 }
 
-/// What the groups of an expression say: the first of the three sets that it has whole.
+/// The set of groups of an expression: the first of the three sets that it has.
 pub(crate) fn groups_in(expression: &Regex) -> Option<Groups>
     ensures value { result ≡ groups_in (regex_names expression.now) }
     ensures among { IfSome result (AreAmong (length (regex_names expression.now))) }

@@ -1,4 +1,4 @@
-//! What a match of an expression tells of a host.
+//! What a match of an expression gives of a host.
 ghost use Rattle.std.specs.Prelude.{◌≡◌, option_map};
 ghost use Rattle.regex.specs.Locations.{location};
 ghost use Rattle.log_lines.specs.Events.{line_view, event_view};
@@ -9,7 +9,7 @@ use crate::patterns::groups::EventGroups;
 use log_lines::{Act, Direction, Event, LineSays, direction_of};
 use regex::CaptureLocations;
 
-/// What a host did with a message, or that one reached it.
+/// What a host did with a message, or that a message reached it.
 #[derive(Clone, Copy, Debug)]
 pub(crate) struct HostEvent<'a> {
     pub host: &'a [u8],
@@ -17,11 +17,11 @@ pub(crate) struct HostEvent<'a> {
     pub peer: &'a [u8],
     pub name: &'a [u8],
     pub id: Option<&'a [u8]>,
-    /// What its receive would have taken.
+    /// What its receive would have taken, as the match has it.
     pub takes: Option<&'a [u8]>,
 }
 
-/// Whether a group took part, if there is one.
+/// Whether an optional group takes part in the match.
 fn has_part(locations: &CaptureLocations, window: &[u8], group: Option<usize>) -> bool
     ensures { result ≡ has_part (located window.now (location locations.now)) group }
 {
@@ -34,7 +34,7 @@ fn has_part(locations: &CaptureLocations, window: &[u8], group: Option<usize>) -
     }
 }
 
-/// What a match tells by the word for its direction, or by a group that marks arrivals.
+/// The direction of a match: an arrival if the group `arrive` takes part, and otherwise by the word for the direction.
 fn direction_found(
     locations: &CaptureLocations,
     window: &[u8],
@@ -51,7 +51,7 @@ fn direction_found(
     }
 }
 
-/// What a match tells of a host, if each group took part that it needs.
+/// What a match gives of a host, if each group that it needs takes part.
 pub(crate) fn host_event<'a>(
     locations: &CaptureLocations,
     window: &'a [u8],
@@ -73,7 +73,7 @@ pub(crate) fn host_event<'a>(
     })
 }
 
-/// What a line says of this event, where the word for its direction tells this.
+/// What a line gives for this event, by its direction.
 fn by_direction<'a>(direction: Direction, event: Event<'a>) -> LineSays<'a>
     ensures { line_view result ≡ by_direction direction (event_view event.entry) }
 {
@@ -97,7 +97,7 @@ fn by_direction<'a>(direction: Direction, event: Event<'a>) -> LineSays<'a>
     }
 }
 
-/// What a line says of what a match tells of a host.
+/// What a line gives for what a match gives of a host.
 fn said_of<'a>(event: HostEvent<'a>) -> LineSays<'a>
     ensures { line_view result ≡ said_of (host_event_view event.entry) }
 {

@@ -1,4 +1,4 @@
-//! Which group an expression lacks.
+//! The group that an expression lacks.
 ghost use Rattle.std.specs.Prelude.{◌≡◌};
 ghost use Rattle.regex.specs.Bytes.{regex_names};
 ghost use Rattle.log_formats.specs.Patterns.Missing.{has_group, clock_lacks, capture_lacks, event_lacks, is_timed, is_captured, lacks, is_of_host, is_mixed, lacks_besides};
@@ -6,7 +6,7 @@ ghost use Rattle.log_formats.specs.Patterns.Missing.{has_group, clock_lacks, cap
 use crate::patterns::groups::group_in;
 use regex::bytes::Regex;
 
-/// What a group of an expression tells.
+/// A group of an expression, by its name.
 #[derive(Clone, Copy, Debug, PartialEq, Eq)]
 pub enum Group {
     /// `host`
@@ -27,14 +27,14 @@ pub enum Group {
     Event,
 }
 
-/// Whether a group is called so.
+/// Whether a group has this name.
 fn has_group(expression: &Regex, name: &[u8]) -> bool
     ensures { result ≡ has_group (regex_names expression.now) name.now }
 {
     group_in(expression, name).is_some()
 }
 
-/// What an event with its vector time lacks.
+/// The first group that an event with its vector time lacks.
 fn clock_lacks(expression: &Regex) -> Group
     ensures { result ≡ clock_lacks (regex_names expression.now) }
 {
@@ -47,7 +47,7 @@ fn clock_lacks(expression: &Regex) -> Group
     }
 }
 
-/// What a captured message lacks.
+/// The first group that a captured message lacks.
 fn capture_lacks(expression: &Regex) -> Group
     ensures { result ≡ capture_lacks (regex_names expression.now) }
 {
@@ -60,7 +60,7 @@ fn capture_lacks(expression: &Regex) -> Group
     }
 }
 
-/// What an event of a host lacks.
+/// The first group that an event of a host lacks.
 fn event_lacks(expression: &Regex) -> Group
     ensures { result ≡ event_lacks (regex_names expression.now) }
 {
@@ -75,22 +75,22 @@ fn event_lacks(expression: &Regex) -> Group
     }
 }
 
-/// Whether there is a group of events with their vector time alone.
+/// Whether there is a group that only events with vector time have.
 fn is_timed(expression: &Regex) -> bool
     ensures { result ≡ is_timed (regex_names expression.now) }
 {
     has_group(expression, b"clock") || has_group(expression, b"event")
 }
 
-/// Whether there is a group of captured messages alone.
+/// Whether there is a group that only captured messages have.
 fn is_captured(expression: &Regex) -> bool
     ensures { result ≡ is_captured (regex_names expression.now) }
 {
     has_group(expression, b"src") || has_group(expression, b"dst")
 }
 
-/// The first group that the expression lacks of the set that is meant: where it has `clock` or `event` that of vector
-/// time, else where it has `src` or `dst` that of captured messages, else that of events.
+/// The first group that the expression lacks of the set that is meant. With `clock` or `event` this is the set of
+/// vector time. Otherwise it is the set of captured messages with `src` or `dst`, and without them that of events.
 pub(crate) fn lacks(expression: &Regex) -> Group
     ensures { result ≡ lacks (regex_names expression.now) }
 {
@@ -118,7 +118,7 @@ fn is_mixed(expression: &Regex) -> bool
     is_captured(expression) && (is_of_host(expression) && has_group(expression, b"name"))
 }
 
-/// The first group that the expression lacks of events of a host, where captured messages are meant, or these.
+/// The first group that the expression lacks of events of a host, if it may mean these as well as captured messages.
 pub(crate) fn lacks_besides(expression: &Regex) -> Option<Group>
     ensures { result ≡ lacks_besides (regex_names expression.now) }
 {

@@ -20,7 +20,7 @@ use log_lines::{Direction, LineRange, words_of};
 use std::alloc::{AllocError, Global};
 use texts::next_line;
 
-/// Adds a receive that would have taken what these words say.
+/// Adds a receive that would have taken what these words declare.
 fn add_receive<'a>(
     alloc: Global,
     peers: &[Peer<'a>],
@@ -41,7 +41,7 @@ fn add_receive<'a>(
     }
 }
 
-/// Adds what a match tells of a host.
+/// Adds what a match gives of a host.
 fn add_event<'a>(
     alloc: Global,
     peers: &[Peer<'a>],
@@ -61,7 +61,7 @@ fn add_event<'a>(
     }
 }
 
-/// Adds what a match tells, if it tells of a host.
+/// Adds what a match gives, if it gives something of a host.
 fn add_told<'a>(
     alloc: Global,
     peers: &[Peer<'a>],
@@ -113,7 +113,7 @@ fn add_text<'a>(
     Ok(())
 }
 
-/// How receives were chosen, text by text.
+/// How receives were chosen, text by text. It fails only if there is no memory.
 #[tactic(auto, unfolding(crate::specs::Patterns::Observing::pattern_observed))]
 fn observed_in<'a>(
     alloc: Global,
@@ -134,11 +134,12 @@ fn observed_in<'a>(
     Ok(observed)
 }
 
-/// How receives were chosen, by an expression with the groups of events, where hosts have other words. A match whose
-/// direction is `arrive`, or in which the group `arrive` takes part, tells that a message reached its host. The group
-/// `takes` of a receive has the words PEER:NAMES, each of which may begin with `takes=`. Lines are counted as the
-/// messages are that [`read_by`](crate::patterns::read_by) reads, without those of a host to itself, and what receives
-/// would have taken stands in the order of their lines.
+/// How receives were chosen, by an expression with the groups of events. A match is an arrival if its direction is
+/// `arrive`, or if the group `arrive` takes part. The group `takes` of a receive has words `PEER:NAMES`, each of which
+/// may begin with `takes=`. `peers` has other words for hosts.
+///
+/// Lines are counted like the messages that [`read_by`](crate::patterns::read_by) reads, without those of a host to
+/// itself. What receives would have taken is in the order of their lines. It fails only if there is no memory.
 pub fn observed_by<'a>(
     alloc: Global,
     expression: &Expression,

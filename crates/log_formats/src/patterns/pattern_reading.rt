@@ -1,4 +1,4 @@
-//! Logs that an expression tells how to read.
+//! Logs that are read by an expression.
 ghost use Rattle.std.specs.Prelude.{◌≡◌, length, map, IfOk, OnOk};
 ghost use Rattle.regex.specs.Bytes.{matcher_pattern, regex_pattern, regex_names};
 ghost use Rattle.regex.specs.Locations.{location_count};
@@ -47,10 +47,10 @@ fn add_text<'a>(
     Ok(())
 }
 
-/// What the texts of a log say by an expression: its first match in each line, or in as many lines as it has line
-/// feeds and one more. The match is the first line's if it begins there, and takes the lines that it touches. It says
-/// an event of a host, a captured message or an event with its vector time, as the groups tell. All other lines that
-/// aren't blank are counted, since they aren't read.
+/// Reads the texts of a log by an expression. The expression is searched in each line, or in as many lines as it has
+/// line feeds and one more. The first match counts if it begins in the first of these lines, and takes the lines that
+/// it touches. By its groups it is an event of a host, a captured message or an event with its vector time. All other
+/// lines that aren't blank are counted as not read. It fails only if there is no memory.
 #[tactic(auto, unfolding(crate::specs::Patterns::PatternReading::pattern_read))]
 pub fn read_by<'a>(
     alloc: Global,

@@ -1,4 +1,4 @@
-//! An expression, matched with lines.
+//! Searches an expression in lines.
 ghost use Rattle.std.specs.Prelude.{◌≡◌, ◌≤◌, None, length, option_map, IfOk};
 ghost use Rattle.regex.specs.Bytes.{matcher_pattern, regex_pattern, regex_names};
 ghost use Rattle.regex.specs.Locations.{location, location_count};
@@ -20,7 +20,7 @@ use regex::bytes::Matcher;
 use std::alloc::{AllocError, Global};
 use texts::{behind_blanks, next_line};
 
-/// What an expression is matched with.
+/// A search by an expression.
 #[derive(Drop)]
 pub(crate) struct Search<'r> {
     matcher: Matcher<'r>,
@@ -29,14 +29,14 @@ pub(crate) struct Search<'r> {
     more: usize,
 }
 
-/// What the first line of a text says, and what it tells of a host.
+/// What the first line of a text gives, and what it gives of a host.
 #[derive(Clone, Copy, Debug)]
 pub(crate) struct Found<'a> {
     pub step: Step<'a>,
     pub event: Option<HostEvent<'a>>,
 }
 
-/// What a line says that isn't read.
+/// What a line gives that isn't read.
 fn unmatched<'a>(line: &[u8]) -> LineSays<'a>
     ensures { line_view result ≡ unmatched line.now }
 {
@@ -47,7 +47,7 @@ fn unmatched<'a>(line: &[u8]) -> LineSays<'a>
     }
 }
 
-/// What the first line of a text says where no match begins in it, or none that is read.
+/// What the first line of a text gives if no match begins in it, or if its match isn't read.
 fn alone<'a>(text: &[u8]) -> Step<'a>
     ensures { step_view result ≡ alone (window_of 0 (all_lines text.now)) }
 {
@@ -57,7 +57,7 @@ fn alone<'a>(text: &[u8]) -> Step<'a>
     }
 }
 
-/// In which of these lines the byte at this place stands, counted from 0. A line feed belongs to the line that it ends.
+/// The line in which the byte at this place is, from 0. A line feed belongs to the line that it ends.
 #[tactic(auto, unfolding(crate::specs::Patterns::PatternReading::line_at))]
 fn line_at(window: &[u8], place: usize) -> usize
     requires { place ≤ length window.now }
@@ -72,7 +72,7 @@ fn line_at(window: &[u8], place: usize) -> usize
     line
 }
 
-/// What the first line of a text says and takes, where its match says this and touches so many lines behind it.
+/// What the first line of a text gives and takes, if its match gives this and touches this number of further lines.
 fn read_as<'a>(says: LineSays<'a>, touched: usize, text: &[u8]) -> Step<'a>
     ensures { step_view result ≡ read_as (window_of 0 (all_lines text.now)) (line_view says.entry) touched }
 {
@@ -85,7 +85,7 @@ fn read_as<'a>(says: LineSays<'a>, touched: usize, text: &[u8]) -> Step<'a>
     }
 }
 
-/// What the first line of a text says by a match that begins in it, and ends here in these of its lines.
+/// What the first line of a text gives by a match that begins in it. The match ends at the place `end` of `window`.
 fn match_step<'a>(
     locations: &CaptureLocations,
     groups: Groups,
@@ -101,7 +101,7 @@ fn match_step<'a>(
     read_as(says, touched, text)
 }
 
-/// What a match tells of a host.
+/// What a match gives of a host.
 fn event_in<'a>(
     locations: &CaptureLocations,
     groups: Groups,
@@ -115,7 +115,7 @@ fn event_in<'a>(
     }
 }
 
-/// What the first line of a text says and tells where no match begins in it.
+/// What the first line of a text gives if no match begins in it.
 fn nothing_found<'a>(text: &[u8]) -> Found<'a>
     ensures step { step_view result.step ≡ alone (window_of 0 (all_lines text.now)) }
     ensures event { result.event ≡ None }
@@ -126,7 +126,7 @@ fn nothing_found<'a>(text: &[u8]) -> Found<'a>
     }
 }
 
-/// What the first line of a text says by the expression, which is looked for in these of its lines.
+/// What the first line of a text gives by the expression, which is searched in `window`.
 fn line_found<'a>(
     matcher: &mut Matcher<'_>,
     locations: &mut CaptureLocations,
@@ -156,7 +156,7 @@ fn line_found<'a>(
 }
 
 impl<'r> Search<'r> {
-    /// What the expression is matched with.
+    /// Makes a search. It fails only if there is no memory.
     pub(crate) fn new(alloc: Global, expression: &'r Expression) -> Result<Search<'r>, AllocError>
         requires { AreAmong (length (regex_names expression.now.regex)) expression.now.groups }
         ensures pattern { IfOk result (λ s. matcher_pattern s.matcher ≡ regex_pattern expression.now.regex) }
@@ -174,7 +174,7 @@ impl<'r> Search<'r> {
         })
     }
 
-    /// What the first line of a text says and tells, with those behind it that its match touches.
+    /// What the first line of a text gives, together with the lines after it that its match touches.
     #[tactic(auto, unfolding(crate::specs::Patterns::PatternReading::pattern_step, crate::specs::Patterns::PatternReading::pattern_event))]
     pub(crate) fn found<'a>(&mut self, text: &'a [u8]) -> Found<'a>
         requires { AreAmong (location_count self.old.locations) self.old.groups }
@@ -196,8 +196,8 @@ impl<'r> Search<'r> {
     }
 }
 
-/// What the line with this number says and tells, the first of the text, where so many lines are a part of what was
-/// said before.
+/// What the line with this number gives, the first of the text. If `taken` isn't 0, it belongs to an earlier match, as
+/// do the lines after it, `taken` in all.
 pub(crate) fn found_at<'a>(
     search: &mut Search<'_>,
     range: LineRange,

@@ -1,4 +1,4 @@
--- Ids that came before, and new ones.
+-- Known ids, and new ones.
 use Rattle.std.proofs.Common.{◌≡◌, ℕ, true, false, List, [], ◌∷◌, ◌++◌, refl}
 use Rattle.log_lines.specs.Names.Ids.{has_id, with_id}
 

@@ -1,4 +1,4 @@
--- The lines of a log by names, as many as tell of messages from one host to another.
+-- The number of a log's lines with names: one for each event of a message from one host to another.
 use Rattle.std.proofs.Common.{◌≡◌, ℕ, ◌+◌, Bool, true, false, cond, List, [], ◌∷◌, ◌++◌, Some, length, refl, sym, ap, ◌∙◌, arith, length-append}
 use Rattle.std.specs.Prelude.{not, bytes_eq}
 use Rattle.std.proofs.lemmas.List.{length-map}
@@ -9,7 +9,7 @@ use Rattle.log_lines.specs.Names.Hosts.{PeerView, host_of}
 use Rattle.log_lines.specs.Names.Naming.{NamedView, with_event, with_logged, with_all, named}
 use Rattle.log_lines.specs.Takes.Messages.{is_between, between, words_in}
 
--- an event is left out of both, or it is one line more
+-- an event is skipped in both lists, or is one more line in both
 one_line : (own : Bool) (same more : NamedView) (s : LoggedEventView) (rest : List LoggedEventView) → length more.lines ≡ length same.lines + 1
     → length (cond own same more).lines + length rest ≡ length same.lines + length (cond (not own) (s ∷ rest) rest)
 one_line true same more s rest longer = refl
@@ -34,7 +34,7 @@ pub words_whole : (hosts : List (List ℕ)) (peers : List PeerView) (logged : Li
 unfolding words_in
 words_whole hosts peers logged = length-map (between peers logged) _ ∙ sym (lines_named hosts peers logged)
 
--- one event more
+-- one more event
 pub between_one : (own : Bool) (peers : List PeerView) (logged : List LoggedEventView) (s : LoggedEventView) → bytes_eq (host_of peers s.event.host) (host_of peers s.event.peer) ≡ own
     → length (between peers (logged ++ s ∷ [])) ≡ length (between peers logged) + cond own 0 1
 between_one own peers logged s is = ap length (filter-append (is_between peers) logged (s ∷ [])) ∙ length-append (between peers logged) (between peers (s ∷ [])) ∙ ap (λ n. length (between peers logged) + n) (go own is)

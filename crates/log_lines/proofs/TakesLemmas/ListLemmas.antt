@@ -1,4 +1,4 @@
--- Lists that grow by what is picked of one element more, and look-ups in no lines.
+-- Lists that grow by the values picked from one more element, and look-ups in no lines.
 use Rattle.std.proofs.Common.{◌≡◌, ℕ, ◌+◌, ◌<◌, List, [], ◌∷◌, ◌++◌, None, length, map, take, get_or, refl, sym, ap, ◌∙◌, arith, append_assoc}
 use Rattle.std.specs.Prelude.{Option, filter_map, min}
 use Rattle.std.proofs.lemmas.List.{map-append, take_more}
@@ -22,7 +22,7 @@ no_stream [] streams key none = refl
 no_stream (k ∷ keys) [] key none = refl
 no_stream (k ∷ keys) (s ∷ streams) key none = absurd (omega (arith, none))
 
--- the same, where what was picked so far and what is picked next are known by equations
+-- the same, if the values picked so far and the next ones are given by equations
 pub picked_next : {A B C : Type 0} (h : B → Option C) (f : A → B) (xs : List A) (n : ℕ) (d : A) (old new : List C) → n < length xs → old ≡ filter_map h (map f (take n xs))
     → new ≡ old ++ filter_map h (f (get_or xs n d) ∷ []) → new ≡ filter_map h (map f (take (n + 1) xs))
 picked_next h f xs n d old new within picked next = next ∙ ap (λ l. l ++ filter_map h (f (get_or xs n d) ∷ [])) picked ∙ sym (picked_more h f xs n d within)

@@ -1,4 +1,5 @@
--- What receives would have taken stands by the numbers of their lines, which are those of messages from one host to another.
+-- The patterns that receives would have taken are ordered by the numbers of their lines, which count messages from one
+-- host to another.
 use Rattle.std.proofs.Common.{◌≡◌, ℕ, ◌+◌, ◌<◌, ◌≤◌, Bool, true, false, cond, List, [], ◌∷◌, ◌++◌, length, map, refl, arith}
 use Rattle.std.specs.Prelude.{All, AllPairs, bytes_eq}
 use Rattle.std.proofs.lemmas.List.Elements.{All-nil, All-cons, All-head, All-tail, All-append, All-weaker}
@@ -20,7 +21,7 @@ use Rattle.log_lines.specs.Takes.Patterns.{patterns_of}
 use Rattle.log_lines.specs.Takes.Observations.{ObservationsView, no_observations, behind_id, taken_at, with_patterns, with_act, with_words, has_misspelled, with_misspelled, with_spelling, with_lines, with_texts, observed_in}
 use Rattle.log_lines.proofs.TakesLemmas.CountLemmas.{between_one}
 
--- each line is this one or a later one, and none comes before the one above it
+-- the lines are at least m, and rising
 abbrev IsRising : ℕ → List TakenView → Type 0
 IsRising m [] = Unit {0}
 IsRising m (x ∷ xs) = (m ≤ x.line) × IsRising x.line xs
@@ -50,7 +51,7 @@ below_at : (n : ℕ) (patterns : List PatternView) → All (λ x. x.line < n + 1
 below_at n [] = All-nil (λ (x : TakenView). x.line < n + 1)
 below_at n (p ∷ patterns) = All-cons (λ (x : TakenView). x.line < n + 1) (taken_at n p) (map (taken_at n) patterns) (omega arith) (below_at n patterns)
 
--- what is told counts these events, and what would have been taken stands by their numbers, in their order
+-- the observations count these events, and the patterns are ordered by the numbers of their lines
 pub record AreObserved (peers : List PeerView) (logged : List LoggedEventView) (t : ObservationsView) : Type 0 where
   pub count : t.lines ≡ length (between peers logged)
   pub rising : IsRising 0 t.taken
@@ -101,7 +102,7 @@ words_observed peers [] place r t observed = observed
 words_observed peers (host ∷ []) place r t observed = observed
 words_observed peers (host ∷ dir ∷ words) place r t observed = act_observed peers host (direction_of dir) (behind_preposition words) place r t observed
 
--- what is spelled otherwise changes nothing of it
+-- a misspelled word changes none of this
 spelling_observed : (peers : List PeerView) (place : Place) (words : List (List ℕ)) (logged : List LoggedEventView) (t : ObservationsView) → AreObserved peers logged t
     → AreObserved peers logged (with_spelling place words t)
 spelling_observed peers place words logged t observed = go (has_misspelled words)
@@ -130,7 +131,7 @@ texts_observed peers range n (text ∷ texts) r t observed = texts_observed peer
 pub none_observed : (peers : List PeerView) → AreObserved peers [] no_observations
 none_observed peers = record { count = refl; rising = tt; below = All-nil (λ (x : TakenView). x.line < 0) }
 
--- what would have been taken stands by lines of messages, in their order
+-- the patterns are ordered by the lines of messages
 pub pairs_observed : (peers : List PeerView) (logged : List LoggedEventView) (t : ObservationsView) → AreObserved peers logged t → AllPairs (λ a b. a.line ≤ b.line) t.taken
 pairs_observed peers logged t observed = rising_pairs 0 t.taken observed.rising
 
@@ -138,6 +139,6 @@ pub are_observed : (peers : List PeerView) (range : LineRange) (texts : List (Li
 unfolding plain_read observed_in
 are_observed peers range texts = texts_observed peers range 0 texts nothing_read no_observations (none_observed peers)
 
--- what would have been taken stands by lines of the log, in their order
+-- the patterns are ordered by the lines of the log
 pub observed_pairs : (peers : List PeerView) (range : LineRange) (texts : List (List ℕ)) → AllPairs (λ a b. a.line ≤ b.line) (observed_in peers range texts).taken
 observed_pairs peers range texts = pairs_observed peers (plain_read range texts).logged (observed_in peers range texts) (are_observed peers range texts)

@@ -1,9 +1,9 @@
-//! Hosts that a log calls by several words.
+//! Hosts for which a log has several words.
 ghost use Rattle.std.specs.Prelude.{◌≡◌, map, bytes_eq};
 ghost use Rattle.std.specs.List.{list_any};
 ghost use Rattle.log_lines.specs.Names.Hosts.{peer_view, host_of};
 
-/// A host, and words by which a log calls it.
+/// A host, and other words that a log has for it.
 #[derive(Clone, Copy, Debug)]
 pub struct Peer<'a> {
     pub name: &'a [u8],
@@ -22,7 +22,7 @@ fn has_word(words: &[&[u8]], word: &[u8]) -> bool
     false
 }
 
-/// The host that the log calls so: the first that has the word, or else the one that is called so.
+/// The host for a word of the log. It is the first host that has the word, or else the host with the word as its name.
 pub fn host_of<'a>(peers: &[Peer<'a>], word: &'a [u8]) -> &'a [u8]
     ensures { result.now ≡ host_of (map peer_view peers.now) word.now }
 {

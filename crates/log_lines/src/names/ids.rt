@@ -7,7 +7,7 @@ use indexmap::IndexSet;
 use std::alloc::{AllocError, Global};
 use std::marker::Model;
 
-/// Ids that differ, in the order in which they came. A contract sees their list.
+/// Different ids, in the order in which they came. Contracts see their list.
 #[derive(Debug, Drop)]
 pub struct Ids {
     texts: IndexSet<Vec<u8>>,
@@ -31,14 +31,14 @@ impl Ids {
         }
     }
 
-    /// The place of the id, from 0, if it came before.
+    /// The place of the id, from 0, if it is known.
     fn place_of(&self, text: &[u8]) -> Option<usize>
         ensures { result ≡ position (bytes_eq text.now) self.now }
     {
         self.texts.get_index_of(text)
     }
 
-    /// Adds a new id, and answers its place.
+    /// Adds a new id, and returns its place.
     fn add(&mut self, alloc: Global, text: &[u8]) -> Result<usize, AllocError>
         requires { has_id self.old text.now ≡ false }
         ensures place { IfOk result (λ place. place ≡ position_or_len (bytes_eq text.now) self.new) }
@@ -50,8 +50,7 @@ impl Ids {
         Ok(place)
     }
 
-    /// The number of the id: its place among those that came, to which a new one is added. It fails only where there is
-    /// no memory.
+    /// The number of the id: its place in the list, to which a new id is added. It fails only if there is no memory.
     pub fn number(&mut self, alloc: Global, text: &[u8]) -> Result<usize, AllocError>
         ensures number { IfOk result (λ place. place ≡ position_or_len (bytes_eq text.now) self.new) }
         ensures kept { OnOk result (self.new ≡ with_id self.old text.now) }

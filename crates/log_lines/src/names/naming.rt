@@ -13,7 +13,7 @@ use crate::{Act, LoggedEvent, Others, one_more};
 use diagram_labels::LabelNames;
 use std::alloc::{AllocError, Global};
 
-/// The lines of a log by names, and what the names stand for.
+/// The lines of a log with names, and the words of the log for each name.
 #[derive(Debug, Drop)]
 pub struct NamedLog {
     /// The words for hosts, and the name of each.
@@ -22,7 +22,7 @@ pub struct NamedLog {
     pub messages: LabelNames,
     pub ids: Ids,
     pub lines: Vec<NamedLine>,
-    /// Events of messages of a host to itself.
+    /// The skipped events, of messages of a host to itself.
     pub own: Option<Others>,
 }
 
@@ -64,7 +64,7 @@ impl NamedLog {
         }
     }
 
-    /// Adds an event of this host, whose other end is at this peer.
+    /// Adds an event of this host, with the other end of the message at this peer.
     fn add_event(
         &mut self,
         alloc: Global,
@@ -89,7 +89,7 @@ impl NamedLog {
         Ok(())
     }
 
-    /// Adds what is said, where hosts have these other words.
+    /// Adds an event. `peers` has the log's other words for hosts.
     fn add(
         &mut self,
         alloc: Global,
@@ -108,10 +108,11 @@ impl NamedLog {
     }
 }
 
-/// The events of a log by names: of hosts and of messages, each by the rule for labels, in the order in which they
-/// come, but that these hosts come first. Of an event of a message of a host to itself it is told that it is left out.
+/// The events of a log with names of hosts and of messages. Each name follows the rule for labels, in the order in
+/// which the labels come. The hosts in `hosts` come first. Events of messages of a host to itself are skipped and
+/// counted.
 ///
-/// F6: it fails only where there is no memory.
+/// F6: it fails only if there is no memory.
 #[tactic(auto, unfolding(crate::specs::Names::Naming::named))]
 pub fn named(
     alloc: Global,

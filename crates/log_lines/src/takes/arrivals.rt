@@ -1,4 +1,4 @@
-//! Of which streams the messages are that arrived.
+//! The streams of messages that arrived.
 ghost use Rattle.std.specs.Prelude.{◌≡◌, ◌++◌, ◌∷◌, [], ℕ, List, Some, map, filter_map, if◌then◌else◌, IfOk, OnOk};
 ghost use Rattle.std.specs.Map.{lookup};
 ghost use Rattle.log_lines.specs.Takes.Arrivals.{same_key, same_as, stream_of, arrived_key, arrival_of, arrivals_in};
@@ -14,7 +14,7 @@ use log_chart::Entry;
 use race_verdicts::Arrival;
 use std::alloc::{AllocError, Global};
 
-/// The stream of the key is this one.
+/// Stores this stream for the key.
 fn put<'a>(
     streams: &mut IndexMap<Key<'a>, usize>,
     key: Key<'a>,
@@ -27,7 +27,7 @@ fn put<'a>(
     Ok(())
 }
 
-/// The stream of the first of the lines with each key.
+/// For each key, the stream of the first line with this key.
 fn streams_of<'a>(
     alloc: Global,
     keys: &[Key<'a>],
@@ -52,14 +52,14 @@ fn arrived_key<'a>(arrived: &Arrived<'a>) -> Key<'a>
     key_of(arrived.peer, arrived.host, arrived.name, arrived.id)
 }
 
-/// The stream of the key, if one has it.
+/// The stream of the key, if it has one.
 fn stream_in<'a>(streams: &IndexMap<Key<'a>, usize>, key: Key<'a>) -> Option<usize>
     ensures { result ≡ lookup (same_as key.entry) streams.now.entries }
 {
     streams.get(&key).copied()
 }
 
-/// The arrival of a message, if it is one of the lines' streams.
+/// The arrival of a message, if its stream is one of the lines'.
 fn arrival_of<'a>(streams: &IndexMap<Key<'a>, usize>, arrived: &Arrived<'a>) -> Option<Arrival>
     ensures { (keys : List KeyView) → (numbers : List ℕ)
         → ((q : Key) → lookup (same_as q) streams.now.entries ≡ stream_of keys numbers (key_view q))
@@ -74,7 +74,7 @@ fn arrival_of<'a>(streams: &IndexMap<Key<'a>, usize>, arrived: &Arrived<'a>) -> 
     }
 }
 
-/// Adds the arrival of a message, if it is one of the lines' streams.
+/// Adds the arrival of a message, if its stream is one of the lines'.
 fn add<'a>(
     streams: &IndexMap<Key<'a>, usize>,
     arrived: &Arrived<'a>,
@@ -93,7 +93,7 @@ fn add<'a>(
     }
 }
 
-/// The arrivals of messages that are of the lines' streams.
+/// The arrivals of messages whose streams are the lines'.
 #[tactic(auto, unfolding(crate::specs::Takes::Arrivals::arrivals_in))]
 fn arrivals_by<'a>(
     alloc: Global,
@@ -111,8 +111,8 @@ fn arrivals_by<'a>(
     Ok(arrivals)
 }
 
-/// The arrivals of messages of which lines tell too, which have these keys and entries. It takes time in proportion to
-/// the lines and to what arrived.
+/// The arrivals of messages that also have lines. `keys` and `entries` are those of the lines. It takes time in
+/// proportion to the numbers of lines and of arrivals.
 pub fn arrivals_in<'a>(
     alloc: Global,
     keys: &[Key<'a>],

@@ -1,4 +1,4 @@
-//! The lines of a log that tell of messages from one host to another.
+//! The lines of a log with messages from one host to another.
 ghost use Rattle.std.specs.Prelude.{◌≡◌, map, option_map, IfOk};
 ghost use Rattle.log_lines.specs.Events.{logged_event_view};
 ghost use Rattle.log_lines.specs.Names.Hosts.{peer_view};
@@ -11,14 +11,14 @@ use crate::{Act, LoggedEvent};
 use race_verdicts::LineWords;
 use std::alloc::{AllocError, Global};
 
-/// Whether the line's message isn't one of a host to itself.
+/// Whether the line's message goes from one host to another.
 fn is_between(peers: &[Peer<'_>], logged: &LoggedEvent<'_>) -> bool
     ensures { result ≡ is_between (map peer_view peers.now) (logged_event_view logged.now) }
 {
     host_of(peers, logged.event.host) != host_of(peers, logged.event.peer)
 }
 
-/// The words of a line.
+/// The host, the peer and the message's name on a line. `peers` has the log's other words for hosts.
 fn line_words<'a>(peers: &[Peer<'a>], logged: &LoggedEvent<'a>) -> LineWords<'a>
     ensures { words_view result ≡ line_words (map peer_view peers.now) (logged_event_view logged.now) }
 {
@@ -29,7 +29,7 @@ fn line_words<'a>(peers: &[Peer<'a>], logged: &LoggedEvent<'a>) -> LineWords<'a>
     }
 }
 
-/// The words of each line that tells of a message from one host to another, where hosts have other words.
+/// The same for each line with a message from one host to another.
 #[tactic(auto, unfolding(crate::specs::Takes::Messages::words_in))]
 pub fn words_in<'a>(
     alloc: Global,
@@ -47,7 +47,7 @@ pub fn words_in<'a>(
     Ok(words)
 }
 
-/// What a message of this name and id has in common with others of the lane.
+/// The key of a message with this name and id on the lane.
 pub(crate) fn key_of<'a>(
     sender: &'a [u8],
     receiver: &'a [u8],
@@ -84,7 +84,7 @@ fn line_key<'a>(peers: &[Peer<'a>], logged: &LoggedEvent<'a>) -> Key<'a>
     }
 }
 
-/// The key of each line that tells of a message from one host to another, where hosts have other words.
+/// The key of each line with a message from one host to another. `peers` has the log's other words for hosts.
 #[tactic(auto, unfolding(crate::specs::Takes::Messages::keys_in))]
 pub fn keys_in<'a>(
     alloc: Global,

@@ -1,4 +1,4 @@
-//! What lines tell beside messages.
+//! The observations in a log, besides messages.
 ghost use Rattle.std.specs.Prelude.{◌≡◌, [], ◌∷◌, map, option_map, OnOk};
 ghost use Rattle.log_lines.specs.Names.Hosts.{peer_view};
 ghost use Rattle.race_verdicts.specs.Recordings.{pattern_view};
@@ -11,32 +11,32 @@ use crate::{Others, Place, one_more};
 use race_verdicts::{Pattern, Taken};
 use std::alloc::{AllocError, Global};
 
-/// That a message reached a host, in words of the log.
+/// A message that reached a host, in words of the log.
 #[derive(Clone, Copy, Debug)]
 pub struct Arrived<'a> {
     pub host: &'a [u8],
     pub peer: &'a [u8],
     pub name: &'a [u8],
     pub id: Option<&'a [u8]>,
-    /// So many lines of messages stand before it.
+    /// How many lines with messages are before it.
     pub at: usize,
 }
 
-/// What lines tell beside messages.
+/// The observations in a log, besides messages.
 #[derive(Debug, Drop)]
 pub struct Observations<'a> {
-    /// How many of them tell of messages from one host to another.
+    /// How many lines have messages from one host to another.
     pub lines: usize,
-    /// What the receives of these lines would have taken, in the order of the lines.
+    /// What the receives on these lines would have taken, in the order of the lines.
     pub taken: Vec<Taken<'a>>,
-    /// What arrived, in the order of the lines.
+    /// The messages that arrived, in the order of the lines.
     pub arrived: Vec<Arrived<'a>>,
-    /// Receives with words that begin with `takes=` and are spelled otherwise.
+    /// The receives with a misspelled word that begins with `takes=`.
     pub misspelled: Option<Others>,
 }
 
 impl<'a> Observations<'a> {
-    /// Nothing. It takes no memory.
+    /// No observations. It takes no memory.
     pub fn new(alloc: Global) -> Observations<'a>
         ensures { observations_view result ≡ no_observations }
     {
@@ -48,7 +48,7 @@ impl<'a> Observations<'a> {
         }
     }
 
-    /// Adds what the next line would have taken.
+    /// Adds a pattern that the next line would have taken.
     fn add_taken(&mut self, pattern: Pattern<'a>) -> Result<(), AllocError>
         ensures { OnOk result (observations_view self.new ≡ with_patterns (pattern_view pattern.entry ∷ []) (observations_view self.old)) }
     {
@@ -59,7 +59,7 @@ impl<'a> Observations<'a> {
         Ok(())
     }
 
-    /// Adds what the next line would have taken, by this word.
+    /// Adds a pattern that the next line would have taken, from this word.
     fn add_pattern(&mut self, peers: &[Peer<'a>], word: &'a [u8]) -> Result<(), AllocError>
         ensures { OnOk result (observations_view self.new ≡ with_patterns (patterns_of (map peer_view peers.now) (word.now ∷ [])) (observations_view self.old)) }
     {
@@ -69,7 +69,7 @@ impl<'a> Observations<'a> {
         }
     }
 
-    /// Adds what the next line would have taken, by these words.
+    /// Adds the patterns that the next line would have taken, from these words.
     fn add_patterns(&mut self, peers: &[Peer<'a>], words: &[&'a [u8]]) -> Result<(), AllocError>
         ensures { OnOk result (observations_view self.new
             ≡ with_patterns (patterns_of (map peer_view peers.now) (map (λ w. w.now) words.now)) (observations_view self.old)) }
@@ -80,7 +80,7 @@ impl<'a> Observations<'a> {
         Ok(())
     }
 
-    /// Adds what the next line would have taken, by this short word.
+    /// Adds a pattern that the next line would have taken, from this word, which may lack `takes=`.
     fn add_short_pattern(&mut self, peers: &[Peer<'a>], word: &'a [u8]) -> Result<(), AllocError>
         ensures { OnOk result (observations_view self.new ≡ with_patterns (short_patterns (map peer_view peers.now) (word.now ∷ [])) (observations_view self.old)) }
     {
@@ -90,7 +90,7 @@ impl<'a> Observations<'a> {
         }
     }
 
-    /// Adds what the next line would have taken, by these short words.
+    /// Adds the patterns that the next line would have taken, from these words, which may lack `takes=`.
     fn add_short_patterns(
         &mut self,
         peers: &[Peer<'a>],
@@ -105,7 +105,7 @@ impl<'a> Observations<'a> {
         Ok(())
     }
 
-    /// One line more. Where the count would not fit, it fails.
+    /// Counts one more line. It fails if the count would overflow.
     fn add_line(&mut self) -> Result<(), AllocError>
         ensures { OnOk result (observations_view self.new ≡ with_line_more (observations_view self.old)) }
     {
@@ -118,8 +118,8 @@ impl<'a> Observations<'a> {
         }
     }
 
-    /// One line more of a message between these hosts, whose receive would have taken what these words say, each of
-    /// which begins with `takes=`. Where the count would not fit, it fails.
+    /// Counts one more line with a message between these hosts, if they differ. Its receive would have taken the
+    /// patterns in these words, each of which begins with `takes=`. It fails if the count would overflow.
     pub fn add_message(
         &mut self,
         peers: &[Peer<'a>],
@@ -137,7 +137,7 @@ impl<'a> Observations<'a> {
         self.add_line()
     }
 
-    /// The same, where the words may lack the `takes=`.
+    /// The same for words that may lack `takes=`.
     pub fn add_short_message(
         &mut self,
         peers: &[Peer<'a>],
@@ -155,7 +155,7 @@ impl<'a> Observations<'a> {
         Ok(())
     }
 
-    /// One receive more, at this place, that has words spelled otherwise. Where the count would not fit, it fails.
+    /// Adds a receive at this place with a misspelled word. It fails if the count would overflow.
     pub(crate) fn add_misspelled(&mut self, place: Place) -> Result<(), AllocError>
         ensures { OnOk result (observations_view self.new ≡ with_misspelled place (observations_view self.old)) }
     {
@@ -163,7 +163,7 @@ impl<'a> Observations<'a> {
         Ok(())
     }
 
-    /// The arrival of a message with this name and id.
+    /// Adds the arrival of a message with this name and id.
     pub fn add_arrival(
         &mut self,
         host: &'a [u8],

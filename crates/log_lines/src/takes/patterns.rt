@@ -1,4 +1,4 @@
-//! What a receive would have taken, by words of its line.
+//! The patterns that a receive would have taken, by the words of its line.
 ghost use Rattle.std.specs.Prelude.{◌≡◌, ◌<◌, length, map, option_map};
 ghost use Rattle.log_lines.specs.Names.Hosts.{peer_view};
 ghost use Rattle.race_verdicts.specs.Recordings.{pattern_view};
@@ -9,7 +9,7 @@ use crate::names::{Peer, host_of};
 use race_verdicts::Pattern;
 use texts::first_place;
 
-/// Whom the word for a sender stands for.
+/// The sender that a word stands for.
 fn sender_of<'a>(peers: &[Peer<'a>], word: &'a [u8]) -> &'a [u8]
     ensures { result.now ≡ sender_of (map peer_view peers.now) word.now }
 {
@@ -20,7 +20,7 @@ fn sender_of<'a>(peers: &[Peer<'a>], word: &'a [u8]) -> &'a [u8]
     }
 }
 
-/// PEER and NAMES, where a colon stands here between them.
+/// PEER and NAMES, which the colon at this index separates. Neither may be empty.
 fn parted<'a>(peers: &[Peer<'a>], text: &'a [u8], colon: usize) -> Option<Pattern<'a>>
     requires { colon < length text.now }
     ensures { option_map pattern_view result ≡ parted (map peer_view peers.now) text.now colon }
@@ -34,7 +34,7 @@ fn parted<'a>(peers: &[Peer<'a>], text: &'a [u8], colon: usize) -> Option<Patter
     })
 }
 
-/// What PEER:NAMES tells. What is spelled otherwise tells nothing.
+/// The pattern in PEER:NAMES. A misspelled text has no pattern.
 fn pattern_in<'a>(peers: &[Peer<'a>], text: &'a [u8]) -> Option<Pattern<'a>>
     ensures { option_map pattern_view result ≡ pattern_in (map peer_view peers.now) text.now }
 {
@@ -42,7 +42,7 @@ fn pattern_in<'a>(peers: &[Peer<'a>], text: &'a [u8]) -> Option<Pattern<'a>>
     parted(peers, text, colon)
 }
 
-/// What a word `takes=PEER:NAMES` tells. One that is spelled otherwise tells nothing.
+/// The pattern in a word `takes=PEER:NAMES`. A misspelled word has no pattern.
 #[tactic(auto, unfolding(crate::specs::Takes::Patterns::pattern_of))]
 pub(crate) fn pattern_of<'a>(peers: &[Peer<'a>], word: &'a [u8]) -> Option<Pattern<'a>>
     ensures { option_map pattern_view result ≡ pattern_of (map peer_view peers.now) word.now }
@@ -54,7 +54,7 @@ pub(crate) fn pattern_of<'a>(peers: &[Peer<'a>], word: &'a [u8]) -> Option<Patte
     }
 }
 
-/// Whether a word begins with `takes=`, and is spelled otherwise.
+/// Whether a word begins with `takes=`, but is misspelled.
 #[tactic(auto, unfolding(crate::specs::Takes::Patterns::is_misspelled))]
 pub(crate) fn is_misspelled(word: &[u8]) -> bool
     ensures { result ≡ is_misspelled word.now }
@@ -68,7 +68,7 @@ pub(crate) fn is_misspelled(word: &[u8]) -> bool
     }
 }
 
-/// What a word PEER:NAMES tells, before which `takes=` may stand.
+/// The pattern in a word PEER:NAMES, which may begin with `takes=`.
 #[tactic(auto, unfolding(crate::specs::Takes::Patterns::short_pattern))]
 pub(crate) fn short_pattern<'a>(peers: &[Peer<'a>], word: &'a [u8]) -> Option<Pattern<'a>>
     ensures { option_map pattern_view result ≡ short_pattern (map peer_view peers.now) word.now }

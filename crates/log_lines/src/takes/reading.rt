@@ -1,4 +1,4 @@
-//! What the texts of a log tell beside messages.
+//! Reads the observations in the texts of a log.
 ghost use Rattle.std.specs.Prelude.{◌≡◌, if◌then◌else◌, map, IfOk, OnOk};
 ghost use Rattle.std.specs.List.{list_any};
 ghost use Rattle.log_lines.specs.Reading.{is_within, all_lines};
@@ -17,7 +17,7 @@ use crate::{
 use std::alloc::{AllocError, Global};
 use texts::next_line;
 
-/// The words behind the id, in those behind the name.
+/// The words after the id, from the words after the name.
 fn behind_id<'w, 'a>(words: &'w [&'a [u8]]) -> &'w [&'a [u8]]
     ensures { map (λ w. w.now) result.now ≡ behind_id (map (λ w. w.now) words.now) }
 {
@@ -33,7 +33,7 @@ fn behind_id<'w, 'a>(words: &'w [&'a [u8]]) -> &'w [&'a [u8]]
     }
 }
 
-/// Adds a line on which a host did this with the message of these words.
+/// Adds a line on which a host did this. `words` begin with the peer and the message's name.
 fn add_act<'a>(
     peers: &[Peer<'a>],
     host: &'a [u8],
@@ -59,7 +59,7 @@ fn add_act<'a>(
     }
 }
 
-/// Adds a line of these words.
+/// Adds a line with these words.
 #[tactic(auto, unfolding(crate::specs::Takes::Observations::with_words))]
 fn add_words<'a>(
     peers: &[Peer<'a>],
@@ -81,7 +81,7 @@ fn add_words<'a>(
     }
 }
 
-/// Whether one of these words begins with `takes=` and is spelled otherwise.
+/// Whether one of these words begins with `takes=`, but is misspelled.
 fn any_misspelled(words: &[&[u8]]) -> bool
     ensures { result ≡ list_any is_misspelled (map (λ w. w.now) words.now) }
 {
@@ -93,7 +93,7 @@ fn any_misspelled(words: &[&[u8]]) -> bool
     false
 }
 
-/// Whether one stands behind the name and the id of a receive.
+/// Whether there is such a word after the name and the id of a receive.
 fn rest_misspelled(direction: Direction, words: &[&[u8]]) -> bool
     ensures { result ≡ rest_misspelled direction (map (λ w. w.now) words.now) }
 {
@@ -106,7 +106,7 @@ fn rest_misspelled(direction: Direction, words: &[&[u8]]) -> bool
     }
 }
 
-/// Whether a line of these words is a receive that has one.
+/// Whether a line with these words is a receive that has one.
 #[tactic(auto, unfolding(crate::specs::Takes::Observations::has_misspelled))]
 fn has_misspelled(words: &[&[u8]]) -> bool
     ensures { result ≡ has_misspelled (map (λ w. w.now) words.now) }
@@ -117,7 +117,7 @@ fn has_misspelled(words: &[&[u8]]) -> bool
     }
 }
 
-/// Adds what is spelled otherwise in the line of these words at this place.
+/// If the line at this place has a misspelled word, adds it to the misspelled receives.
 fn add_spelling(
     place: Place,
     words: &[&[u8]],
@@ -133,7 +133,7 @@ fn add_spelling(
     }
 }
 
-/// Adds a line, if it is read.
+/// Adds a line, if it is within the range.
 fn add_line<'a>(
     alloc: Global,
     peers: &[Peer<'a>],
@@ -154,7 +154,7 @@ fn add_line<'a>(
     add_spelling(place, &words, observed)
 }
 
-/// Adds the lines of the text of this number.
+/// Adds the lines of the text with this number.
 fn add_text<'a>(
     alloc: Global,
     peers: &[Peer<'a>],
@@ -184,11 +184,11 @@ fn add_text<'a>(
     Ok(())
 }
 
-/// What the texts of an application's log tell beside messages, where hosts have other words: a line `HOST arrive
-/// [from] PEER NAME [ID]` that a message reached HOST, and words `takes=PEER:NAMES` behind the name and the ID of a
-/// receive what it would have taken. Receives with a word that begins so and is spelled otherwise are counted, with the
-/// place of the first. Lines are counted as the messages are that `crate::read_plain` reads, without
-/// those of a host to itself. It takes time in proportion to the texts.
+/// The observations in the texts of an application's log. `peers` has the log's other words for hosts. A line
+/// `HOST arrive [to or from] PEER NAME [ID]` reports that a message reached HOST. Words `takes=PEER:NAMES` after the
+/// name and the ID of a receive report what it would have taken. Receives with a misspelled word that begins with
+/// `takes=` are counted, with the place of the first. Lines are counted like the messages that `crate::read_plain`
+/// reads, without those of a host to itself. It takes time in proportion to the texts.
 #[tactic(auto, unfolding(crate::specs::Takes::Observations::observed_in))]
 pub fn read_observed<'a>(
     alloc: Global,

@@ -1,4 +1,4 @@
--- What a builder keeps when an event is added, and that there is room for an instance.
+-- What holds of a builder after one more event, and that there is room for an instance.
 use Rattle.std.proofs.Common.{◌≡◌, suc, ◌<◌, Bool, true, false, cond, eqb, [], ◌∷◌, ◌++◌, length, Some, Ok, Err, refl, sym, subst, ◌⊎◌, inl, inr}
 use Rattle.std.specs.Prelude.{nat_le}
 use Rattle.std.proofs.lemmas.Bool.{eqb-false, leb-false}
@@ -12,7 +12,7 @@ use Rattle.texts.specs.declared.fault.Cause.TheVariants.{Instances, ToItself, Li
 use Rattle.texts.proofs.Results.{guard_ok}
 use Rattle.msc_text.specs.Reader.Builders.{BuilderView, IsBuilder, IsNextLine, IsRight, pushed, with_head}
 
--- an event that a line takes is its last then, and there was room
+-- an event that a line accepts is its last event then, and there was room
 pub record HasPushed (line more : LineView) (m : Event) : Type 0 where
   pub is : more ≡ record line { events = line.events ++ m ∷ [] }
   pub other : partner_of m ≡ line.instance → ⊥
@@ -26,7 +26,7 @@ pushed_ok line more m e =
     let same = b.1 in
     record { is = cc; other = eqb-false _ _ a.0; room = eqb-false _ _ b.0 }
 
--- a builder with one more event is one
+-- a builder with one more event is a builder
 pub IsBuilder-event : (d : BuilderView) (line more : LineView) (m : Event) → IsBuilder d → d.line ≡ Some line → (region_of m ≡ 0) ⊎ (region_of m ≡ d.open_region) → pushed line m ≡ Ok more
     → IsBuilder (record { lines = d.lines; line = Some more; open_region = region_of m })
 IsBuilder-event d line more m builder there region e =
@@ -40,7 +40,7 @@ IsBuilder-event d line more m builder there region e =
     may_have old (inl none) = inl none
     may_have old (inr same) = subst (MayHaveRegion line.events) (sym same) old.coregion
 
--- where one instance more may begin there is room for it
+-- if one more instance may begin, there is room for it
 pub room_for : (d : BuilderView) → IsRight (with_head d) → length d.lines < MAX_INSTANCES
 room_for d right = go (nat_le MAX_INSTANCES (length d.lines)) refl right
   where

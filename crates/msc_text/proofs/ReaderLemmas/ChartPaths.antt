@@ -1,4 +1,4 @@
--- The lines of a chart's text, as both looks pass them: what is spelled is read.
+-- The lines of a chart's text, as both looks pass them: the text of a chart is read.
 use Rattle.std.proofs.Common.{◌≡◌, ◌≢◌, ℕ, zero, suc, ◌+◌, ◌<◌, ◌≤◌, cond, List, [], ◌∷◌, ◌++◌, length, map, take, All, Contains, Some, None, Ok, Err, refl, sym, ap, ◌∙◌, subst, arith, append_assoc, append-nil, length-append}
 use Rattle.std.specs.Prelude.{slice_get, unwrap_or}
 use Rattle.std.specs.List.{flat_map, AllByRecursion}
@@ -37,11 +37,11 @@ use Rattle.msc_text.proofs.ReaderLemmas.TextSayings.{body, closing, last_from, p
 
 -- ---- one instance
 
--- outside of an instance, behind these lines
+-- outside of an instance, after these lines
 abbrev spot_outside : List (List ℕ) → List LineView → Spot
 spot_outside begun lines = record { begun = begun; state = states.Outside; builder = record { lines = lines; line = None; open_region = 0 } }
 
--- a line that can be spelled, behind so many
+-- a line that has a text, after this number of lines
 record IsPart (names : List (List ℕ)) (own : List ℕ) (done : ℕ) (line : LineView) : Type 0 where
   pub next : line.instance ≡ suc done
   pub owner : name_at names line.instance ≡ own
@@ -78,7 +78,7 @@ part_path names begun own lines line h absent room many =
 
 -- ---- all instances
 
--- the lines behind so many, with the names of their instances
+-- the lines after this number of lines, with the names of their instances
 abbrev AreParts : List (List ℕ) → ℕ → List (List ℕ) → List LineView → Type 0
 AreParts names done [] [] = Unit {0}
 AreParts names done [] (line ∷ lines) = ⊥
@@ -89,7 +89,7 @@ slice_get-seam : {X : Type 0} (xs : List X) (x : X) (ys : List X) → slice_get 
 slice_get-seam [] x ys = refl
 slice_get-seam (y ∷ xs) x ys = slice_get-seam xs x ys
 
--- a name is none of those before it
+-- a name isn't among the names before it
 absent_before : (names front : List (List ℕ)) (own : List ℕ) (back : List (List ℕ)) → AreNames names → front ++ own ∷ back ≡ names → Contains front own → ⊥
 absent_before names front own back are is there =
     let i = there.0 in
@@ -124,7 +124,7 @@ spot_start = record { begun = []; state = states.Start; builder = blank }
 abbrev spot_done : List (List ℕ) → List LineView → Spot
 spot_done names lines = record { begun = names; state = states.Done; builder = record { lines = lines; line = None; open_region = 0 } }
 
--- ---- what has a text has such parts
+-- ---- names and lines that have a text have such parts
 
 each-index : {X : Type 0} (P : X → Type 0) (xs : List X) → ((i : ℕ) (x : X) → slice_get xs i ≡ Some x → P x) → AllByRecursion P xs
 each-index P [] f = tt
@@ -219,7 +219,7 @@ built-again : (names : List (List ℕ)) (lines : List LineView) → HasText name
 unfolding lines_in
 built-again names lines h = ap (build_from names states.Start blank 1) (lines_of-text names lines h) ∙ build_path 1 (chart_path names lines h)
 
--- what is spelled is read
+-- the text of a chart is read
 pub chart-again : (names : List (List ℕ)) (lines : List LineView) → HasText names lines → chart_of (chart_text names lines) ≡ Ok (names, lines)
 unfolding chart_of
 chart-again names lines h =

@@ -1,4 +1,4 @@
--- The open coregion along a line, and what is said at its ends.
+-- The open coregion along a line, and the lines at its ends.
 use Rattle.std.proofs.Common.{◌≡◌, ◌≢◌, ℕ, ◌+◌, ◌<◌, ◌≤◌, Bool, true, false, ◌||◌, cond, eqb, List, [], ◌∷◌, ◌++◌, refl, sym, ap, ◌∙◌, arith, inl, inr, append_assoc, append-nil}
 use Rattle.std.proofs.lemmas.Bool.{eq-eqb, ne_eqb}
 use Rattle.chart.specs.Events.{region_of, greatest_region, last_region, MayHaveRegion}
@@ -11,7 +11,7 @@ use Rattle.msc_text.specs.declared.reader.state.Saying.{Saying}
 use Rattle.msc_text.specs.declared.reader.state.Saying.TheVariants as sayings
 use Rattle.msc_text.proofs.ReaderLemmas.TextSayings.{closing, opening, event_saying, event_sayings, body, last_from}
 
--- the open coregion, or 0, of a line whose coregion has come so far
+-- the number of the open coregion, or 0, of a line whose coregion has come this far
 abbrev pub HasOpen : Region → ℕ → List Event → Type 0
 HasOpen Closed c line = c ≡ 0
 HasOpen Empty c line = c ≡ greatest_region line + 1
@@ -22,13 +22,13 @@ open-may Closed c line h = inl h
 open-may Empty c line h = inr (inl h)
 open-may Held c line h = inr (inr h)
 
--- a receive of it
+-- after one more receive of the coregion
 pub open-more : (region : Region) (line : List Event) (m : Event) → HasOpen region (region_of m) line → HasOpen (after_receive region) (region_of m) (line ++ m ∷ [])
 open-more Closed line m h = h
 open-more Empty line m h = (omega arith, omega (arith, greatest_region-push line m), sym (last_region-push line m))
 open-more Held line m h = (h.0, omega (arith, greatest_region-push line m, h.1), sym (last_region-push line m))
 
--- what is said behind a line that ends in the coregion r
+-- the lines after a line that ends in the coregion r
 abbrev pub tail_of : Region → ℕ → List Saying
 tail_of Closed r = closing r 0
 tail_of Empty r = closing r 0 ++ sayings.Open ∷ []
@@ -52,17 +52,17 @@ last-most : (m : Event) (line : List Event) → last_region (m ∷ line) ≤ gre
 last-most m [] = omega arith
 last-most m (n ∷ line) = omega (arith, last-most n line)
 
--- it is not above the greatest
+-- it is at most the greatest
 pub last-within : (line : List Event) → last_region line ≤ greatest_region line
 last-within [] = omega arith
 last-within (m ∷ line) = last-most m line
 
--- one more event behind others
+-- one more event after others
 pub body-push : (names : List (List ℕ)) (r : ℕ) (line : List Event) (m : Event) → body names r (line ++ m ∷ []) ≡ body names r line ++ event_sayings names (last_from r line) m
 body-push names r [] m = append-nil (event_sayings names r m)
 body-push names r (x ∷ line) m = ap (λ l. event_sayings names r x ++ l) (body-push names (region_of x) line m) ∙ sym (append_assoc (event_sayings names r x) (body names (region_of x) line) (event_sayings names (last_from (region_of x) line) m))
 
--- ---- what is said at the ends of coregions
+-- ---- the lines at the ends of coregions
 
 either_same : (b : Bool) → (b || b) ≡ b
 either_same true = refl
@@ -91,7 +91,7 @@ opening-same r = rw (eq-eqb r r refl) refl
 pub opening-new : (r c : ℕ) → r ≢ c → 0 < c → opening r c ≡ sayings.Open ∷ []
 opening-new r c other begun = let some : c ≢ 0 = omega arith in rw (ne_eqb r c other, ne_eqb c 0 some) refl
 
--- an event of the open coregion: what is said before it, it, and what then is said
+-- an event of the open coregion: the lines before it, the event, and the lines after it
 pub tail-more : (names : List (List ℕ)) (region : Region) (line : List Event) (m : Event) → HasOpen region (region_of m) line
     → event_sayings names (last_from 0 line) m ++ tail_of (after_receive region) (region_of m) ≡ tail_of region (last_from 0 line) ++ event_saying names m ∷ []
 tail-more names Closed line m h = by (region_of m) h

@@ -1,4 +1,4 @@
--- What the line of an event says, and that it is built.
+-- What the line of an event means, and that its event is built.
 use Rattle.std.proofs.Common.{◌≡◌, ℕ, ◌+◌, ◌<◌, true, List, ◌∷◌, ◌++◌, Option, Some, None, Result, Ok, Err, inl, inr, ◌⊎◌, refl, sym, ap, ◌∙◌, subst}
 use Rattle.std.specs.List.{join_with_byte}
 use Rattle.std.specs.Prelude.{codes, IfSome}
@@ -37,7 +37,7 @@ pub word_rest : (line word rest : List ℕ) → words_of line ≡ word ∷ words
 word_rest line word rest e =
     sym (words_joined line) ∙ ap (join_with_byte 32) e ∙ joined-cons word (words_of rest) (words_cons rest) ∙ ap (λ l. word ++ 32 ∷ l) (words_joined rest)
 
--- the words of an event's line, one behind the other
+-- the words of an event's line, one after the other
 pub out_line : (line rest message side word partner : List ℕ) → line ≡ codes "out " ++ rest → words_of rest ≡ message ∷ words_of side → side ≡ codes "to " ++ word → word ≡ semi partner → line ≡ event_words keywords.Out message keywords.To partner
 unfolding spelled
 out_line line rest message side word partner a b c d =
@@ -48,7 +48,7 @@ unfolding spelled
 in_line_is line rest message side word partner a b c d =
     a ∙ ap (λ r. codes "in " ++ r) (word_rest rest message side b) ∙ ap (λ r. codes "in " ++ (message ++ 32 ∷ r)) (c ∙ ap (λ r. codes "from " ++ r) d)
 
--- two words whose instance and name were found
+-- two words, of which an instance and a name were found
 pub are_found : (names : List (List ℕ)) (own message partner : List ℕ) (found : Result (Result ℕ Cause) Cause) (number : ℕ) (name : List ℕ) → IsNamedWord names partner found → found ≡ Ok (Ok number) → name_or_cause message ≡ Ok name → ((own ≡ partner) → ⊥)
     → AreFound names own message partner number name
 are_found names own message partner (Ok (Ok q)) number name h e named other =
@@ -98,7 +98,7 @@ pub send_line : {names : List (List ℕ)} {own line message partner name : List 
 send_line {names} {own} {line} {message} {partner} {name} {number} {events} region open_region closed is f room =
     subst (λ r. IsEventLine names open_region (states.Inside own events r) line (line_events.Send number name) (states.Inside own (events + 1) regions.Closed)) (closed_is region closed) (send_closed open_region is f room)
 
--- a send is in no coregion, whichever is open
+-- a send is in no coregion, whichever one is open
 pub in_any : (names : List (List ℕ)) (state : State) (line : List ℕ) (open_region : ℕ) (r : Option (Event × State)) → IfSome r (λ x. (other : ℕ) → IsEventLine names other state line x.0 x.1)
     → IfSome r (λ x. IsEventLine names open_region state line x.0 x.1)
 in_any names state line open_region (Some x) h = h open_region
@@ -116,7 +116,7 @@ receive_line {names} {own} {line} {message} {partner} {name} {number} {events} r
       within = refl;
     }
 
--- ---- what is built of it
+-- ---- the event that is built
 
 pub event_built : (names : List (List ℕ)) (d : BuilderView) (m : Event) → known_of names (name_at names (partner_of m)) ≡ Ok (partner_of m) → IsInOpen d.open_region m → built names d (saying_of names m) ≡ with_event d d.line m
 unfolding with_send with_receive

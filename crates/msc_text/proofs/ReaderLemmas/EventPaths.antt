@@ -25,7 +25,7 @@ use Rattle.msc_text.proofs.ReaderLemmas.Paths.Path.{stay, pass}
 use Rattle.msc_text.proofs.ReaderLemmas.Standing.{more_line, pushed-more}
 use Rattle.msc_text.proofs.ReaderLemmas.TextSayings.{event_saying, event_sayings, body, last_from, closing, opening}
 
--- an event that can be spelled on the line of the instance p, whose name is own
+-- an event that has a line, on the line of the instance p, whose name is own
 pub record IsSpelled (names : List (List ℕ)) (own : List ℕ) (p : ℕ) (m : Event) : Type 0 where
   pub partner_name : IsName (name_at names (partner_of m))
   pub message_name : IsName (name_of m)
@@ -77,7 +77,7 @@ shut_pass names begun own events lines line c = record { moves = shuts; adds = r
 open_pass : (names begun : List (List ℕ)) (own : List ℕ) (events : ℕ) (lines : List LineView) (line : LineView) (c : ℕ) → Passes names (spot_in begun own events regions.Closed lines line c) sayings.Open (spot_in begun own events regions.Empty lines line (greatest_region line.events + 1))
 open_pass names begun own events lines line c = record { moves = opens; adds = refl; builds = refl }
 
--- how far a coregion has come where r is the last event's
+-- how far a coregion has come if r is the last event's
 abbrev pub region_at : ℕ → Region
 region_at zero = regions.Closed
 region_at (suc r) = regions.Held
@@ -90,7 +90,7 @@ closed_takes : (m : Event) → MayTake regions.Closed m
 closed_takes (line_events.Send to name) = refl
 closed_takes (line_events.Receive from name d) = tt
 
--- an event, with what ends a coregion before it or begins its own
+-- an event, with the lines that end a coregion before it or begin its own
 event_path_of : (names begun : List (List ℕ)) (own : List ℕ) (events : ℕ) (lines : List LineView) (line : LineView) (m : Event) → IsSpelled names own line.instance m → events < MAX_EVENTS → length line.events ≡ events → (r : ℕ) → r ≡ last_region line.events
     → (c : ℕ) → c ≡ region_of m → MayHaveRegion line.events c
     → Path names (spot_in begun own events (region_at r) lines line r) (closing r c ++ (opening r c ++ event_saying names m ∷ [])) (spot_in begun own (events + 1) (region_at c) lines (more_line line m) c)
@@ -139,11 +139,11 @@ event_path_of names begun own events lines line m h room many r last c is may = 
 
 -- ---- the events of a line
 
--- inside the instance own, the p-th, behind these events
+-- inside the instance own, the p-th, after these events
 abbrev pub spot_behind : List (List ℕ) → List ℕ → ℕ → List LineView → List Event → Spot
 spot_behind begun own p lines front = spot_in begun own (length front) (region_at (last_from 0 front)) lines (record { instance = p; events = front }) (last_from 0 front)
 
--- each event's coregion may come where it stands
+-- each event's coregion may be at its place
 abbrev pub MayFollow : List Event → List Event → Type 0
 MayFollow front [] = Unit {0}
 MayFollow front (m ∷ rest) = MayHaveRegion front (region_of m) × MayFollow (front ++ m ∷ []) rest
@@ -168,7 +168,7 @@ body_path names begun own p lines front (m ∷ rest) h may short =
     let rest_is = subst (λ c. Path names (spot_behind begun own p lines (front ++ m ∷ [])) (body names c rest) (spot_behind begun own p lines ((front ++ m ∷ []) ++ rest))) (last_from-push 0 front m) others in
     subst (λ l. Path names (spot_behind begun own p lines front) (event_sayings names (last_from 0 front) m ++ body names (region_of m) rest) (spot_behind begun own p lines l)) (append_assoc front (m ∷ []) rest) (path_then first rest_is)
 
--- the end of a line: no coregion is open then
+-- the end of a line, after which no coregion is open
 pub close_path : (names begun : List (List ℕ)) (own : List ℕ) (p : ℕ) (lines : List LineView) (events : List Event)
     → Path names (spot_behind begun own p lines events) (closing (last_from 0 events) 0) (spot_in begun own (length events) regions.Closed lines (record { instance = p; events = events }) 0)
 close_path names begun own p lines events = by (last_from 0 events)

@@ -1,4 +1,4 @@
--- What both looks read is spelled so: laws about lists alone.
+-- The bytes that both looks read are the text of the result: laws about lists alone.
 use Rattle.std.proofs.Common.{◌≡◌, ℕ, ◌+◌, ◌≤◌, eqb, nat_lt, List, [], ◌∷◌, ◌++◌, length, map, All, Result, Ok, Err, inl, inr, refl, sym, ap, ◌∙◌, subst, arith, append_assoc, append-nil}
 use Rattle.std.specs.List.{flat_map, AllByRecursion}
 use Rattle.std.proofs.lemmas.Bool.{eqb-true}
@@ -28,7 +28,7 @@ use Rattle.msc_text.proofs.ReaderLemmas.SayingsAgain.{saying_line, line-is}
 use Rattle.msc_text.proofs.ReaderLemmas.Standing.{IsInstanceEvent, IsLineAmong, SoFar, so_far}
 use Rattle.msc_text.proofs.ReaderLemmas.TextSayings.{chart_sayings, spell, chart_text-is}
 
--- ---- names that were read stay
+-- ---- names that were read remain
 
 pub record IsPrefix (begun names : List (List ℕ)) : Type 0 where
   pub later : List (List ℕ)
@@ -64,7 +64,7 @@ is_finished begun states.Done n rest names e =
     let g = when_ok (eqb (length rest) 0) (Line n Syntax) (Ok begun) names e in
     record { state_is = refl; names_are = ok_is begun names g.1; nothing = no_bytes rest (eqb-true (length rest) 0 g.0) }
 
--- a line that the first look takes
+-- a line that the first look reads
 pub record Looks (begun : List (List ℕ)) (state : State) (n : ℕ) (line : List ℕ) (lines : List (List ℕ)) (rest : List ℕ) (names : List (List ℕ)) : Type 0 where
   pub step : Step
   pub more : List (List ℕ)
@@ -90,7 +90,7 @@ look-prefix begun state n (line ∷ lines) rest names e =
 
 -- ---- both looks
 
--- what is read of the lines that are left: what they say
+-- what is read of the remaining lines: their meanings
 pub record IsRead (names : List (List ℕ)) (state : State) (d : BuilderView) (lines : List (List ℕ)) (rest : List ℕ) (out : List LineView) : Type 0 where
   pub last : BuilderView
   pub made : SoFar names names states.Done last
@@ -100,7 +100,7 @@ pub record IsRead (names : List (List ℕ)) (state : State) (d : BuilderView) (l
   pub says : so_far names states.Done last ≡ so_far names state d ++ sayings_left
   pub nothing : rest ≡ []
 
--- the second look reads the lines that the first does, or finds an unknown instance
+-- the second look reads the lines that the first one reads, or finds an unknown instance
 abbrev pub Built : List (List ℕ) → State → BuilderView → List (List ℕ) → List ℕ → Result (List LineView) Fault → Type 0
 Built names state d lines rest (Ok out) = IsRead names state d lines rest out
 Built names state d lines rest (Err fault) = (n : ℕ) × (fault ≡ Line n UnknownInstance)
@@ -156,7 +156,7 @@ start_state names = record {
   stands = (refl, refl);
 }
 
--- what holds of each, as another thing
+-- one fact of each element follows from another one
 each-as : {X : Type 0} (P Q : X → Type 0) (xs : List X) → ((x : X) → P x → Q x) → AllByRecursion P xs → AllByRecursion Q xs
 each-as P Q [] f h = tt
 each-as P Q (x ∷ xs) f h = (f x h.0, each-as P Q xs f h.1)
@@ -191,7 +191,7 @@ text_is : (bytes : List ℕ) (sayings : List Saying) → lines_of bytes ≡ map 
 text_is bytes sayings e nothing =
     sym (lines_joined bytes) ∙ ap (λ l. flat_map ended (lines_of bytes) ++ l) nothing ∙ append-nil (flat_map ended (lines_of bytes)) ∙ ap (flat_map ended) e
 
--- what both looks read of a text
+-- the result of both looks at a text
 pub record IsTextOf (bytes : List ℕ) (names : List (List ℕ)) (lines : List LineView) : Type 0 where
   pub has : HasText names lines
   pub spelled : bytes ≡ chart_text names lines
@@ -208,7 +208,7 @@ from_start : (bytes : List ℕ) (names : List (List ℕ)) → names_in bytes ≡
 unfolding names_in lines_in
 from_start bytes names e = both_look names [] states.Start blank 1 (lines_of bytes) (end_of bytes) (start_state names) e
 
--- what both looks read, the text spells
+-- the bytes that both looks read are the text of the result
 pub looks_found : (bytes : List ℕ) (names : List (List ℕ)) (lines : List LineView) → names_in bytes ≡ Ok names → lines_in names bytes ≡ Ok lines → IsTextOf bytes names lines
 looks_found bytes names lines e f = text_of bytes names lines (subst (Built names states.Start blank (lines_of bytes) (end_of bytes)) f (from_start bytes names e))
 
@@ -220,6 +220,6 @@ chart_found bytes names lines e =
     let both : (a.0, b.0) ≡ (names, lines) = ok_is (a.0, b.0) (names, lines) b.2 in
     subst (λ p. IsTextOf bytes p.0 p.1) both (looks_found bytes a.0 b.0 a.1 b.1)
 
--- the only fault of the second look is an instance that isn't known
+-- the only fault of the second look is an unknown instance
 pub second_fault : (bytes : List ℕ) (names : List (List ℕ)) (fault : Fault) → names_in bytes ≡ Ok names → lines_in names bytes ≡ Err fault → (n : ℕ) × (fault ≡ Line n UnknownInstance)
 second_fault bytes names fault e f = subst (Built names states.Start blank (lines_of bytes) (end_of bytes)) f (from_start bytes names e)

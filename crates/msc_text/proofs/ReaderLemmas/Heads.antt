@@ -1,4 +1,4 @@
--- Names that are looked for ahead of the other lines are those that the lines give, where these have no fault.
+-- The names that are collected before the other lines are those that the lines give, if no line has a fault.
 use Rattle.std.proofs.Common.{◌≡◌, ℕ, true, false, nat_lt, List, [], ◌∷◌, ◌++◌, length, Result, Ok, Err, refl, sym, ap, ◌∙◌, append_assoc}
 use Rattle.std.proofs.lemmas.Bool.{false≢true}
 use Rattle.chart.specs.Keywords.{spelled}
@@ -41,7 +41,7 @@ skips names line (Ok (sayings.End, next)) e b = refl
 pub skipped : (names : List (List ℕ)) (line : List ℕ) → begins line ≡ false → with_step names (step_of states.Outside line) ≡ names
 skipped names line b = skips names line (step_of states.Outside line) refl b
 
--- ---- a line that has no fault
+-- ---- a line without a fault
 
 others : (names more : List (List ℕ)) (line : List ℕ) (saying : Saying) → line ≡ saying_line saying → begins (saying_line saying) ≡ false → names ≡ more → with_step names (step_of states.Outside line) ≡ more
 others names more line saying is b same = skipped names line (ap begins is ∙ b) ∙ same
@@ -58,13 +58,13 @@ moved names more line opens is e = others names more line sayings.Open is refl (
 moved names more line shuts is e = others names more line sayings.Shut is refl (ok_is names more e)
 moved names more line leaves is e = others names more line sayings.Foot is refl (ok_is names more e)
 
--- gives the names that its saying does
+-- it adds the names that its meaning gives
 pub ahead_goes_on : (names more : List (List ℕ)) (state : State) (line : List ℕ) (lines : List (List ℕ)) (step : Step) → step_of state line ≡ Ok step → names_after names step.0 ≡ Ok more → with_heads names (line ∷ lines) ≡ with_heads more lines
 ahead_goes_on names more state line lines step e f =
     let event_saying = line-is state line step e in
     ap (λ l. with_heads l lines) (moved names more line event_saying.0 event_saying.1 f)
 
--- ---- names that were given stay
+-- ---- names that were given remain
 
 given-prefix : (names : List (List ℕ)) (own : List ℕ) (r : Result (List (List ℕ)) Cause) → with_name names own ≡ r → IsPrefix names (given_or names r)
 given-prefix names own (Ok more) e = record { later = own ∷ []; is = sym (with_name-is names own more e) }

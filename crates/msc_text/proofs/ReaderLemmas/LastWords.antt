@@ -1,4 +1,4 @@
--- The last word of a line, told by what stands before its semicolon.
+-- The last word of a line, recognized by the part before its semicolon.
 use Rattle.std.proofs.Common.{◌≡◌, ℕ, ◌+◌, ◌-◌, ◌<◌, ◌≤◌, Bool, true, false, List, [], ◌∷◌, ◌++◌, length, get_or, take, drop, refl, sym, ap, ◌∙◌, arith, take-append-drop, drop-cons, add-one, length-append}
 use Rattle.std.specs.Prelude.{bytes_eq}
 use Rattle.std.specs.Cmp.Lexicographic.{bytes_decides}
@@ -32,7 +32,7 @@ last_word-is word front some last =
     (λ same. (bytes_decides word (semi front)).1 (split ∙ ap semi ((bytes_decides (front_of word) front).0 same)))
     (λ same. (bytes_decides (front_of word) front).1 (append_cancel_right (front_of word) front (59 ∷ []) (sym split ∙ (bytes_decides word (semi front)).0 same)))
 
--- another byte does
+-- another byte ends the word
 pub last_word-other : (word front : List ℕ) → (get_or word (length word - 1) 0 ≡ 59 → ⊥) → is_last_word front word ≡ false
 unfolding is_last_word
 last_word-other word front other = by (bytes_eq word (semi front)) refl

@@ -1,4 +1,4 @@
--- What may be said in each state of a chart's text, and in which words.
+-- What a line of a chart's text may mean in each state, and its words.
 use Rattle.std.proofs.Common.{◌≢◌, ℕ, ◌+◌, ◌<◌, List, [], ◌∷◌}
 use Rattle.chart.specs.Keywords.{spelled}
 use Rattle.chart.specs.declared.keyword.Keyword.TheVariants as keywords
@@ -14,14 +14,14 @@ use Rattle.msc_text.specs.declared.reader.state.Region.TheVariants as regions
 use Rattle.msc_text.specs.declared.reader.state.Saying.{Saying}
 use Rattle.msc_text.specs.declared.reader.state.Saying.TheVariants as sayings
 
--- an event of the instance own that has so many before it
+-- an event of the instance own, after this number of events
 pub record IsEvent (own : List ℕ) (events : ℕ) (partner message : List ℕ) : Type 0 where
   pub partner_name : IsName partner
   pub message_name : IsName message
   pub other : partner ≢ own
   pub room : events < MAX_EVENTS
 
--- what may be said in a state, and the next state
+-- what a line may mean in a state, and the next state
 pub data Moves : State → Saying → State → Type 0 where
   begins : Moves states.Start sayings.Begin states.Outside
   heads : {own : List ℕ} → IsName own → Moves states.Outside (sayings.Head own) (states.Inside own 0 regions.Closed)
@@ -32,7 +32,7 @@ pub data Moves : State → Saying → State → Type 0 where
   shuts : {own : List ℕ} {events : ℕ} → Moves (states.Inside own events regions.Held) sayings.Shut (states.Inside own events regions.Closed)
   leaves : {own : List ℕ} {events : ℕ} → Moves (states.Inside own events regions.Closed) sayings.Foot states.Outside
 
--- the words that say it
+-- the words of a line with this meaning
 abbrev pub saying_words : Saying → List (List ℕ)
 saying_words sayings.Begin = spelled keywords.Msc ∷ semi chart_name ∷ []
 saying_words (sayings.Head own) = spelled keywords.Instance ∷ semi own ∷ []

@@ -1,4 +1,4 @@
--- One look at a text's lines does what two do: laws about lists alone.
+-- One look at a text's lines does what two looks do: laws about lists alone.
 use Rattle.std.proofs.Common.{◌≡◌, ℕ, ◌+◌, ◌⊎◌, List, [], ◌∷◌, ◌++◌, Result, Ok, Err, inl, inr, refl, sym, ap, ◌∙◌, subst}
 use Rattle.chart.specs.Charts.{LineView}
 use Rattle.chart.specs.declared.event.Event.{Event}
@@ -26,7 +26,7 @@ use Rattle.msc_text.proofs.ReaderLemmas.Onward.{Outcome, onward}
 use Rattle.msc_text.proofs.ReaderLemmas.SayingsAgain.{line-is}
 use Rattle.msc_text.proofs.ReaderLemmas.Standing.{SoFar}
 
--- ---- the names that were looked for ahead
+-- ---- the names that were collected before the other lines
 
 heads_are : (begun : List (List ℕ)) (state : State) (n : ℕ) (lines : List (List ℕ)) (rest : List ℕ) (names : List (List ℕ)) → look_from begun state n lines rest ≡ Ok names → with_heads begun lines ≡ names
 heads_are begun state n [] rest names e = (is_finished begun state n rest names (sym (look_ends begun state n rest) ∙ e)).names_are
@@ -34,14 +34,14 @@ heads_are begun state n (line ∷ lines) rest names e =
     let l = looks begun state n line lines rest names e in
     ahead_goes_on begun l.more state line lines l.step (in_line_ok n (step_of state line) l.step l.reads) l.adds ∙ heads_are l.more l.step.1 (n + 1) lines rest names l.others
 
--- are those of the text where no line has a fault by itself
+-- they are those of the text, if no line has a fault by itself
 pub ahead_are : (bytes : List ℕ) (names : List (List ℕ)) → names_in bytes ≡ Ok names → names_ahead bytes ≡ names
 unfolding names_in names_ahead
 ahead_are bytes names e = heads_are [] states.Start 1 (lines_of bytes) (end_of bytes) names e
 
--- ---- where the look stands
+-- ---- how far the look has come
 
--- before the lines that are left: what both looks make of these is what they make of the text
+-- before the remaining lines: both looks make of the text what they make of these lines
 pub record Goes (known names : List (List ℕ)) (state : State) (d : BuilderView) (n : ℕ) (lines : List (List ℕ)) (rest bytes : List ℕ) : Type 0 where
   pub ahead : with_heads names lines ≡ known
   pub looks_on : look_from names state n lines rest ≡ names_in bytes
@@ -52,7 +52,7 @@ pub goes_first : (known : List (List ℕ)) (bytes : List ℕ) → known ≡ name
 unfolding names_ahead names_in lines_in
 goes_first known bytes e = record { ahead = sym e; looks_on = refl; made = start_state known; builds = refl }
 
--- ---- one line on
+-- ---- one more line
 
 outcome_on : (known names more : List (List ℕ)) (state : State) (d : BuilderView) (n : ℕ) (line : List ℕ) (lines : List (List ℕ)) (rest bytes : List ℕ) (step : Step)
     → step_of state line ≡ Ok step → names_after names step.0 ≡ Ok more → Goes known names state d n (line ∷ lines) rest bytes → Outcome known more state step.1 d step.0
@@ -62,7 +62,7 @@ outcome_on known names more state d n line lines rest bytes step reads adds g =
     let whole : known ≡ more ++ p.later = sym g.ahead ∙ ahead_goes_on names more state line lines step reads adds ∙ p.is in
     onward p.later g.made event_saying.0 adds whole
 
--- a line has no fault but one by itself, or an instance that isn't known
+-- the line's only fault may be one that it has by itself, or an unknown instance
 pub may_be_built : (known names : List (List ℕ)) (state : State) (d : BuilderView) (n : ℕ) (line : List ℕ) (lines : List (List ℕ)) (rest bytes : List ℕ) → Goes known names state d n (line ∷ lines) rest bytes → MayBeBuilt known names d state line
 may_be_built known names state d n line lines rest bytes g = λ step more reads adds. by step more (outcome_on known names more state d n line lines rest bytes step reads adds g)
   where
@@ -93,7 +93,7 @@ is_line_read known names d state n line more e next is =
       next_is = ap (λ x. x.2) same;
     }
 
--- the look goes on behind it
+-- the look goes on after it
 pub goes_on : (known names : List (List ℕ)) (state : State) (d : BuilderView) (n : ℕ) (line : List ℕ) (lines : List (List ℕ)) (rest bytes : List ℕ) (more : List (List ℕ)) (e : BuilderView) (next : State)
     → Goes known names state d n (line ∷ lines) rest bytes → line_read known names d state n line ≡ Ok (more, e, next) → Goes known more next e (n + 1) lines rest bytes
 goes_on known names state d n line lines rest bytes more e next g is =
@@ -115,7 +115,7 @@ goes_on known names state d n line lines rest bytes more e next g is =
 abbrev is_read : List (List ℕ) → BuilderView → State → Result (List (List ℕ) × BuilderView × State) Fault
 is_read names d state = Ok (names, d, state)
 
--- or one of both looks stops at it
+-- if the line isn't read, one of both looks stops at it
 stops_at : (known names : List (List ℕ)) (state : State) (d : BuilderView) (n : ℕ) (line : List ℕ) (lines : List (List ℕ)) (rest : List ℕ) (fault : Fault) → line_read known names d state n line ≡ Err fault
     → (look_from names state n (line ∷ lines) rest ≡ Err fault) ⊎ (build_from known state d n (line ∷ lines) ≡ Err fault)
 unfolding line_read look_from build_from
@@ -154,7 +154,7 @@ line_stops (errors.Fault fault) known names state d n line lines rest bytes g h 
     by (inl e) = inl (sym g.looks_on ∙ e)
     by (inr e) = inr (sym g.builds ∙ e)
 
--- no line is left
+-- no line remains
 pub ends_well : (known names : List (List ℕ)) (state : State) (d : BuilderView) (n : ℕ) (rest bytes : List ℕ) (read : List (List ℕ)) → Goes known names state d n [] rest bytes → finished names state n rest ≡ Ok read
     → (names_in bytes ≡ Ok read) × (lines_in known bytes ≡ Ok d.lines)
 ends_well known names state d n rest bytes read g e = (sym g.looks_on ∙ look_ends names state n rest ∙ e, sym g.builds ∙ build_ends known state d n)
@@ -192,7 +192,7 @@ module _ (known : List (List ℕ)) (bytes : List ℕ) (ahead : known ≡ names_a
       bind_at (names_in bytes) (λ names. lines_in names bytes >>= λ lines. are_read names lines) names e
       ∙ bind_at (lines_in names bytes) (λ lines. are_read names lines) lines (ap (λ l. lines_in l bytes) (sym (same_names names e)) ∙ f)
 
-  -- where no line has a fault by itself, it is that of the second look
+  -- if no line has a fault by itself, the fault is that of the second look
   pub chart_unknown : (names : List (List ℕ)) (fault : Fault) → names_in bytes ≡ Ok names → (names_in bytes ≡ Err fault) ⊎ (lines_in known bytes ≡ Err fault) → chart_of bytes ≡ Err fault
   unfolding chart_of
   chart_unknown names fault e (inl h) = absurd (let both = sym e ∙ h in cc)

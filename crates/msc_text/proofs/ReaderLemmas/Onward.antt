@@ -1,4 +1,4 @@
--- What one more line makes of both looks: it is built, or its partner is no instance.
+-- What both looks make of one more line: it is built, or its partner is no instance.
 use Rattle.std.proofs.Common.{◌≡◌, ℕ, suc, ◌+◌, ◌<◌, ◌≤◌, cond, nat_lt, List, [], ◌∷◌, ◌++◌, length, Option, Some, None, Ok, Err, ◌⊎◌, inl, inr, refl, sym, ap, ◌∙◌, subst, arith, append_assoc, length-append}
 use Rattle.std.specs.List.{flat_map}
 use Rattle.std.proofs.lemmas.Bool.{ltb-false, lt-leb}
@@ -38,7 +38,7 @@ pub record Builds (names more : List (List ℕ)) (state next : State) (d : Build
   pub made : SoFar names more next e
   pub says : so_far names next e ≡ so_far names state d ++ saying ∷ []
 
--- or not
+-- it is built or has an unknown instance
 abbrev pub Outcome : List (List ℕ) → List (List ℕ) → State → State → BuilderView → Saying → Type 0
 Outcome names more state next d saying = (built names d saying ≡ Err UnknownInstance) ⊎ ((e : BuilderView) × Builds names more state next d saying e)
 
@@ -151,7 +151,7 @@ receive-on names begun own from name events region d (Some q) is event s =
     let p = pushes-of (line_events.Receive q name d.open_region) i event found refl refl i.open_is in
     event-on (sayings.Receive from name) s p (ap (λ o. known o >>= λ partner. with_event d d.line (line_events.Receive partner name d.open_region)) is) (ap (λ w. sayings.Receive w name) found.has)
 
--- the made with another open coregion
+-- the same with another open coregion
 region-state : {names begun : List (List ℕ)} {own : List ℕ} {events : ℕ} {region other : Region} {d : BuilderView} (c : ℕ) (line : LineView) → SoFar names begun (states.Inside own events region) d → IsInside names own events region d line → HasOpen other c line.events
     → SoFar names begun (states.Inside own events other) (record d { open_region = c })
 region-state c line s i opened = record {
@@ -162,7 +162,7 @@ region-state c line s i opened = record {
   stands = (s.stands.0, (line, record { there = i.there; next = i.next; owner = i.owner; many = i.many; open_is = opened; among = i.among }));
 }
 
--- what is said there
+-- what the lines there mean
 event_saying-on : (names : List (List ℕ)) (own : List ℕ) (region other : Region) (d : BuilderView) (line : LineView) (saying : Saying) → d.line ≡ Some line
     → tail_of other (last_from 0 line.events) ≡ tail_of region (last_from 0 line.events) ++ saying ∷ []
     → sayings.Begin ∷ (flat_map (part names) d.lines ++ inside_sayings names own other d.line) ≡ (sayings.Begin ∷ (flat_map (part names) d.lines ++ inside_sayings names own region d.line)) ++ saying ∷ []

@@ -12,7 +12,7 @@ use Rattle.msc_text.specs.declared.reader.state.Saying.{Saying}
 use Rattle.msc_text.proofs.ReaderLemmas.Moves.{Moves}
 use Rattle.msc_text.proofs.ReaderLemmas.SayingsAgain.{saying_line, line-again, line-lacks}
 
--- where both looks are: the names that have begun, the state and what is built
+-- how far both looks have come: the names that have begun, the state and what is built
 pub record Spot : Type 0 where
   pub begun : List (List ℕ)
   pub state : State
@@ -24,7 +24,7 @@ pub record Passes (names : List (List ℕ)) (a : Spot) (saying : Saying) (b : Sp
   pub adds : names_after a.begun saying ≡ Ok b.begun
   pub builds : built names a.builder saying ≡ Ok b.builder
 
--- several lines do
+-- several lines do, one after the other
 pub data Path (names : List (List ℕ)) : Spot → List Saying → Spot → Type 0 where
   stay : {a : Spot} → Path names a [] a
   pass : {a b c : Spot} {saying : Saying} {others : List Saying} → Passes names a saying b → Path names b others c → Path names a (saying ∷ others) c
@@ -36,7 +36,7 @@ pub path_then : {names : List (List ℕ)} {a b c : Spot} {xs ys : List Saying} �
 path_then stay q = q
 path_then (pass p others) q = pass p (path_then others q)
 
--- ---- a path is looked along
+-- ---- both looks go along a path
 
 pub look_path : {names : List (List ℕ)} {a b : Spot} {xs : List Saying} (n : ℕ) (rest : List ℕ) → Path names a xs b → look_from a.begun a.state n (map saying_line xs) rest ≡ finished b.begun b.state (n + length xs) rest
 unfolding look_from
@@ -57,7 +57,7 @@ build_path {names} {a} n (pass {b = b} {saying = saying} {others = others} p q) 
     ∙ bind_at (in_line n (built names a.builder saying)) (λ more. build_from names b.state more (n + 1) (map saying_line others)) b.builder (ap (in_line n) p.builds)
     ∙ build_path (n + 1) q
 
--- its lines have no line feed
+-- the lines of a path have no line feed
 pub path_lacks : {names : List (List ℕ)} {a b : Spot} {xs : List Saying} → Path names a xs b → AllByRecursion (Lacks 10) (map saying_line xs)
 path_lacks stay = tt
 path_lacks (pass p q) = (line-lacks p.moves, path_lacks q)

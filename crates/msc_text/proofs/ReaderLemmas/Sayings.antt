@@ -1,4 +1,4 @@
--- Lines that are read, and the words that say them: laws about lists alone.
+-- Lines that are read, and their words: laws about lists alone.
 use Rattle.std.proofs.Common.{◌≡◌, ◌≢◌, ℕ, ◌+◌, Bool, true, false, cond, ◌&&◌, List, [], ◌∷◌, Option, Some, None, Ok, Err, refl, sym, ap, ◌∙◌, subst, inl, inr}
 use Rattle.std.specs.Prelude.{bytes_eq, nat_le}
 use Rattle.std.proofs.lemmas.Bool.{false≢true, leb-false}
@@ -23,7 +23,7 @@ use Rattle.msc_text.proofs.ReaderLemmas.Moves.{IsEvent, Moves, saying_words}
 use Rattle.msc_text.proofs.ReaderLemmas.Moves.Moves.{begins, heads, ends, sends, receives, opens, shuts, leaves}
 use Rattle.msc_text.proofs.ReaderLemmas.Semicolons.{before_is}
 
--- the words say what may be said
+-- the words are those of a line that may come in this state
 pub record Says (state : State) (words : List (List ℕ)) (step : Step) : Type 0 where
   pub moves : Moves state step.0 step.1
   pub are : words ≡ saying_words step.0
@@ -32,7 +32,7 @@ both : (a b : Bool) → (a && b) ≡ true → (a ≡ true) × (b ≡ true)
 both true b e = (refl, e)
 both false b e = cc
 
--- ---- what is read is said so
+-- ---- what is read has these words
 
 start-says : (words : List (List ℕ)) (step : Step) → start_by words ≡ Ok step → Says states.Start words step
 unfolding is_keyword is_last_word
@@ -166,7 +166,7 @@ inside-says own events region (k ∷ m ∷ t ∷ []) step e = cc
 inside-says own events region (k ∷ m ∷ t ∷ w ∷ []) step e = event-says own events region k m t w step e
 inside-says own events region (k ∷ m ∷ t ∷ w ∷ x ∷ words) step e = cc
 
--- what a line is read as, its words say, and it may be said in its state
+-- a line that is read has the words of its meaning, and may come in its state
 pub step-says : (state : State) (words : List (List ℕ)) (step : Step) → step_by state words ≡ Ok step → Says state words step
 step-says states.Start words step e = start-says words step e
 step-says states.Outside words step e = outside-says words step e

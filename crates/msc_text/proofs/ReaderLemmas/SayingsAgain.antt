@@ -1,4 +1,4 @@
--- What may be said, read again from its words: laws about lists alone.
+-- What a line may mean is read again from its words: laws about lists alone.
 use Rattle.std.proofs.Common.{◌≡◌, ◌≢◌, ℕ, ◌+◌, Bool, true, false, cond, List, [], ◌∷◌, Ok, Err, refl, ap, ◌∙◌}
 use Rattle.std.specs.Prelude.{codes, bytes_eq, nat_le}
 use Rattle.std.specs.List.{join_with_byte}
@@ -97,7 +97,7 @@ words-again (leaves {own} {events}) = foot-again own events
 
 -- ---- by the line
 
--- the line that says it
+-- the line with this meaning
 abbrev pub saying_line : Saying → List ℕ
 saying_line saying = join_with_byte 32 (saying_words saying)
 
@@ -135,7 +135,7 @@ event_saying-again sayings.Shut h = spaced_again _ _ h
 event_saying-again sayings.Foot h = spaced_again _ _ h
 event_saying-again sayings.End h = spaced_again _ _ h
 
--- a line is read as what it says
+-- the line with a meaning is read as this meaning
 pub line-again : {state next : State} {saying : Saying} → Moves state saying next → step_of state (saying_line saying) ≡ Ok (saying, next)
 unfolding step_of
 line-again {state} {next} {saying} move = ap (step_by state) (event_saying-again saying (plain-words move)) ∙ words-again move
@@ -144,7 +144,7 @@ line-again {state} {next} {saying} move = ap (step_by state) (event_saying-again
 pub line-lacks : {state next : State} {saying : Saying} → Moves state saying next → Lacks 10 (saying_line saying)
 line-lacks {saying = saying} move = spaced_lacks (saying_words saying) (plain-words move)
 
--- and is no other
+-- and a line that is read is the line with its meaning
 pub line-is : (state : State) (line : List ℕ) (step : Step) → step_of state line ≡ Ok step → Moves state step.0 step.1 × (line ≡ saying_line step.0)
 unfolding step_of
 line-is state line step e =

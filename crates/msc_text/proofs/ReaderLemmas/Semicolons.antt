@@ -32,7 +32,7 @@ cut word name (Some state) is e =
     let back : drop state word ≡ get_or word state 0 ∷ drop (state + 1) word = rw (add-one, drop-cons word state 0) refl in
     sym (take-append-drop state word) ∙ ap (λ l. l ++ drop state word) front ∙ ap (λ l. name ++ l) (back ∙ ap (λ b. b ∷ drop (state + 1) word) byte ∙ ap (λ l. 59 ∷ l) none)
 
--- what stands before the semicolon, and the semicolon, are the word
+-- the part before the semicolon and the semicolon are the word
 pub before_is : (word name : List ℕ) → name_part word ≡ Some name → word ≡ semi name
 unfolding name_part
 before_is word name e = cut word name (position is_semicolon word) refl e
@@ -60,7 +60,7 @@ all_others : (word : List ℕ) → Lacks 59 word → list_all is_other word ≡ 
 all_others [] h = refl
 all_others (b ∷ word) h = ap (λ x. not x && list_all is_other word) h.0 ∙ all_others word h.1
 
--- a name has a byte, and no semicolon
+-- a name has a byte, and has no semicolon
 pub plain_again : (name : List ℕ) → IsName name → is_plain name ≡ true
 unfolding is_plain
 plain_again name h = ap (λ b. not b && list_all is_other name) (name_some name h) ∙ all_others name (name_has_no_semicolon name h)

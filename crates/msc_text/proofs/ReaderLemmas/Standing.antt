@@ -1,4 +1,4 @@
--- Where the second look at a text stands: what was said so far, and what is built of it.
+-- The state of the second look at a text: what its lines so far mean, and what is built.
 use Rattle.std.proofs.Common.{◌≡◌, ◌≢◌, ℕ, suc, ◌+◌, ◌<◌, ◌≤◌, List, [], ◌∷◌, ◌++◌, length, Option, Some, None, Ok, refl, sym, ap, ◌∙◌, arith, append_assoc, length-append}
 use Rattle.std.specs.List.{flat_map, AllByRecursion}
 use Rattle.std.proofs.lemmas.Bool.{ne_eqb}
@@ -34,7 +34,7 @@ pub record IsLineAmong (n : ℕ) (line : LineView) : Type 0 where
   pub line_is : IsLine line
   pub events_are : AllByRecursion (IsInstanceEvent n) line.events
 
--- the line that is being built is of the instance own, with so many events
+-- the line that is being built is of the instance own, with this number of events
 pub record IsInside (names : List (List ℕ)) (own : List ℕ) (events : ℕ) (region : Region) (d : BuilderView) (line : LineView) : Type 0 where
   pub there : d.line ≡ Some line
   pub next : line.instance ≡ suc (length d.lines)
@@ -43,14 +43,15 @@ pub record IsInside (names : List (List ℕ)) (own : List ℕ) (events : ℕ) (r
   pub open_is : HasOpen region d.open_region line.events
   pub among : IsLineAmong (length names) line
 
--- what is built, by the state
+-- what is built in each state
 abbrev pub Stands : List (List ℕ) → List (List ℕ) → State → BuilderView → Type 0
 Stands names begun states.Start d = (begun ≡ []) × (d ≡ blank)
 Stands names begun states.Outside d = (d.line ≡ None) × (length begun ≡ length d.lines)
 Stands names begun (states.Inside own events region) d = (length begun ≡ suc (length d.lines)) × ((line : LineView) × IsInside names own events region d line)
 Stands names begun states.Done d = (length begun ≡ length d.lines) × (2 ≤ length begun)
 
--- what both looks have made of the lines so far: the names of the instances that have begun, of all in names, and what is built
+-- what both looks have made of the lines so far: the names of the instances that have begun, which are the first of all
+-- names, and what is built
 pub record SoFar (names begun : List (List ℕ)) (state : State) (d : BuilderView) : Type 0 where
   pub are : AreNames begun
   pub each : AllByRecursion IsName begun
@@ -58,7 +59,7 @@ pub record SoFar (names begun : List (List ℕ)) (state : State) (d : BuilderVie
   pub among : AllByRecursion (IsLineAmong (length names)) d.lines
   pub stands : Stands names begun state d
 
--- ---- what was said
+-- ---- what the lines so far mean
 
 abbrev pub inside_sayings : List (List ℕ) → List ℕ → Region → Option LineView → List Saying
 inside_sayings names own region None = []

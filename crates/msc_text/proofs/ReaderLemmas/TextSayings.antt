@@ -1,4 +1,4 @@
--- A chart's text as a list of what its lines say.
+-- A chart's text as the list of what its lines mean.
 use Rattle.std.proofs.Common.{◌≡◌, ℕ, Bool, true, false, ◌||◌, cond, eqb, List, [], ◌∷◌, ◌++◌, refl, sym, ap, ◌∙◌, append_assoc, append-nil, map}
 use Rattle.std.specs.List.{flat_map}
 use Rattle.chart.specs.Charts.{LineView}
@@ -14,11 +14,11 @@ use Rattle.msc_text.specs.declared.reader.state.Saying.{Saying}
 use Rattle.msc_text.specs.declared.reader.state.Saying.TheVariants.{Begin, Head, Send, Receive, Open, Shut, Foot, End}
 use Rattle.msc_text.proofs.ReaderLemmas.SayingsAgain.{saying_line}
 
--- what ends the coregion r, where what comes next is in c
+-- the line that ends the coregion r, if the next event is in c
 abbrev pub closing : ℕ → ℕ → List Saying
 closing r c = cond (eqb r c || eqb r 0) [] (Shut ∷ [])
 
--- what begins the coregion c, where what came before was in r
+-- the line that begins the coregion c, if the event before is in r
 abbrev pub opening : ℕ → ℕ → List Saying
 opening r c = cond (eqb r c || eqb c 0) [] (Open ∷ [])
 
@@ -27,11 +27,11 @@ abbrev pub event_saying : List (List ℕ) → Event → Saying
 event_saying names (line_events.Send to name) = Send (name_at names to) name
 event_saying names (line_events.Receive from name region) = Receive (name_at names from) name
 
--- an event behind one in the coregion r
+-- an event after one in the coregion r
 abbrev pub event_sayings : List (List ℕ) → ℕ → Event → List Saying
 event_sayings names r m = closing r (region_of m) ++ (opening r (region_of m) ++ event_saying names m ∷ [])
 
--- events behind one in the coregion r, with the last coregion left open
+-- events after one in the coregion r, with the last coregion still open
 abbrev pub body : List (List ℕ) → ℕ → List Event → List Saying
 body names r [] = []
 body names r (m ∷ line) = event_sayings names r m ++ body names (region_of m) line
@@ -51,7 +51,7 @@ chart_sayings names lines = Begin ∷ (flat_map (part names) lines ++ End ∷ []
 
 -- ---- these are the lines of the text
 
--- the text of what is said
+-- the text of lines with these meanings
 abbrev pub spell : List Saying → List ℕ
 spell sayings = flat_map ended (map saying_line sayings)
 
@@ -125,7 +125,7 @@ spell-parts : (names : List (List ℕ)) (lines : List LineView) → spell (flat_
 spell-parts names [] = refl
 spell-parts names (line ∷ lines) = spell-append (part names line) (flat_map (part names) lines) ∙ ap (λ l. l ++ spell (flat_map (part names) lines)) (spell-part names line) ∙ ap (λ l. line_text names line ++ l) (spell-parts names lines)
 
--- the text of a chart is that of what its lines say
+-- the text of a chart is the text of what its lines mean
 pub chart_text-is : (names : List (List ℕ)) (lines : List LineView) → chart_text names lines ≡ spell (chart_sayings names lines)
 unfolding chart_text
 chart_text-is names lines =

@@ -1,4 +1,4 @@
--- The names of a text's instances, looked for ahead of its other lines.
+-- The names of a text's instances, collected before its other lines are read.
 use Rattle.std.specs.Prelude.{ℕ, Bool, false, ◌&&◌, ◌==◌, List, [], ◌∷◌, Result, Ok, Err}
 use Rattle.texts.specs.Instances.{with_name}
 use Rattle.texts.specs.Lines.{lines_of}
@@ -13,17 +13,17 @@ abbrev pub given_or : List (List ℕ) → Result (List (List ℕ)) Cause → Lis
 given_or names (Ok more) = more
 given_or names (Err cause) = names
 
--- the names with that of an instance that begins
+-- the names, and the name of an instance that begins
 abbrev pub with_begun : List (List ℕ) → Saying → List (List ℕ)
 with_begun names (Head own) = given_or names (with_name names own)
 with_begun names _ = names
 
--- the names with what a line says that stands outside of an instance
+-- the names, and what a line outside of an instance adds to them
 abbrev pub with_step : List (List ℕ) → Result Step Cause → List (List ℕ)
 with_step names (Ok step) = with_begun names step.0
 with_step names (Err cause) = names
 
--- the names with those of the instances that begin in these lines
+-- the names, and the names of the instances that begin in these lines
 abbrev pub with_heads : List (List ℕ) → List (List ℕ) → List (List ℕ)
 with_heads names [] = names
 with_heads names (line ∷ lines) = with_heads (with_step names (step_of Outside line)) lines
@@ -32,7 +32,7 @@ with_heads names (line ∷ lines) = with_heads (with_step names (step_of Outside
 unfoldable pub names_ahead : List ℕ → List (List ℕ)
 names_ahead bytes = with_heads [] (lines_of bytes)
 
--- the line has the first three bytes of one that begins an instance
+-- the line has the first three bytes of a line that begins an instance
 abbrev pub begins : List ℕ → Bool
 begins (a ∷ b ∷ c ∷ rest) = a == 105 && b == 110 && c == 115
 begins _ = false

@@ -1,4 +1,4 @@
--- The second look at a chart's text: what its lines build, now that all names are known (this project's profile).
+-- The second look at a chart's text: what its lines build. All names are known then (this project's profile).
 use Rattle.std.specs.Prelude.{◌≡◌, ℕ, suc, ◌+◌, ◌==◌, List, [], ◌∷◌, ◌++◌, length, Option, None, Some, Result, Ok, Err, nat_le, MatchOption, if◌then◌else◌}
 use Rattle.chart.specs.Charts.{LineView, IsNumbered}
 use Rattle.chart.specs.Events.{partner_of, region_of, greatest_region, MayHaveRegion}
@@ -13,8 +13,8 @@ use Rattle.texts.specs.declared.fault.Cause.TheVariants.{Syntax, Instances, ToIt
 use Rattle.msc_text.specs.declared.reader.state.Saying.{Saying}
 use Rattle.msc_text.specs.declared.reader.state.Saying.TheVariants.{Begin, Head, Send, Receive, Open, Shut, Foot, End}
 
--- the lines that are built whole, and that which is being built, if there is one; its open coregion, 0 where there is
--- none
+-- the lines that are complete, the line that is being built, if there is one, and its open coregion, or 0 if none is
+-- open
 pub record BuilderView : Type 0 where
   pub lines : List LineView
   pub line : Option LineView
@@ -24,13 +24,13 @@ pub record BuilderView : Type 0 where
 abbrev pub blank : BuilderView
 blank = record { lines = []; line = None; open_region = 0 }
 
--- the line with an event more
+-- the line with one more event
 unfoldable pub pushed : LineView → Event → Result LineView Cause
 pushed line m =
     if partner_of m == line.instance then Err ToItself else (
     if length line.events == MAX_EVENTS then Err LineFull else Ok (record line { events = line.events ++ m ∷ [] }))
 
--- the next coregion of a line
+-- the number of a line's next coregion
 abbrev pub next_region : LineView → ℕ
 next_region line = greatest_region line.events + 1
 
@@ -51,7 +51,7 @@ with_head d =
       open_region = 0;
     })
 
--- the line that is being built is whole
+-- the line that is being built is complete
 abbrev pub with_foot : BuilderView → Option LineView → Result BuilderView Cause
 with_foot d None = Err Syntax
 with_foot d (Some line) = Ok (record { lines = d.lines ++ line ∷ []; line = None; open_region = 0 })
@@ -67,13 +67,13 @@ with_send names d to name = do
   partner ← known_of names to
   with_event d d.line (line_events.Send partner name)
 
--- a receive, which is in the open coregion
+-- a receive, in the open coregion
 unfoldable pub with_receive : List (List ℕ) → BuilderView → List ℕ → List ℕ → Result BuilderView Cause
 with_receive names d from name = do
   partner ← known_of names from
   with_event d d.line (line_events.Receive partner name d.open_region)
 
--- what is built with what one more line says
+-- what is built after one more line with this meaning
 abbrev pub built : List (List ℕ) → BuilderView → Saying → Result BuilderView Cause
 built names d Begin = Ok d
 built names d (Head own) = with_head d
@@ -84,18 +84,18 @@ built names d Shut = Ok (record d { open_region = 0 })
 built names d Foot = with_foot d d.line
 built names d End = Ok d
 
--- it has no fault but that of an instance that isn't known
+-- its only fault may be an unknown instance
 abbrev pub IsRight : {A : Type 0} → Result A Cause → Type 0
 IsRight (Ok x) = Unit {0}
 IsRight (Err UnknownInstance) = Unit {0}
 IsRight (Err _) = ⊥
 
--- what a line keeps that is being built behind so many lines, with this open coregion
+-- what holds of the line that is being built after this number of lines, with this open coregion
 pub record IsNextLine (lines open_region : ℕ) (line : LineView) : Type 0 where
   pub next : line.instance ≡ suc lines
   pub coregion : MayHaveRegion line.events open_region
 
--- what a builder keeps
+-- what holds of each builder
 pub record IsBuilder (d : BuilderView) : Type 0 where
   pub numbered : IsNumbered d.lines
   pub line : MatchOption d.line (Unit {0}) (IsNextLine (length d.lines) d.open_region)

@@ -6,7 +6,7 @@ use Rattle.chart.specs.Names.{IsName}
 use Rattle.chart.specs.NameSets.{AreNames}
 use Rattle.chart.specs.declared.event.Event.{Event}
 
--- the event can be spelled: its partner is an instance from 1 on, and its message has a name
+-- the event has a line: its partner is an instance, numbered from 1, and its message has a name
 abbrev pub CanBeSpelled : Event → Type 0
 CanBeSpelled m = (1 ≤ partner_of m) × IsName (name_of m)
 

@@ -1,5 +1,5 @@
--- A line of a chart's text, by where it stands: what it says, or its first fault (this project's profile of ITU-T
--- Z.120).
+-- A line of a chart's text, by the state before it: what the line means, or its first fault (this project's profile of
+-- ITU-T Z.120).
 use Rattle.std.specs.Prelude.{ℕ, ◌+◌, Bool, true, false, not, ◌&&◌, ◌||◌, ◌==◌, List, [], ◌∷◌, length, take, position, Option, None, Some, Result, Ok, Err, nat_le, bytes_eq, if◌then◌else◌}
 use Rattle.std.specs.List.{list_all}
 use Rattle.chart.specs.Keywords.{spelled, is_keyword}
@@ -18,27 +18,27 @@ use Rattle.msc_text.specs.declared.reader.state.Region.TheVariants as regions
 use Rattle.msc_text.specs.declared.reader.state.Saying.{Saying}
 use Rattle.msc_text.specs.declared.reader.state.Saying.TheVariants as sayings
 
--- what a line says, and what stands before the next one
+-- what a line means, and the state after it
 abbrev pub Step : Type 0
 Step = Saying × State
 
 abbrev pub is_semicolon : ℕ → Bool
 is_semicolon b = b == 59
 
--- another byte
+-- any other byte
 abbrev pub is_other : ℕ → Bool
 is_other b = not (is_semicolon b)
 
--- what stands before the word's last byte, where that is its only semicolon, and something does
+-- the part before the word's last byte, if that is its only semicolon and the part isn't empty
 abbrev pub name_part_at : List ℕ → Option ℕ → Option (List ℕ)
 name_part_at word None = None
 name_part_at word (Some index) = if index == 0 || not (index + 1 == length word) then None else Some (take index word)
 
--- what stands before the semicolon of NAME;
+-- the part before the semicolon of NAME;
 unfoldable pub name_part : List ℕ → Option (List ℕ)
 name_part word = name_part_at word (position is_semicolon word)
 
--- the word has a byte at least, and no semicolon
+-- the word has one byte or more, and no semicolon
 unfoldable pub is_plain : List ℕ → Bool
 is_plain word = not (length word == 0) && list_all is_other word
 
@@ -50,7 +50,7 @@ start_by (m ∷ r ∷ []) = if is_keyword keywords.Msc m && is_last_word chart_n
 ) else Err Syntax
 start_by _ = Err Syntax
 
--- an instance begins
+-- the line that begins an instance, by the part before its semicolon
 unfoldable pub head_of : Option (List ℕ) → Result Step Cause
 head_of None = Err Syntax
 head_of (Some word) = do
@@ -63,19 +63,19 @@ outside_by (k ∷ []) = if is_last_word (spelled keywords.EndMsc) k then Ok (say
 outside_by (k ∷ w ∷ []) = if is_keyword keywords.Instance k then head_of (name_part w) else Err Syntax
 outside_by _ = Err Syntax
 
--- an event's message and partner, of the instance own with so many events
+-- the message and the partner of an event of the instance own, which has this number of events before it
 unfoldable pub pair_of : List ℕ → ℕ → List ℕ → List ℕ → Result (List ℕ × List ℕ) Cause
 pair_of own events message partner = do
   name ← name_or_cause message
   other ← name_or_cause partner
   if bytes_eq other own then Err ToItself else (if nat_le MAX_EVENTS events then Err LineFull else Ok (name, other))
 
--- the same where the partner's word may have no form
+-- the same, if the partner's word may have another form
 unfoldable pub names_of : List ℕ → ℕ → List ℕ → Option (List ℕ) → Result (List ℕ × List ℕ) Cause
 names_of own events message None = Err Syntax
 names_of own events message (Some partner) = if is_plain message then pair_of own events message partner else Err Syntax
 
--- a coregion with one more receive
+-- how far a coregion has come after one more receive
 abbrev pub after_receive : Region → Region
 after_receive regions.Closed = regions.Closed
 after_receive regions.Empty = regions.Held
@@ -93,7 +93,7 @@ receive_of own events region m w = do
   pair ← names_of own events m (name_part w)
   Ok (sayings.Receive pair.1 pair.0, states.Inside own (events + 1) (after_receive region))
 
--- sends stand outside of coregions
+-- no coregion is open: only then a send may come
 abbrev pub is_closed : Region → Bool
 is_closed regions.Closed = true
 is_closed regions.Empty = false
@@ -131,6 +131,6 @@ step_by states.Outside words = outside_by words
 step_by (states.Inside own events region) words = inside_by own events region words
 step_by states.Done words = Err Syntax
 
--- what the line says, and where the next one stands
+-- what the line means, and the state after it
 unfoldable pub step_of : State → List ℕ → Result Step Cause
 step_of state line = step_by state (words_of line)

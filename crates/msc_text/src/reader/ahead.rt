@@ -1,5 +1,5 @@
-//! The names of a text's instances, which are looked for ahead of its other lines: so a partner's number is known
-//! when its event is read.
+//! The names of a text's instances, collected before its other lines are read. So the number of a partner is known when
+//! its event is read.
 ghost use Rattle.std.specs.Prelude.{◌≡◌, IfOk};
 ghost use Rattle.texts.specs.Instances.{with_name};
 ghost use Rattle.msc_text.specs.Reader.Ahead.{begins, given_or, with_begun, with_step, names_ahead};
@@ -12,7 +12,7 @@ use chart::{Name, Names, NamesError};
 use std::alloc::{AllocError, Global};
 use texts::reading::next_line;
 
-/// Whether the line begins as one that begins an instance. Most lines don't.
+/// Whether the line begins like the line that begins an instance. Most lines don't.
 fn begins(line: &[u8]) -> bool
     ensures { result ≡ begins line.now }
 {
@@ -22,7 +22,7 @@ fn begins(line: &[u8]) -> bool
     }
 }
 
-/// Gives the name to the next instance, where it may have it. It fails only where there is no memory.
+/// Gives the name to the next instance, if it may have it. It fails only if there is no memory.
 fn give(names: &mut Names, name: Name) -> Result<(), AllocError>
     ensures { IfOk result (λ _. names.new ≡ given_or names.old (with_name names.old name)) }
 {
@@ -34,7 +34,7 @@ fn give(names: &mut Names, name: Name) -> Result<(), AllocError>
     }
 }
 
-/// The names with that of the instance that begins, if one does.
+/// Adds the name of the instance that begins, if one does. It fails only if there is no memory.
 fn add_begun(names: &mut Names, saying: Saying) -> Result<(), AllocError>
     ensures { IfOk result (λ _. names.new ≡ with_begun names.old saying) }
 {
@@ -44,7 +44,7 @@ fn add_begun(names: &mut Names, saying: Saying) -> Result<(), AllocError>
     }
 }
 
-/// The names with that of the instance that the line begins, if it begins one.
+/// Adds the name of the instance that the line begins, if it begins one. It fails only if there is no memory.
 fn add_head(names: &mut Names, line: &[u8]) -> Result<(), AllocError>
     ensures { IfOk result (λ _. names.new ≡ with_step names.old (step_of Outside line.now)) }
 {
@@ -57,7 +57,7 @@ fn add_head(names: &mut Names, line: &[u8]) -> Result<(), AllocError>
     }
 }
 
-/// The names of the instances that begin in the text, whatever else is wrong with it. It fails only where there is no
+/// The names of the instances that begin in the text, whatever else is wrong with it. It fails only if there is no
 /// memory.
 pub(crate) fn names_ahead(alloc: Global, bytes: &[u8]) -> Result<Names, AllocError>
     ensures { IfOk result (λ names. names ≡ names_ahead bytes.now) }

@@ -1,5 +1,5 @@
-//! What the lines of a chart's text build, once all names are known and each line was found right by itself: so the
-//! only fault that is left is a partner that is no instance.
+//! What the lines of a chart's text build. All names are known then, and no line has a fault by itself. So the only
+//! possible fault is a partner that is no instance.
 ghost use Rattle.std.specs.Prelude.{◌≡◌, ◌⊎◌, Ok, IfOk, OnOk, OnErr};
 ghost use Rattle.chart.specs.Charts.{IsNumbered};
 ghost use Rattle.chart.specs.Events.{region_of, MayHaveRegion};
@@ -13,14 +13,14 @@ use std::alloc::{AllocError, Global};
 use std::marker::Model;
 use texts::{TextError, at_line, known_in};
 
-/// A chart that is being built: the lines that are whole so far, and that which is being built. A contract sees a
-/// record of its fields.
+/// A chart that is being built: the lines that are complete, and the line that is being built. A contract sees a record
+/// of its fields.
 #[derive(Debug, Drop)]
 pub(crate) struct Builder {
     lines: Vec<Line>,
     /// The line that is being built, inside an instance.
     line: Option<Line>,
-    /// Its coregion that is open, or 0.
+    /// The open coregion of that line, or 0 if none is open.
     open_region: u32,
 }
 
@@ -34,8 +34,8 @@ impl Model for Builder {
     ghost invariant = { λ d. IsBuilder (record { lines = d.lines.items; line = d.line; open_region = d.open_region }) };
 }
 
-/// Adds an event to the line, which takes it: its partner is another instance, and there is room. It fails only where
-/// there is no memory.
+/// Adds an event to a line that accepts it: its partner is another instance, and there is room. It fails only if there
+/// is no memory.
 #[tactic(auto, unfolding(crate::specs::Reader::Builders::pushed))]
 fn push(line: &mut Line, event: Event) -> Result<(), AllocError>
     requires region { MayHaveRegion line.old.events (region_of event) }
@@ -50,7 +50,7 @@ fn push(line: &mut Line, event: Event) -> Result<(), AllocError>
     }
 }
 
-/// The next coregion of a line.
+/// The number of a line's next coregion.
 fn next_region(line: &Line) -> u32
     ensures { result ≡ next_region line.now }
 {
@@ -59,7 +59,7 @@ fn next_region(line: &Line) -> u32
 }
 
 impl Builder {
-    /// Nothing is built yet. It takes no memory.
+    /// Makes a builder with no lines. It takes no memory.
     pub(crate) fn new(alloc: Global) -> Builder
         ensures { result ≡ blank }
     {
@@ -70,7 +70,7 @@ impl Builder {
         }
     }
 
-    /// The lines that are whole.
+    /// The lines that are complete.
     pub(crate) fn into_lines(self) -> Vec<Line>
         ensures lines { result.items ≡ self.lines }
         ensures numbered { IsNumbered result.items }
@@ -79,14 +79,14 @@ impl Builder {
         lines
     }
 
-    /// The coregion that is open, or 0.
+    /// The open coregion, or 0 if none is open.
     pub(crate) fn open_region(&self) -> u32
         ensures { result ≡ self.now.open_region }
     {
         self.open_region
     }
 
-    /// The next instance's line begins.
+    /// Begins the line of the next instance.
     fn with_head(self, alloc: Global) -> Builder
         requires { IsRight (with_head self) }
         ensures { with_head self ≡ Ok result }
@@ -100,7 +100,7 @@ impl Builder {
         }
     }
 
-    /// The line that is being built is whole. It fails only where there is no memory.
+    /// Completes the line that is being built. It fails only if there is no memory.
     fn with_foot(self) -> Result<Builder, AllocError>
         requires { IsRight (with_foot self self.line) }
         ensures { IfOk result (λ d. with_foot self self.line ≡ Ok d) }
@@ -119,7 +119,7 @@ impl Builder {
         })
     }
 
-    /// The line that is being built gets an event, in the open coregion or in none. It fails only where there is no
+    /// Adds an event to the line that is being built, in the open coregion or in none. It fails only if there is no
     /// memory.
     pub(crate) fn add_event(&mut self, event: Event) -> Result<(), AllocError>
         requires region { (region_of event ≡ 0) ⊎ (region_of event ≡ self.old.open_region) }
@@ -134,7 +134,7 @@ impl Builder {
         Ok(())
     }
 
-    /// A coregion begins, the next of the line that is being built.
+    /// Begins the next coregion of the line that is being built.
     fn with_coregion(self) -> Builder
         requires { IsRight (with_coregion self self.line) }
         ensures { with_coregion self self.line ≡ Ok result }
@@ -149,7 +149,7 @@ impl Builder {
         }
     }
 
-    /// No coregion is open.
+    /// Ends the open coregion.
     fn without_coregion(mut self) -> Builder
         ensures { result ≡ record self { open_region = 0 } }
     {
@@ -157,7 +157,7 @@ impl Builder {
         self
     }
 
-    /// A send. F23 refuses a receiver that is no instance.
+    /// Adds a send. F23 refuses a receiver that is no instance.
     #[tactic(auto, unfolding(crate::specs::Reader::Builders::with_send))]
     fn with_send(
         mut self,
@@ -174,7 +174,7 @@ impl Builder {
         Ok(self)
     }
 
-    /// A receive, which is in the open coregion. F23 refuses a sender that is no instance.
+    /// Adds a receive, in the open coregion. F23 refuses a sender that is no instance.
     #[tactic(auto, unfolding(crate::specs::Reader::Builders::with_receive))]
     fn with_receive(
         mut self,
@@ -192,7 +192,7 @@ impl Builder {
         Ok(self)
     }
 
-    /// What is built with what one more line says, the line of this number.
+    /// Adds what a line means. The line has this number.
     pub(crate) fn with(
         self,
         alloc: Global,

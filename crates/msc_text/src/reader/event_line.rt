@@ -1,5 +1,5 @@
-//! Lines of events that are read at once: their words stand where those of an event do, and both names were mostly
-//! read before. What a line is that isn't read so is for [`crate::reader::step`] to say.
+//! Lines of events that are read at once: their words are where those of an event are, and both names were mostly read
+//! before. For any other line [`crate::reader::step`] decides what it means.
 ghost use Rattle.std.specs.Prelude.{◌≡◌, ℕ, ◌<◌, IfSome};
 ghost use Rattle.chart.specs.declared.keyword.Keyword.TheVariants as keywords;
 ghost use Rattle.chart.specs.declared.line.TheConstants.{MAX_EVENTS};
@@ -13,7 +13,7 @@ use chart::{Event, InstanceNo, MAX_EVENTS, Name, Names};
 use texts::next_word;
 use texts::reading::{Guesses, behind};
 
-/// What stands before the last byte, where that is a semicolon.
+/// The bytes before the last one, if the last one is a semicolon.
 fn before_semicolon(word: &[u8]) -> Option<&[u8]>
     ensures { IfSome result (λ name. word.now ≡ semi name.now) }
 {
@@ -23,7 +23,7 @@ fn before_semicolon(word: &[u8]) -> Option<&[u8]>
     }
 }
 
-/// Message and partner of `out MESSAGE to NAME;`.
+/// The message and the partner of `out MESSAGE to NAME;`.
 fn send_words(line: &[u8]) -> Option<(&[u8], &[u8])>
     ensures { IfSome result (λ words. line.now ≡ event_words keywords.Out words.0.now keywords.To words.1.now) }
 {
@@ -37,7 +37,7 @@ fn send_words(line: &[u8]) -> Option<(&[u8], &[u8])>
     Some((message, partner))
 }
 
-/// Message and partner of `in MESSAGE from NAME;`.
+/// The message and the partner of `in MESSAGE from NAME;`.
 fn receive_words(line: &[u8]) -> Option<(&[u8], &[u8])>
     ensures { IfSome result (λ words. line.now ≡ event_words keywords.In words.0.now keywords.From words.1.now) }
 {
@@ -51,7 +51,7 @@ fn receive_words(line: &[u8]) -> Option<(&[u8], &[u8])>
     Some((message, partner))
 }
 
-/// The partner and the message's name, where both words are names and the partner is another instance that is known.
+/// The partner and the name of the message, if both words are names and the partner is another known instance.
 fn found_in(
     names: &Names,
     guesses: &mut Guesses,
@@ -73,7 +73,7 @@ fn found_in(
     Some((instance, name))
 }
 
-/// A send, which stands outside of coregions.
+/// A send, which is outside of coregions.
 fn send_in(
     names: &Names,
     guesses: &mut Guesses,
@@ -97,7 +97,7 @@ fn send_in(
     ))
 }
 
-/// A receive, which is in the coregion that is open.
+/// A receive, which is in the open coregion.
 fn receive_in(
     names: &Names,
     guesses: &mut Guesses,
@@ -122,8 +122,8 @@ fn receive_in(
     ))
 }
 
-/// The event that the line says, with its partner's number, and where the next line stands. `None` says nothing of the
-/// line.
+/// The event that the line describes, with the number of its partner, and the state after the line. `None` decides
+/// nothing about the line.
 pub(crate) fn event_in(
     names: &Names,
     guesses: &mut Guesses,

@@ -1,4 +1,4 @@
-//! Charts' texts, read whole.
+//! Reads whole texts of charts.
 ghost use Rattle.std.specs.Prelude.{◌≡◌, ℕ, List, [], Ok, IfOk};
 ghost use Rattle.chart.specs.Charts.{LineView, IsNumbered};
 ghost use Rattle.msc_text.specs.ChartText.{chart_text};
@@ -19,7 +19,8 @@ use std::alloc::Global;
 use texts::reading::{Guesses, next_line};
 use texts::{Cause, Fault, TextError, add_name, at_line, fault_at};
 
-/// The names with what one more line says. F22 and F8 refuse an instance, and F8 an end.
+/// Adds the name of the instance that a line begins. F22 and F8 refuse an instance, and F8 the end of a chart with too
+/// few instances.
 fn add_names(number: u64, names: &mut Names, saying: &Saying) -> Result<(), TextError>
     ensures { Gives (λ _. names.new) result (in_line number (names_after names.old saying.now)) }
 {
@@ -30,7 +31,8 @@ fn add_names(number: u64, names: &mut Names, saying: &Saying) -> Result<(), Text
     }
 }
 
-/// Whether the chart has ended before line `number`, and nothing follows.
+/// Checks that the chart ended before line `number` and that nothing follows: F21 if it didn't end, and F20 if
+/// something follows.
 fn finish(number: u64, names: Names, state: State, rest: &[u8]) -> Result<Names, TextError>
     ensures { Gives (λ n. n) result (finished names state number rest.now) }
 {
@@ -41,7 +43,7 @@ fn finish(number: u64, names: Names, state: State, rest: &[u8]) -> Result<Names,
     }
 }
 
-/// The first look: the names of the instances, or the first fault of a line by itself and those before it.
+/// The first look: the names of the instances, or the first fault that a line has by itself and those before it.
 fn names_in(alloc: Global, bytes: &[u8]) -> Result<Names, TextError>
     ensures { Gives (λ n. n) result (names_in bytes.now) }
 {
@@ -63,7 +65,7 @@ fn names_in(alloc: Global, bytes: &[u8]) -> Result<Names, TextError>
     }
 }
 
-/// The names and what is built with one more line, its number before it, and the next state.
+/// Reads one more line: the names and the builder after it, and the next state. `known` has all names of the text.
 fn with_line(
     alloc: Global,
     known: &Names,
@@ -82,8 +84,8 @@ fn with_line(
     Ok((builder, next))
 }
 
-/// One look: the names and the lines of the instances, where the text has these names. Of a fault it says no more than
-/// that one of the two looks finds it.
+/// One look: the names and the lines of the instances, if the text has these names. A fault that it returns is one that
+/// one of the two looks finds.
 fn one_look(alloc: Global, known: &Names, bytes: &[u8]) -> Result<(Names, Vec<Line>), TextError>
     requires { known.now ≡ names_ahead bytes.now }
     ensures looks { Looks known.now bytes.now (λ parts. (parts.0, parts.1.items)) result }
@@ -114,8 +116,8 @@ fn one_look(alloc: Global, known: &Names, bytes: &[u8]) -> Result<(Names, Vec<Li
     }
 }
 
-/// What both looks come to. Only where a line has a fault is the text looked at again: an event whose partner is no
-/// instance is the text's fault only where no line has one by itself.
+/// The result of both looks. The text is looked at again only if a line has a fault. An unknown partner is the text's
+/// fault only if no line has a fault by itself.
 fn parts_in(alloc: Global, bytes: &[u8]) -> Result<(Names, Vec<Line>), TextError>
     ensures parts { Gives (λ parts. (parts.0, parts.1.items)) result (chart_of bytes.now) }
     ensures numbered { IfOk result (λ parts. IsNumbered parts.1.items) }
@@ -131,14 +133,15 @@ fn parts_in(alloc: Global, bytes: &[u8]) -> Result<(Names, Vec<Line>), TextError
     }
 }
 
-/// The names and the chart that the text says, or its first fault. It takes time in proportion to the text.
+/// Reads the names and the chart of a text, or returns its first fault. It takes time in proportion to the text.
 ///
-/// The lines are looked at from the top. F20 refuses a line that has no form that its state allows. Then the first of
-/// F1 to F4 that applies refuses a word that is no name, F22 an instance's name that was given before, F8 the 33rd
-/// instance, F13 an event whose partner is its own instance, F7 the 4,097th event of an instance, F8 the end of a
-/// chart of fewer than two instances, and F20 whatever follows the end. Where no line has a fault and the chart
-/// didn't end, the answer is F21. Last, as at a second look from the top, F23 refuses the first event whose partner is
-/// no instance. F6 may come at any point.
+/// The lines are checked from the top. F20 refuses a line whose form its state doesn't allow. Then the first of F1 to
+/// F4 that applies refuses a word that is no name. F22 refuses an instance's name that was given before, F8 the 33rd
+/// instance, and F13 an event whose partner is its own instance. F7 refuses the 4,097th event of an instance, F8 the
+/// end of a chart with fewer than two instances, and F20 anything that follows the end.
+///
+/// If no line has a fault and the chart didn't end, the answer is F21. Last, as at a second look from the top, F23
+/// refuses the first event whose partner is no instance. F6 may be the answer at any point.
 pub fn read(alloc: Global, bytes: &[u8]) -> Result<(Names, Chart), TextError>
     ensures found { IfOk result (λ read. HasText read.0 read.1 × (bytes.now ≡ chart_text read.0 read.1)) }
     ensures only { (names : List (List ℕ)) (lines : List LineView) → HasText names lines

@@ -1,49 +1,49 @@
-//! What a reader of a chart's text knows between two lines.
+//! What the reader of a chart's text knows between two lines.
 
 use chart::Name;
 
 /// How far a coregion has come.
 #[derive(Clone, Copy, Debug)]
 pub(crate) enum Region {
-    /// None is open.
+    /// No coregion is open.
     Closed,
-    /// One is open and has no receive yet.
+    /// A coregion is open, and has no receive yet.
     Empty,
-    /// One is open and has a receive.
+    /// A coregion is open, and has a receive.
     Held,
 }
 
-/// The reader's state between two lines: what it has read.
+/// The state of the reader between two lines: what it has read so far.
 #[derive(Clone, Copy, Debug)]
 pub(crate) enum State {
     /// Nothing.
     Start,
-    /// The text's first line, and whole instances.
+    /// The first line of the text, and whole instances.
     Outside,
-    /// A part of the instance of this name, with so many events.
+    /// A part of the instance `own`, with this number of events.
     Inside {
         own: Name,
         events: usize,
         region: Region,
     },
-    /// The text's last line.
+    /// The last line of the text.
     Done,
 }
 
-/// What a line says.
+/// What a line means.
 #[derive(Clone, Copy, Debug)]
 pub(crate) enum Saying {
     /// The chart begins.
     Begin,
-    /// The instance of this name begins.
+    /// The instance with this name begins.
     Head(Name),
-    /// A message of this name goes out.
+    /// A message with this name goes out.
     Send { to: Name, name: Name },
-    /// A message of this name comes in.
+    /// A message with this name comes in.
     Receive { from: Name, name: Name },
     /// A coregion begins.
     Open,
-    /// It ends.
+    /// The coregion ends.
     Shut,
     /// The instance ends.
     Foot,

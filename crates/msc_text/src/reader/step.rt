@@ -1,4 +1,4 @@
-//! A line of a chart's text, by where it stands.
+//! Reads a line of a chart's text, by the state before it.
 ghost use Rattle.std.specs.Prelude.{◌≡◌, ◌<◌, length, position, Some, None, IfSome, IsOk, MatchOption};
 ghost use Rattle.std.specs.List.{list_all};
 ghost use Rattle.chart.specs.declared.line.TheConstants.{MAX_EVENTS};
@@ -19,7 +19,7 @@ fn is_semicolon(byte: u8) -> bool
     byte == b';'
 }
 
-/// The first semicolon's index, from 0.
+/// The index of the first semicolon, from 0.
 fn index_of_semicolon(word: &[u8]) -> Option<usize>
     ensures value { result ≡ position is_semicolon word.now }
     ensures within { IfSome result (λ index. index < length word.now) }
@@ -27,8 +27,8 @@ fn index_of_semicolon(word: &[u8]) -> Option<usize>
     word.iter().position(|b| is_semicolon(*b))
 }
 
-/// What stands before the semicolon of `NAME;`. The name has a byte at least, and the semicolon is the word's last byte
-/// and its only one.
+/// The part before the semicolon of `NAME;`. It has one byte or more, and the semicolon is the word's last byte and its
+/// only semicolon.
 #[tactic(auto, unfolding(crate::specs::Reader::Steps::name_part))]
 fn name_part(word: &[u8]) -> Option<&[u8]>
     ensures { MatchOption result (name_part word.now ≡ None) (λ name. name_part word.now ≡ Some name.now) }
@@ -56,7 +56,7 @@ fn has_others_alone(word: &[u8]) -> bool
     word.iter().all(|b| is_other(*b))
 }
 
-/// Whether the word has a byte at least, and no semicolon.
+/// Whether the word has one byte or more, and no semicolon.
 #[tactic(auto, unfolding(crate::specs::Reader::Steps::is_plain))]
 fn is_plain(word: &[u8]) -> bool
     ensures { result ≡ is_plain word.now }
@@ -64,7 +64,7 @@ fn is_plain(word: &[u8]) -> bool
     !word.is_empty() && has_others_alone(word)
 }
 
-/// The text's first line, or F20.
+/// Reads the first line of the text. F20 refuses any other line.
 fn start_in(line: &[u8]) -> Result<(Saying, State), Cause>
     ensures { result ≡ start_by (words_of line.now) }
 {
@@ -77,7 +77,8 @@ fn start_in(line: &[u8]) -> Result<(Saying, State), Cause>
     }
 }
 
-/// `instance NAME;`, or F20, or the first of F1 to F4 that applies.
+/// Reads the name of `instance NAME;`. F20 refuses a word of another form, and then the first of F1 to F4 that applies
+/// a word that is no name.
 #[tactic(auto, unfolding(crate::specs::Reader::Steps::head_of))]
 fn head_in(word: &[u8]) -> Result<(Saying, State), Cause>
     ensures { result ≡ head_of (name_part word.now) }
@@ -89,7 +90,7 @@ fn head_in(word: &[u8]) -> Result<(Saying, State), Cause>
     Ok((Saying::Head(own), inside(own, 0, Region::Closed)))
 }
 
-/// A line outside of an instance.
+/// Reads a line outside of an instance.
 fn outside_in(line: &[u8]) -> Result<(Saying, State), Cause>
     ensures { result ≡ outside_by (words_of line.now) }
 {
@@ -103,8 +104,8 @@ fn outside_in(line: &[u8]) -> Result<(Saying, State), Cause>
     }
 }
 
-/// Message and partner of an event of the instance `own`, which has so many events before it: the first of F1 to F4
-/// that applies to the message's name, and then to the partner's, F13 and F7 refuse them.
+/// The message and the partner of an event of the instance `own`, which has this number of events before it. The first
+/// of F1 to F4 that applies refuses the name of the message, and then that of the partner. F13 and F7 follow.
 #[tactic(auto, unfolding(crate::specs::Reader::Steps::pair_of))]
 fn pair_in(own: Name, events: usize, message: &[u8], partner: &[u8]) -> Result<(Name, Name), Cause>
     ensures pair { result ≡ pair_of own events message.now partner.now }
@@ -121,7 +122,7 @@ fn pair_in(own: Name, events: usize, message: &[u8], partner: &[u8]) -> Result<(
     Ok((name, other))
 }
 
-/// The same, where the words may have no form (F20).
+/// The same. F20 comes first, for words that have another form.
 #[tactic(auto, unfolding(crate::specs::Reader::Steps::names_of))]
 fn names_in(own: Name, events: usize, message: &[u8], word: &[u8]) -> Result<(Name, Name), Cause>
     ensures names { result ≡ names_of own events message.now (name_part word.now) }
@@ -133,7 +134,7 @@ fn names_in(own: Name, events: usize, message: &[u8], word: &[u8]) -> Result<(Na
     }
 }
 
-/// A coregion with one more receive.
+/// How far a coregion has come after one more receive.
 pub(crate) fn after_receive(region: Region) -> Region
     ensures { result ≡ after_receive region }
 {
@@ -152,7 +153,7 @@ pub(crate) fn is_closed(region: Region) -> bool
     }
 }
 
-/// `out MESSAGE to NAME;`.
+/// Reads `out MESSAGE to NAME;`.
 #[tactic(auto, unfolding(crate::specs::Reader::Steps::send_of))]
 fn send_in(own: Name, events: usize, message: &[u8], word: &[u8]) -> Result<(Saying, State), Cause>
     ensures { result ≡ send_of own events message.now word.now }
@@ -162,7 +163,7 @@ fn send_in(own: Name, events: usize, message: &[u8], word: &[u8]) -> Result<(Say
     Ok((Saying::Send { to, name }, next))
 }
 
-/// `in MESSAGE from NAME;`.
+/// Reads `in MESSAGE from NAME;`.
 #[tactic(auto, unfolding(crate::specs::Reader::Steps::receive_of))]
 fn receive_in(
     own: Name,
@@ -178,7 +179,7 @@ fn receive_in(
     Ok((Saying::Receive { from, name }, next))
 }
 
-/// Inside the instance `own`.
+/// The state inside the instance `own`, after this number of events.
 pub(crate) fn inside(own: Name, events: usize, region: Region) -> State
     ensures { result ≡ State.Inside own events region }
 {
@@ -189,7 +190,7 @@ pub(crate) fn inside(own: Name, events: usize, region: Region) -> State
     }
 }
 
-/// A line of one word inside an instance.
+/// Reads a line of one word inside an instance.
 #[tactic(auto, unfolding(crate::specs::Reader::Steps::alone_of))]
 fn alone_in(own: Name, events: usize, region: Region, word: &[u8]) -> Result<(Saying, State), Cause>
     ensures { result ≡ alone_of own events region word.now }
@@ -209,7 +210,7 @@ fn alone_in(own: Name, events: usize, region: Region, word: &[u8]) -> Result<(Sa
     }
 }
 
-/// A line inside the instance `own`, which has so many events before it.
+/// Reads a line inside the instance `own`, which has this number of events before it.
 #[tactic(auto, unfolding(crate::specs::Reader::Steps::event_of))]
 fn inside_in(
     own: Name,
@@ -233,7 +234,7 @@ fn inside_in(
     }
 }
 
-/// What the line says, and where the next one stands, or the first fault of the line by itself.
+/// What the line means and the state after it, or the first fault that the line has by itself.
 #[tactic(auto, unfolding(crate::specs::Reader::Steps::step_of))]
 pub(crate) fn step_in(state: State, line: &[u8]) -> Result<(Saying, State), Cause>
     ensures { result ≡ step_of state line.now }

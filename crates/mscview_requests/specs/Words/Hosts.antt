@@ -1,5 +1,5 @@
--- The words of `--hosts` and of `--peer`: words of a log that commas join, and a host's name with `=` before them (this
--- project's profile).
+-- The values of `--hosts` and of `--peer`: hosts joined by commas; and a host with its other names in the log, after
+-- `=` and joined by commas (this project's profile).
 use Rattle.std.specs.Prelude.{◌≡◌, ℕ, Bool, true, false, List, [], ◌∷◌, map, Option, None, Some}
 use Rattle.std.specs.List.{list_any}
 use Rattle.log_lines.specs.Names.Hosts.{PeerView}
@@ -11,16 +11,16 @@ abbrev pub is_empty : List ℕ → Bool
 is_empty [] = true
 is_empty (byte ∷ bytes) = false
 
--- these are the words that commas (byte 44) join, and none is empty
+-- the parts that commas (byte 44) join, and none is empty
 abbrev pub AreHosts : List ℕ → List (List ℕ) → Type 0
 AreHosts word hosts = (hosts ≡ parts 44 word) × (list_any is_empty (parts 44 word) ≡ false)
 
--- the hosts that come first, where a word says them
+-- the hosts that come first, if a word gives them
 abbrev pub AreFirst : Option (List ℕ) → List (List ℕ) → Type 0
 AreFirst None hosts = hosts ≡ []
 AreFirst (Some word) hosts = AreHosts word hosts
 
--- what stands before `=` is a host's name, and what stands behind it are its words
+-- the part before `=` is a host's name, and the part after it has its other names
 abbrev pub IsPeerAt : Option (List ℕ × List ℕ) → PeerView → Type 0
 IsPeerAt None peer = ⊥
 IsPeerAt (Some (name, words)) peer = (peer.name ≡ name) × (is_empty name ≡ false) × AreHosts words peer.words

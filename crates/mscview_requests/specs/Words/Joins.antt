@@ -1,4 +1,4 @@
--- The words of `--join`: a name, `=`, and names that commas join (this project's profile).
+-- The value of `--join`: a name, `=`, and names joined by commas (this project's profile).
 use Rattle.std.specs.Prelude.{◌≡◌, ℕ, List, Option, None, Some, Ok}
 use Rattle.chart.specs.Names.{name_of}
 use Rattle.diagram_join.specs.Joins.{JoinView}
@@ -10,11 +10,11 @@ use Rattle.mscview_requests.specs.declared.words.joins.JoinWord.{JoinWord}
 abbrev pub IsName : List ℕ → List ℕ → Type 0
 IsName word name = name_of word ≡ Ok name
 
--- these are the names that commas (byte 44) join
+-- the names that commas (byte 44) join
 abbrev pub AreNames : List ℕ → List (List ℕ) → Type 0
 AreNames word names = AreRead IsName (parts 44 word) names
 
--- what stands before `=` is the instance's name, and what stands behind it are those of its lines
+-- the part before `=` is the instance's name, and the part after it has the names of its lines
 abbrev pub IsJoinAt : Option (List ℕ × List ℕ) → JoinView → Type 0
 IsJoinAt None join = ⊥
 IsJoinAt (Some (name, names)) join = IsName name join.name × AreNames names join.parts

@@ -1,4 +1,4 @@
-//! The words of `--hosts` and of `--peer`.
+//! The values of `--hosts` and of `--peer`.
 ghost use Rattle.std.specs.Prelude.{◌≡◌, map, option_map, IfOk};
 ghost use Rattle.std.specs.List.{list_any};
 ghost use Rattle.log_lines.specs.Names.Hosts.{peer_view};
@@ -10,7 +10,7 @@ use cmd_base::ProgramError;
 use log_lines::names::Peer;
 use std::alloc::{AllocError, Global};
 
-/// What a word of `--peer` says: a host, and words by which the log calls it.
+/// The value of `--peer`: a host, and other names that the log has for it.
 #[derive(Drop)]
 pub struct PeerWord<'a> {
     pub name: &'a [u8],
@@ -35,7 +35,7 @@ fn has_empty(words: &[&[u8]]) -> bool
     false
 }
 
-/// The words in a word, which commas join. G1: one of them is empty.
+/// The parts of a word, which commas join. G1: a part is empty.
 fn words_by<'a>(alloc: Global, word: &'a [u8]) -> Result<Vec<&'a [u8]>, ProgramError>
     ensures { Reads result (λ words. map (λ w. w.now) words.items) (AreHosts word.now) }
 {
@@ -48,7 +48,7 @@ fn words_by<'a>(alloc: Global, word: &'a [u8]) -> Result<Vec<&'a [u8]>, ProgramE
     Ok(words)
 }
 
-/// The hosts that come first: none without a word. G1: one of them is empty.
+/// The hosts that come first, or none without a word. G1: a host's name is empty.
 pub fn hosts_by<'a>(alloc: Global, word: Option<&'a str>) -> Result<Vec<&'a [u8]>, ProgramError>
     ensures { Reads result (λ hosts. map (λ w. w.now) hosts.items) (AreFirst (option_map (λ w. w.now) word.entry)) }
 {
@@ -58,7 +58,7 @@ pub fn hosts_by<'a>(alloc: Global, word: Option<&'a str>) -> Result<Vec<&'a [u8]
     }
 }
 
-/// What a word says of a host. G1: it isn't `NAME=NAME,NAME..`.
+/// A host with its other names, by a word. G1: the word isn't `NAME=NAME,NAME..`.
 fn peer_by<'a>(alloc: Global, word: &'a [u8]) -> Result<PeerWord<'a>, ProgramError>
     ensures { Reads result peer_word_view (IsPeer word.now) }
 {
@@ -74,7 +74,7 @@ fn peer_by<'a>(alloc: Global, word: &'a [u8]) -> Result<PeerWord<'a>, ProgramErr
     })
 }
 
-/// What all words of `--peer` say. G1: one of them isn't `NAME=NAME,NAME..`.
+/// The values of all `--peer` options. G1: one of them isn't `NAME=NAME,NAME..`.
 pub fn peer_words<'a>(alloc: Global, words: &[&'a str]) -> Result<Vec<PeerWord<'a>>, ProgramError>
     ensures { Reads result (λ peers. map peer_word_view peers.items) (AreRead IsPeer (map (λ w. w.now) words.now)) }
 {
@@ -88,7 +88,7 @@ pub fn peer_words<'a>(alloc: Global, words: &[&'a str]) -> Result<Vec<PeerWord<'
     Ok(peers)
 }
 
-/// What a word says of a host.
+/// A host with its other names, as the option of an import.
 fn peer_of<'a>(word: &'a PeerWord<'_>) -> Peer<'a>
     ensures { peer_view result ≡ peer_word_view word.now }
 {
@@ -98,7 +98,7 @@ fn peer_of<'a>(word: &'a PeerWord<'_>) -> Peer<'a>
     }
 }
 
-/// The hosts that words say.
+/// The hosts with their other names, as the options of an import.
 pub fn peers_of<'a>(alloc: Global, words: &'a [PeerWord<'_>]) -> Result<Vec<Peer<'a>>, AllocError>
     ensures { IfOk result (λ peers. map peer_view peers.items ≡ map peer_word_view words.now) }
 {

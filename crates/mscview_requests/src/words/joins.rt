@@ -1,4 +1,4 @@
-//! The words of `--join`.
+//! The values of `--join`.
 ghost use Rattle.std.specs.Prelude.{◌≡◌, map, IfOk};
 ghost use Rattle.diagram_join.specs.Joins.{join_view};
 ghost use Rattle.mscview_requests.specs.Words.Joins.{IsName, AreNames, IsJoin, join_word_view};
@@ -10,14 +10,14 @@ use cmd_base::ProgramError;
 use diagram_join::Join;
 use std::alloc::{AllocError, Global};
 
-/// What a word of `--join` says: the name of an instance, and those of its lines.
+/// The value of `--join`: the name of an instance, and the names of its lines.
 #[derive(Drop)]
 pub struct JoinWord {
     pub name: Name,
     pub parts: Vec<Name>,
 }
 
-/// The name that a word is. G1: it is none.
+/// The name in a word. G1: the word isn't a name.
 fn name_by(word: &[u8]) -> Result<Name, ProgramError>
     ensures { Says (IsName word.now) result }
 {
@@ -27,7 +27,7 @@ fn name_by(word: &[u8]) -> Result<Name, ProgramError>
     }
 }
 
-/// The names that these words are. G1: one of them is none.
+/// The names in these words. G1: a word isn't a name.
 fn names_in(alloc: Global, words: &[&[u8]]) -> Result<Vec<Name>, ProgramError>
     ensures { Reads result (λ names. names.items) (AreRead IsName (map (λ w. w.now) words.now)) }
 {
@@ -41,7 +41,7 @@ fn names_in(alloc: Global, words: &[&[u8]]) -> Result<Vec<Name>, ProgramError>
     Ok(names)
 }
 
-/// The names in a word, which commas join. G1: one of them is none.
+/// The names in a word, which commas join. G1: a part isn't a name.
 fn names_by(alloc: Global, word: &[u8]) -> Result<Vec<Name>, ProgramError>
     ensures { Reads result (λ names. names.items) (AreNames word.now) }
 {
@@ -51,7 +51,7 @@ fn names_by(alloc: Global, word: &[u8]) -> Result<Vec<Name>, ProgramError>
     }
 }
 
-/// What a word says. G1: it isn't `NAME=NAME,NAME..`.
+/// The join in a word. G1: the word isn't `NAME=NAME,NAME..`.
 fn join_by(alloc: Global, word: &[u8]) -> Result<JoinWord, ProgramError>
     ensures { Reads result join_word_view (IsJoin word.now) }
 {
@@ -64,7 +64,7 @@ fn join_by(alloc: Global, word: &[u8]) -> Result<JoinWord, ProgramError>
     })
 }
 
-/// What all words of `--join` say. G1: one of them isn't `NAME=NAME,NAME..`.
+/// The values of all `--join` options. G1: one of them isn't `NAME=NAME,NAME..`.
 pub fn join_words(alloc: Global, words: &[&str]) -> Result<Vec<JoinWord>, ProgramError>
     ensures { Reads result (λ joins. map join_word_view joins.items) (AreRead IsJoin (map (λ w. w.now) words.now)) }
 {
@@ -78,7 +78,7 @@ pub fn join_words(alloc: Global, words: &[&str]) -> Result<Vec<JoinWord>, Progra
     Ok(joins)
 }
 
-/// The join that a word says.
+/// A join, as the option of an import.
 fn join_of<'a>(word: &'a JoinWord) -> Join<'a>
     ensures { join_view result ≡ join_word_view word.now }
 {
@@ -88,7 +88,7 @@ fn join_of<'a>(word: &'a JoinWord) -> Join<'a>
     }
 }
 
-/// The joins that words say.
+/// The joins, as the options of an import.
 pub fn joins_of<'a>(alloc: Global, words: &'a [JoinWord]) -> Result<Vec<Join<'a>>, AllocError>
     ensures { IfOk result (λ joins. map join_view joins.items ≡ map join_word_view words.now) }
 {

@@ -1,4 +1,4 @@
-//! Words that are joined to one.
+//! Splits words at commas and at `=`.
 ghost use Rattle.std.specs.Prelude.{◌≡◌, map, position, None, Some, IfOk, MatchOption};
 ghost use Rattle.texts.specs.Words.{is_comma};
 ghost use Rattle.texts.specs.Lines.{parts};
@@ -13,7 +13,7 @@ fn is_equals(byte: u8) -> bool
     byte == b'='
 }
 
-/// What commas join in a word.
+/// The parts of a word, which commas join.
 pub(crate) fn comma_parts(alloc: Global, word: &[u8]) -> Result<Vec<&[u8]>, AllocError>
     ensures { IfOk result (λ v. map (λ w. w.now) v.items ≡ parts 44 word.now) }
 {
@@ -24,14 +24,14 @@ pub(crate) fn comma_parts(alloc: Global, word: &[u8]) -> Result<Vec<&[u8]>, Allo
     Ok(parts)
 }
 
-/// The place of the first `=`.
+/// The index of the first `=`.
 fn equals_in(word: &[u8]) -> Option<usize>
     ensures { result ≡ position is_equals word.now }
 {
     word.iter().position(|byte| is_equals(*byte))
 }
 
-/// What stands before the first `=` in a word, and behind it.
+/// The parts of a word before and after its first `=`.
 pub(crate) fn round_equals(word: &[u8]) -> Option<(&[u8], &[u8])>
     ensures { MatchOption result (round is_equals word.now ≡ None) (λ cut. round is_equals word.now ≡ Some (cut.0.now, cut.1.now)) }
 {

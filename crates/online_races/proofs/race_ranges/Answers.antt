@@ -7,7 +7,7 @@ use Rattle.online_races.specs.Passing.{HasFound}
 use Rattle.online_races.proofs.PassingLemmas.{HasFound-end, none_met}
 use Rattle.online_races.proofs.race_ranges.Goals as goal
 
--- before the search nothing was found
+-- nothing was found before the search
 none_yet : (line : LineView) (end many entry q region : ℕ) → end ≤ length line.events → many ≡ length line.events → many ≤ MAX_EVENTS → HasFound line end end entry q region []
 none_yet line end many entry q region within all short = HasFound-end line end entry q region within (omega (arith, all, short))
 

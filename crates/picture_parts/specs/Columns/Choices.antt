@@ -8,18 +8,18 @@ use Rattle.chart_layout.specs.Ends.{end_of as other_end}
 use Rattle.chart_layout.specs.Layouts.{row_of}
 use Rattle.picture_parts.specs.declared.columns.columns.Column.{Column}
 
--- what events are chosen by
+-- the data by which events are chosen
 pub record ChoiceView : Type 0 where
-  -- the rows of the layout, the topmost first
+  -- the rows of the layout, from the top
   pub rows : List Row
   -- for each event of each line, the other end of its message, if it has one
   pub ends : List (List (Option EventNo))
-  -- the leftmost first
+  -- the columns, from the left
   pub columns : List Column
-  -- the numbers of the first and of the last event of each line that is chosen, from 1
+  -- the numbers of the first and of the last chosen event of each line, from 1
   pub first : ℕ
   pub last : ℕ
-  -- the numbers of the first and of the last row whose events are chosen, from 0
+  -- the numbers of the first and of the last row with chosen events, from 0
   pub top : ℕ
   pub bottom : ℕ
 
@@ -51,7 +51,7 @@ abbrev pub is_chosen_end : ChoiceView → Option EventNo → Bool
 is_chosen_end v None = false
 is_chosen_end v (Some e) = is_chosen v e
 
--- the event is drawn, where it has a column: it is chosen, or the other end of its message is. So no arrow between two
+-- the event is drawn if it has a column: it is chosen, or the other end of its message is. So no arrow between two
 -- columns is cut
 abbrev pub is_shown : ChoiceView → EventNo → Bool
 is_shown v e = is_chosen v e || is_chosen_end v (end_of v e)
@@ -64,19 +64,19 @@ abbrev pub is_drawn_row : ChoiceView → Row → Bool
 is_drawn_row v (variants.Message s r) = is_drawn v s || is_drawn v r
 is_drawn_row v (variants.Event e) = is_drawn v e
 
--- one more; what is more than 32 bits hold isn't counted
+-- one more, but at most the greatest number of 32 bits
 abbrev pub more : ℕ → ℕ
 more n = min (n + 1) (2 ^ 32 - 1)
 
 abbrev pub next_count : ChoiceView → ℕ → Row → ℕ
 next_count v n row = if is_drawn_row v row then more n else n
 
--- for each row how many rows are drawn above it, where n are drawn above the first
+-- for each row the number of drawn rows above it, if n are drawn above the first
 abbrev pub places_from : ChoiceView → ℕ → List Row → List ℕ
 places_from v n [] = []
 places_from v n (row ∷ rows) = n ∷ places_from v (next_count v n row) rows
 
--- how many rows are drawn then
+-- the number of all drawn rows
 abbrev pub count_from : ChoiceView → ℕ → List Row → ℕ
 count_from v n [] = n
 count_from v n (row ∷ rows) = count_from v (next_count v n row) rows

@@ -1,4 +1,4 @@
--- What is kept free beside a line, for the marks of its races and the numbers of its events (this project's profile).
+-- The free space beside a line, for the marks of its races and the numbers of its events (this project's profile).
 use Rattle.std.specs.Prelude.{ℕ, ◌+◌, ◌-◌, ◌*◌, ◌/◌, ◌^◌, min, Bool, false, ◌&&◌, ◌==◌, nat_eq, nat_lt, List, length, fold, if◌then◌else◌}
 use Rattle.std.specs.List.{list_any}
 use Rattle.chart.specs.declared.event.Event.{Event}
@@ -8,7 +8,7 @@ use Rattle.picture_parts.specs.declared.columns.columns.Column.{Column}
 use Rattle.picture_parts.specs.declared.columns.columns.Room.{Room}
 use Rattle.picture_parts.specs.Columns.TextWidths.{number_width}
 
--- more pixels; what is more than 32 bits hold isn't counted
+-- the sum of two numbers of pixels, but at most the greatest number of 32 bits
 abbrev pub plus : ℕ → ℕ → ℕ
 plus a b = min (a + b) (2 ^ 32 - 1)
 
@@ -20,11 +20,11 @@ has_races_on p reports = list_any (λ report. (report.receive.instance == p) && 
 abbrev pub has_column : ℕ → List Column → Bool
 has_column p columns = list_any (λ c. c.instance == p) columns
 
--- how many of the events are with an instance of one of these columns
+-- the number of the events that are with an instance of one of these columns
 abbrev pub events_with : List Column → List Event → ℕ
 events_with columns line = fold (λ n m. if has_column (partner_of m) columns then plus n 1 else n) 0 line
 
--- brackets stand on the right of a line where most of its arrows are on the left
+-- brackets are on the right of a line if most of its arrows are on the left
 abbrev pub is_mirrored : List Column → List Event → Bool
 is_mirrored columns line = nat_lt (length line) (2 * events_with columns line)
 
@@ -35,7 +35,7 @@ bracket_room w = 3 * w + 24
 abbrev pub number_room : ℕ → ℕ
 number_room w = w + 10
 
--- the room of a line: whether it has races, whether numbers are wanted, whether its brackets are on the right
+-- the room of a line, from whether it has races, whether numbers are wanted, and whether its brackets are on the right
 unfoldable pub room_of : Bool → Bool → Bool → ℕ → Room
 room_of races numbers mirrored w = record {
   left = if races then (if mirrored then number_room w else bracket_room w) else 7;

@@ -1,4 +1,4 @@
--- The elements of a picture as text (SVG 1.1; which there are is this project's profile).
+-- The elements of a picture as text (SVG 1.1; the set of elements is this project's profile).
 use Rattle.std.specs.Prelude.{ℕ, ◌+◌, ◌-◌, ◌/◌, ◌==◌, Bool, List, [], ◌∷◌, ◌++◌, length, take, drop, codes, decimal, if◌then◌else◌}
 use Rattle.picture_parts.specs.Columns.TextWidths.{line_break, name_width}
 use Rattle.picture_parts.specs.declared.elements.spot.Spot.{Spot}
@@ -13,7 +13,7 @@ arrow a b =
 unfoldable pub ring : Spot → List ℕ
 ring a = codes "<circle class='w' cx='" ++ (decimal a.x ++ (codes "' cy='" ++ (decimal a.y ++ codes "' r='4'/>\n")))
 
--- a ground of the picture's colour: its upper left corner, its width and its height
+-- a background in the picture's colour: its upper left corner, its width and its height
 unfoldable pub ground : Spot → ℕ → ℕ → List ℕ
 ground a width tall =
     codes "<rect class='g' x='" ++ (decimal a.x ++ (codes "' y='" ++ (decimal a.y ++ (codes "' width='" ++ (decimal width
@@ -28,7 +28,7 @@ full_line a line =
 abbrev pub name_line : Spot → List ℕ → List ℕ
 name_line a line = if length line == 0 then [] else full_line a line
 
--- where the upper line of a name is, whose lower one is at the spot
+-- the place of a name's upper line, if the lower one is at the spot
 abbrev pub above : Spot → Spot
 above a = record { x = a.x; y = a.y - 10 }
 
@@ -36,18 +36,18 @@ above a = record { x = a.x; y = a.y - 10 }
 unfoldable pub name_lines : ℕ → List ℕ → Spot → List ℕ
 name_lines upper name a = name_line (above a) (take upper name) ++ name_line a (drop upper name)
 
--- how tall the ground of a label is
+-- the height of a label's background
 abbrev pub tall : ℕ → ℕ
 tall upper = if upper == 0 then 10 else 20
 
--- the upper left corner of the ground of a label above an arrow, and where its lower line is
+-- the upper left corner of the background of a label above an arrow, and the place of its lower line
 abbrev pub corner : ℕ → ℕ → ℕ → ℕ → Spot
 corner x y upper width = record { x = x - (width / 2); y = y - (tall upper + 2) }
 
 abbrev pub base : ℕ → ℕ → Spot
 base x y = record { x = x; y = y - 4 }
 
--- a label above an arrow at this height, on its ground
+-- a label above an arrow at this height, on its background
 unfoldable pub label : Bool → List ℕ → ℕ → ℕ → List ℕ
 label near name x y =
     ground (corner x y (line_break near name) (name_width near name)) (name_width near name)
@@ -60,12 +60,12 @@ label_start a = codes "<text class='s' x='" ++ (decimal a.x ++ (codes "' y='" ++
 unfoldable pub label_end : List ℕ
 label_end = codes "</text>\n"
 
--- a number of these classes
+-- a number with these classes
 unfoldable pub number_text : List ℕ → Spot → ℕ → List ℕ
 number_text classes a n = codes "<text class='" ++ (classes ++ (codes "' x='" ++ (decimal a.x ++ (codes "' y='"
     ++ (decimal a.y ++ (codes "'>" ++ (decimal n ++ codes "</text>\n")))))))
 
--- the beginning of an event's group, with a point where it is
+-- the beginning of an event's group, with a point at its place
 unfoldable pub point_start : ℕ → ℕ → Spot → List ℕ
 point_start instance index a =
     codes "<g id='e" ++ (decimal instance ++ (codes "-" ++ (decimal index ++ (codes "'><circle class='p' cx='"
@@ -84,7 +84,7 @@ unfoldable pub dashed : ℕ → ℕ → ℕ → List ℕ
 dashed x a b = codes "<path class='c' d='M" ++ (decimal x ++ (codes " " ++ (decimal a ++ (codes "V" ++ (decimal b ++
     codes "'/>\n")))))
 
--- the part that is in the coregion r: dashed, or solid where there is none (ITU-T Z.120)
+-- the part in the coregion r: dashed, or solid if r is 0 (ITU-T Z.120)
 unfoldable pub segment : ℕ → ℕ → ℕ → ℕ → List ℕ
 segment r x a b = if r == 0 then solid x a b else dashed x a b
 
@@ -102,8 +102,8 @@ unfoldable pub bracket_name : ℕ → ℕ → ℕ → List ℕ
 bracket_name instance index first = codes "<path id='b" ++ (decimal instance ++ (codes "-" ++ (decimal index ++ (codes "-"
     ++ (decimal first ++ codes "' class='b' d='")))))
 
--- its outline: from an upper corner to the lower one at the same x, with ends as far as `inner`; and up to the number of
--- its receive and what it may do
+-- its outline: from an upper corner to the lower one at the same x, with ends as far as `inner`; then the number of its
+-- receive and the beginning of the bracket's meaning
 unfoldable pub bracket_outline : Spot → ℕ → ℕ → ℕ → List ℕ
 bracket_outline a lower inner receive =
     codes "M" ++ (decimal inner ++ (codes " " ++ (decimal a.y ++ (codes "H" ++ (decimal a.x

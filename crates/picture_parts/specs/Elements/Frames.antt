@@ -1,5 +1,5 @@
--- What stands round the columns and rows of a picture, as text (SVG 1.1; which colours and kinds of lines there are is
--- this project's profile).
+-- The frame around the columns and rows of a picture, as text (SVG 1.1; the colours and kinds of lines are this
+-- project's profile).
 use Rattle.std.specs.Prelude.{ℕ, List, ◌++◌, codes, decimal}
 use Rattle.texts.specs.Pieces.Pieces.{escaped}
 
@@ -26,7 +26,7 @@ styles =
     ++ (codes ".k,.r{fill:#ff9a9a}.b{stroke:#ff9a9a}}\n"
     ++ codes "</style>\n")))))))))))))))))
 
--- arrow heads, and the ends of coregions
+-- arrow heads, the ends of coregions, and the picture's background
 unfoldable pub markers : List ℕ
 markers =
     codes "<defs><marker id='head' refX='8' refY='4' markerWidth='8' markerHeight='8' orient='auto'>"

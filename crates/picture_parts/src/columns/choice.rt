@@ -9,18 +9,18 @@ use chart_layout::{Ends, Layout, Row};
 use std::alloc::{AllocError, Global};
 use std::marker::Model;
 
-/// Which events of a chart are drawn: those that are chosen, and the other ends of their messages.
+/// The drawn events of a chart: those that are chosen, and the other ends of their messages.
 #[derive(Drop)]
 pub struct Choice<'a> {
     pub layout: &'a Layout,
     /// The other ends of the chart's messages.
     pub ends: &'a Ends,
-    /// The leftmost first.
+    /// The columns, from the left.
     pub columns: Vec<Column>,
-    /// The numbers of the first and of the last event of each line that is chosen, from 1.
+    /// The numbers of the first and of the last chosen event of each line, from 1.
     pub first: u32,
     pub last: u32,
-    /// The numbers of the first and of the last row whose events are chosen, from 0.
+    /// The numbers of the first and of the last row with chosen events, from 0.
     pub top: usize,
     pub bottom: usize,
 }
@@ -74,7 +74,7 @@ impl<'a> Choice<'a> {
         self.ends.of_event(*event)
     }
 
-    /// Whether the row is one whose events are chosen.
+    /// Whether the row's events are chosen.
     fn is_row_chosen(&self, row: Option<usize>) -> bool
         ensures { result ≡ is_row_chosen self.now row }
     {
@@ -129,8 +129,8 @@ impl<'a> Choice<'a> {
     }
 }
 
-/// For each of these rows how many are drawn above it, and how many are drawn. F6: it fails only where there is no
-/// memory.
+/// For each of these rows, the number of drawn rows above it, and then the number of all drawn rows. F6: it fails only
+/// if there is no memory.
 pub fn places_of(
     alloc: Global,
     choice: &Choice<'_>,

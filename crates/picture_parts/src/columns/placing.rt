@@ -1,4 +1,4 @@
-//! Where the columns of a picture stand.
+//! The places of a picture's columns.
 ghost use Rattle.std.specs.Prelude.{◌≡◌, ◌≤◌, ◌==◌, length, IfOk, nat_eq, true, []};
 ghost use Rattle.texts.specs.Instances.{name_at};
 ghost use Rattle.picture_parts.specs.Columns.Placing.{wider, widest_with, between, wider_cut, widest_cut, head_half};
@@ -15,7 +15,7 @@ use chart::{Event, InstanceNo, Names};
 use std::alloc::{AllocError, Global};
 use texts::named;
 
-/// The width of an event's label, if its message is with the partner and the label is wider.
+/// The greater of `widest` and the width of an event's label, if its message is with the partner. Otherwise `widest`.
 fn wider(near: bool, partner: InstanceNo, widest: u32, event: &Event) -> u32
     ensures { result ≡ wider near partner widest event.now }
 {
@@ -26,7 +26,7 @@ fn wider(near: bool, partner: InstanceNo, widest: u32, event: &Event) -> u32
     widest.max(name_width(name.as_bytes(), near))
 }
 
-/// The greatest width of a label of a line's messages with the partner, or this one.
+/// The greatest width of a label of a line's messages with the partner, but at least `widest`.
 fn widest_with(near: bool, partner: InstanceNo, widest: u32, events: &[Event]) -> u32
     ensures { result ≡ widest_with near partner widest events.now }
 {
@@ -48,7 +48,7 @@ fn is_drawn(drawn: &[InstanceNo], instance: InstanceNo) -> bool
     drawn.iter().any(|column| instance == *column)
 }
 
-/// The width of an event's label, if its message is cut and the label is wider.
+/// The greater of `widest` and the width of an event's label, if its message is cut. Otherwise `widest`.
 fn wider_cut(plan: &Plan<'_>, widest: u32, event: &Event) -> u32
     ensures { result ≡ wider_cut plan.now widest event.now }
 {
@@ -95,7 +95,7 @@ fn head_half(plan: &Plan<'_>, instance: InstanceNo) -> u32
     width_of_name(plan.names, instance) / 2 + 6
 }
 
-/// What labels need between the line of a column and that of an instance with this room.
+/// The distance that labels need between the line of a column and that of an instance with this room.
 fn label_distance(
     plan: &Plan<'_>,
     near: bool,
@@ -109,7 +109,7 @@ fn label_distance(
     plus(plus(column.room.right, room.left), label)
 }
 
-/// What heads and the labels of cut messages need between neighbours.
+/// The distance that heads and the labels of cut messages need between neighbours.
 fn near_distance(plan: &Plan<'_>, column: &Column, instance: InstanceNo, room: &Room) -> u32
     ensures { result ≡ near_distance plan.now column.now instance room.now }
 {
@@ -118,7 +118,7 @@ fn near_distance(plan: &Plan<'_>, column: &Column, instance: InstanceNo, room: &
     heads.max(plus(plus(column.room.right, room.left), label))
 }
 
-/// How far the line of an instance has to be from that of a column on its left.
+/// The least distance of the line of an instance from that of a column on its left.
 fn distance(plan: &Plan<'_>, near: bool, column: &Column, instance: InstanceNo, room: &Room) -> u32
     ensures { result ≡ distance plan.now near column.now instance room.now }
 {
@@ -140,7 +140,7 @@ fn room_beside(plan: &Plan<'_>, columns: &[Column], instance: InstanceNo) -> Roo
     room_of(races, plan.numbers, mirrored, number_width(events.len()))
 }
 
-/// The least place of an instance's line on the right of these columns.
+/// The leftmost place of an instance's line on the right of these columns.
 fn least(plan: &Plan<'_>, columns: &[Column], instance: InstanceNo, room: &Room) -> u32
     ensures { result ≡ least plan.now columns.now instance room.now }
 {
@@ -165,7 +165,7 @@ fn next_column(plan: &Plan<'_>, columns: &[Column], instance: InstanceNo) -> Col
     }
 }
 
-/// The columns of these instances, the leftmost first.
+/// The columns of these instances, from the left.
 fn columns_for(
     alloc: Global,
     plan: &Plan<'_>,
@@ -181,14 +181,14 @@ fn columns_for(
     Ok(columns)
 }
 
-/// The columns of the instances that are drawn, the leftmost first. F6: it fails only where there is no memory.
+/// The columns of the drawn instances, from the left. F6: it fails only if there is no memory.
 pub fn columns_of(alloc: Global, plan: &Plan<'_>) -> Result<Vec<Column>, AllocError>
     ensures { IfOk result (λ columns. columns.items ≡ columns_of plan.now) }
 {
     columns_for(alloc, plan, plan.drawn)
 }
 
-/// Where a column ends.
+/// The right end of a column.
 fn edge(plan: &Plan<'_>, column: &Column) -> u32
     ensures { result ≡ edge plan.now column.now }
 {
@@ -196,7 +196,7 @@ fn edge(plan: &Plan<'_>, column: &Column) -> u32
     plus(column.x, head_half(plan, column.instance).max(label))
 }
 
-/// How wide a picture is with these columns and a title of so many bytes.
+/// The width of a picture with these columns and a title of this number of bytes.
 pub fn width_of(plan: &Plan<'_>, columns: &[Column], title: usize) -> u32
     ensures { result ≡ width_of plan.now columns.now title }
 {

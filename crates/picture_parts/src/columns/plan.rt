@@ -1,17 +1,17 @@
-//! What columns are placed by.
+//! The data by which columns are placed.
 ghost use Rattle.std.specs.Prelude.{◌≡◌};
 ghost use Rattle.chart.specs.Charts.{chart_lines};
 
 use chart::{Event, InstanceNo, Line, Names, Report};
 use std::marker::Model;
 
-/// What columns are placed by: a chart with its names and reports, and what of it is drawn.
+/// The data by which columns are placed: a chart with its names and reports, and its drawn part.
 #[derive(Drop)]
 pub struct Plan<'a> {
     pub names: &'a Names,
     pub lines: &'a [Line],
     pub reports: &'a [Report],
-    /// The instances that have a column, the leftmost first.
+    /// The instances that have a column, from the left.
     pub drawn: &'a [InstanceNo],
     /// Whether events have their numbers beside them.
     pub numbers: bool,

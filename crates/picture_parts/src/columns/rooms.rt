@@ -1,4 +1,4 @@
-//! What is kept free beside a line.
+//! The free space beside a line.
 ghost use Rattle.std.specs.Prelude.{◌≡◌, ◌≤◌};
 ghost use Rattle.picture_parts.specs.Columns.Rooms.{plus, has_races_on, has_column, events_with, is_mirrored, bracket_room};
 ghost use Rattle.picture_parts.specs.Columns.Rooms.{number_room, room_of};
@@ -6,7 +6,7 @@ ghost use Rattle.picture_parts.specs.Columns.Rooms.{number_room, room_of};
 use crate::columns::columns::{Column, Room};
 use chart::{Event, InstanceNo, Report};
 
-/// More pixels. What is more than 32 bits hold isn't counted.
+/// The sum of two numbers of pixels, but at most the greatest number of 32 bits.
 pub(crate) fn plus(pixels: u32, more: u32) -> u32
     ensures { result ≡ plus pixels more }
 {
@@ -28,7 +28,7 @@ fn has_column(columns: &[Column], instance: InstanceNo) -> bool
     columns.iter().any(|column| column.instance == instance)
 }
 
-/// How many of the events are with an instance of one of these columns.
+/// The number of the events that are with an instance of one of these columns.
 fn events_with(columns: &[Column], events: &[Event]) -> u32
     ensures { result ≡ events_with columns.now events.now }
 {
@@ -41,7 +41,8 @@ fn events_with(columns: &[Column], events: &[Event]) -> u32
     })
 }
 
-/// Whether brackets stand on the right of a line with these events, which is on the right of these columns.
+/// Whether the brackets of a line with these events are on its right. They are if most of its arrows lead to these
+/// columns, which are on its left.
 pub(crate) fn is_mirrored(columns: &[Column], events: &[Event]) -> bool
     ensures { result ≡ is_mirrored columns.now events.now }
 {

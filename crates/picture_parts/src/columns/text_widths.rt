@@ -1,8 +1,9 @@
-//! How wide the texts of a picture are, and where a long name is broken.
+//! The widths of a picture's texts, and the place where a long name is broken.
 ghost use Rattle.std.specs.Prelude.{◌≡◌, ◌≤◌, ◌<◌, nat_eq, position, length, IfSome};
 ghost use Rattle.picture_parts.specs.Columns.TextWidths.{text_width, break_of, line_break, name_width, cut_width, number_width};
 
-/// So many characters in pixels. Of a font of 11 pixels one is at most 20/3 wide.
+/// The width of this number of characters in pixels, of which at most 80 count. In a font of 11 pixels a character is
+/// at most 20/3 pixels wide.
 fn text_width(characters: usize) -> u32
     ensures value { result ≡ text_width characters }
     ensures limit { result ≤ 534 }
@@ -18,7 +19,7 @@ fn underscore_in(bytes: &[u8]) -> Option<usize>
     bytes.iter().position(|byte| *byte == b'_')
 }
 
-/// How much of a name is its upper line.
+/// The number of bytes of a name's upper line.
 fn break_of(name: &[u8]) -> usize
     ensures value { result ≡ break_of name.now }
     ensures within { result ≤ length name.now }
@@ -33,7 +34,7 @@ fn break_of(name: &[u8]) -> usize
     }
 }
 
-/// How much of a name is its upper line, if it stands between neighbours. Elsewhere it has one line.
+/// The number of bytes of a name's upper line, if the name is between neighbours. Elsewhere it has one line.
 pub fn line_break(name: &[u8], near: bool) -> usize
     ensures value { result ≡ line_break near name.now }
     ensures within { result ≤ length name.now }
@@ -41,7 +42,7 @@ pub fn line_break(name: &[u8], near: bool) -> usize
     if near { break_of(name) } else { 0 }
 }
 
-/// How wide a name is, in pixels.
+/// The width of a name, in pixels.
 pub fn name_width(name: &[u8], near: bool) -> u32
     ensures value { result ≡ name_width near name.now }
     ensures limit { result ≤ 534 }
@@ -50,7 +51,7 @@ pub fn name_width(name: &[u8], near: bool) -> u32
     text_width(upper.max(name.len() - upper))
 }
 
-/// How wide the label of a message is that is cut, with the arrow before it.
+/// The width of the label of a cut message, including the arrow before it.
 pub(crate) fn cut_width(name: &[u8], other: &[u8]) -> u32
     requires name { length name.now ≤ 80 }
     requires other { length other.now ≤ 80 }
@@ -59,7 +60,7 @@ pub(crate) fn cut_width(name: &[u8], other: &[u8]) -> u32
     text_width(name.len() + other.len() + 6) + 21
 }
 
-/// How wide a number is, in pixels.
+/// The width of a number, in pixels.
 pub(crate) fn number_width(number: usize) -> u32
     ensures value { result ≡ number_width number }
     ensures limit { result ≤ 22 }

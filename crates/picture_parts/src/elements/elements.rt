@@ -52,7 +52,7 @@ pub fn add_ring<W: Out>(text: &mut TextBuffer<'_, W>, at: Spot) -> Result<(), Wr
     )
 }
 
-/// Adds a ground of the picture's colour.
+/// Adds a background in the picture's colour.
 #[tactic(auto, unfolding(crate::specs::Elements::Elements::ground))]
 pub fn add_ground<W: Out>(
     text: &mut TextBuffer<'_, W>,
@@ -103,7 +103,7 @@ pub fn add_label_end<W: Out>(text: &mut TextBuffer<'_, W>) -> Result<(), WriteEr
     text.add(b"</text>\n")
 }
 
-/// Adds a number of these classes.
+/// Adds a number with these classes.
 #[tactic(auto, unfolding(crate::specs::Elements::Elements::number_text))]
 pub fn add_number<W: Out>(
     text: &mut TextBuffer<'_, W>,
@@ -129,7 +129,7 @@ pub fn add_number<W: Out>(
     )
 }
 
-/// Adds the beginning of an event's group, with a point where it is.
+/// Adds the beginning of an event's group, with a point at its place.
 #[tactic(auto, unfolding(crate::specs::Elements::Elements::point_start))]
 pub fn add_point_start<W: Out>(
     text: &mut TextBuffer<'_, W>,
@@ -211,7 +211,7 @@ fn add_dashed<W: Out>(
     )
 }
 
-/// Adds the part of a lifeline between two heights, which is in this coregion, or in none.
+/// Adds the part of a lifeline between two heights, in this coregion, or in none if it is 0.
 #[tactic(auto, unfolding(crate::specs::Elements::Elements::segment))]
 pub fn add_segment<W: Out>(
     text: &mut TextBuffer<'_, W>,

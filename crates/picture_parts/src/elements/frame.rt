@@ -1,4 +1,4 @@
-//! What stands round the columns and rows of a picture: its colours, its title, its beginning and its end.
+//! The frame around the columns and rows of a picture: its colours, its title, its beginning and its end.
 ghost use Rattle.std.specs.Prelude.{◌≡◌};
 ghost use Rattle.texts.specs.Writing.{Adds};
 ghost use Rattle.picture_parts.specs.Elements.Frames.{styles, markers, svg_start, title, heading, svg_end};
@@ -6,8 +6,8 @@ ghost use Rattle.picture_parts.specs.Elements.Frames.{styles, markers, svg_start
 use texts::pieces::{Piece, add_pieces};
 use texts::{Out, TextBuffer, WriteError};
 
-/// Adds the colours, those on white and those on black, and the kinds of lines and of labels. Nothing is fetched: the
-/// font is whichever the reader's program has.
+/// Adds the colours on white and on black, and the kinds of lines and labels. Nothing is fetched: the font is one that
+/// the reader's program has.
 #[tactic(auto, unfolding(crate::specs::Elements::Frames::styles))]
 pub fn add_styles<W: Out>(text: &mut TextBuffer<'_, W>) -> Result<(), WriteError>
     ensures { Adds W.sink text.old text.new result styles }
@@ -40,7 +40,7 @@ pub fn add_styles<W: Out>(text: &mut TextBuffer<'_, W>) -> Result<(), WriteError
     )
 }
 
-/// Adds arrow heads, the ends of coregions, and the picture's ground.
+/// Adds arrow heads, the ends of coregions, and the picture's background.
 #[tactic(auto, unfolding(crate::specs::Elements::Frames::markers))]
 pub fn add_markers<W: Out>(text: &mut TextBuffer<'_, W>) -> Result<(), WriteError>
     ensures { Adds W.sink text.old text.new result markers }

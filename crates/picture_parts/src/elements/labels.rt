@@ -33,7 +33,7 @@ fn add_full_line<W: Out>(
     )
 }
 
-/// The same, or nothing if the line is empty.
+/// Adds a line of a name, or nothing if the line is empty.
 fn add_name_line<W: Out>(
     text: &mut TextBuffer<'_, W>,
     at: Spot,
@@ -48,7 +48,7 @@ fn add_name_line<W: Out>(
     }
 }
 
-/// Where the upper line of a name is, whose lower one is at the spot.
+/// The place of a name's upper line, if the lower one is at the spot.
 fn above(at: Spot) -> Spot
     ensures { result ≡ above at }
 {
@@ -74,7 +74,7 @@ pub fn add_name_lines<W: Out>(
     add_name_line(text, at, second)
 }
 
-/// How tall the ground of a label is, so much of which is its upper line.
+/// The height of a label's background, if its upper line has this number of bytes.
 fn tall(upper: usize) -> u64
     ensures value { result ≡ tall upper }
     ensures limit { result ≤ 20 }
@@ -82,7 +82,7 @@ fn tall(upper: usize) -> u64
     if upper == 0 { 10 } else { 20 }
 }
 
-/// The upper left corner of the ground of a label above an arrow.
+/// The upper left corner of the background of a label above an arrow.
 fn corner(x: u64, y: u64, upper: usize, width: u64) -> Spot
     ensures { result ≡ corner x y upper width }
 {
@@ -92,7 +92,7 @@ fn corner(x: u64, y: u64, upper: usize, width: u64) -> Spot
     }
 }
 
-/// Where the lower line of such a label is.
+/// The place of the lower line of such a label.
 fn base(x: u64, y: u64) -> Spot
     ensures { result ≡ base x y }
 {
@@ -102,7 +102,7 @@ fn base(x: u64, y: u64) -> Spot
     }
 }
 
-/// Adds a label above an arrow at this height, on its ground.
+/// Adds a label above an arrow at this height, on its background.
 #[tactic(auto, using(texts::proofs::Writes::joining), unfolding(crate::specs::Elements::Elements::label))]
 pub fn add_label<W: Out>(
     text: &mut TextBuffer<'_, W>,

@@ -1,4 +1,4 @@
-//! What the marks of a picture mean, for those that are there.
+//! The meanings of a picture's marks, for those that it has.
 ghost use Rattle.std.specs.Prelude.{◌≡◌, ◌≤◌};
 ghost use Rattle.texts.specs.Writing.{Adds};
 ghost use Rattle.picture_parts.specs.Elements.Legends.{entry_start, races_entry, waits_entry, regions_entry, races_at};
@@ -8,7 +8,7 @@ ghost use Rattle.picture_parts.specs.Elements.Legends.{regions_part, legend, leg
 use texts::pieces::{Piece, add_pieces};
 use texts::{Out, TextBuffer, WriteError};
 
-/// Which marks there are.
+/// The marks that a picture has.
 #[derive(Clone, Copy)]
 pub struct Marks {
     pub races: bool,
@@ -31,7 +31,7 @@ fn add_entry_start<W: Out>(text: &mut TextBuffer<'_, W>, y: u64) -> Result<(), W
     )
 }
 
-/// Adds what a dot and a bracket mean.
+/// Adds the meaning of a dot and of a bracket.
 #[tactic(auto, unfolding(crate::specs::Elements::Legends::races_entry))]
 fn add_races_entry<W: Out>(text: &mut TextBuffer<'_, W>) -> Result<(), WriteError>
     ensures { Adds W.sink text.old text.new result races_entry }
@@ -55,7 +55,7 @@ fn add_races_entry<W: Out>(text: &mut TextBuffer<'_, W>) -> Result<(), WriteErro
     )
 }
 
-/// Adds what an open circle means.
+/// Adds the meaning of an open circle.
 #[tactic(auto, unfolding(crate::specs::Elements::Legends::waits_entry))]
 fn add_waits_entry<W: Out>(text: &mut TextBuffer<'_, W>) -> Result<(), WriteError>
     ensures { Adds W.sink text.old text.new result waits_entry }
@@ -71,7 +71,7 @@ fn add_waits_entry<W: Out>(text: &mut TextBuffer<'_, W>) -> Result<(), WriteErro
     )
 }
 
-/// Adds what a dashed lifeline means.
+/// Adds the meaning of a dashed lifeline.
 #[tactic(auto, unfolding(crate::specs::Elements::Legends::regions_entry))]
 fn add_regions_entry<W: Out>(text: &mut TextBuffer<'_, W>) -> Result<(), WriteError>
     ensures { Adds W.sink text.old text.new result regions_entry }
@@ -111,7 +111,7 @@ fn add_regions_at<W: Out>(text: &mut TextBuffer<'_, W>, y: u64) -> Result<(), Wr
     add_regions_entry(text)
 }
 
-/// How tall the entries for races are, if they are there.
+/// The height of the entries for races, if they are there.
 fn races_tall(there: bool) -> u64
     ensures value { result ≡ races_tall there }
     ensures limit { result ≤ 36 }
@@ -119,7 +119,7 @@ fn races_tall(there: bool) -> u64
     if there { 36 } else { 0 }
 }
 
-/// How tall another entry is, if it is there.
+/// The height of another entry, if it is there.
 fn entry_tall(there: bool) -> u64
     ensures value { result ≡ entry_tall there }
     ensures limit { result ≤ 18 }
@@ -169,7 +169,7 @@ fn add_regions_part<W: Out>(
     }
 }
 
-/// How tall the legend is.
+/// The height of the legend.
 pub fn legend_tall(marks: &Marks) -> u64
     ensures value { result ≡ legend_tall marks.now.races marks.now.waits marks.now.regions }
     ensures limit { result ≤ 72 }

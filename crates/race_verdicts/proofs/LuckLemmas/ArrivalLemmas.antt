@@ -1,4 +1,4 @@
--- Which message arrived when, arrival by arrival.
+-- The message of each arrival, one after the other.
 use Rattle.std.proofs.Common.{◌≡◌, ◌≢◌, ℕ, ◌+◌, ◌<◌, ◌↔◌, ◌==◌, inl, inr, Bool, true, false, List, [], ◌∷◌, ◌++◌, Option, None, Some, length, get_or, replicate, drop, cond, refl, sym, ap, ap₂, ◌∙◌, subst, arith, eqb-true, eq-eqb, add-one}
 use Rattle.std.specs.Prelude.{slice_get, Contains, IsTrue, nat_lt, filter, if◌then◌else◌, ◌⊎◌}
 use Rattle.std.proofs.lemmas.Bool.{cases_eq, cases_lt, false≢true, ltb-true, lt-ltb}
@@ -20,7 +20,7 @@ use Rattle.race_verdicts.proofs.LuckLemmas.TableLemmas.{some_same, first_pass, f
 use Rattle.race_verdicts.specs.Recordings.{RecordingView}
 use Rattle.race_verdicts.specs.declared.recording.Arrival.{Arrival}
 
--- the line of a message's number is one of the log
+-- the line that names a message of the log is a line of the log
 pub message_within : (lines : List LogLine) → IsLog lines → (x : LogLine) → Contains lines x → naming_line (message_of x) < length lines
 message_within lines log x has = go (is_send x.entry.kind)
   where
@@ -32,26 +32,26 @@ message_within lines log x has = go (is_send x.entry.kind)
     go true = number_within lines log x has
     go false = taken x.send refl
 
--- an arrival is of one message
+-- an arrival is that of at most one message
 pub one_message : (lines : List LogLine) (arrivals : List Arrival) (i : ℕ) (m o : MessageNo) → IsArrivalOf lines arrivals m i → IsArrivalOf lines arrivals o i → m ≡ o
 one_message lines arrivals i m o one two =
     let same : one.arrival ≡ two.arrival = some_same (sym one.is ∙ two.is) in
     let line : one.line ≡ two.line = some_same (sym one.first ∙ ap (λ (a : Arrival). slice_get (filter (is_open a.«at») (waiting lines arrivals i a.stream)) 0) same ∙ two.first) in
     one.message ∙ ap message_of line ∙ sym two.message
 
--- at the beginning all messages of a stream wait
+-- at first all messages of a stream wait
 pub waiting_begins : (lines : List LogLine) (arrivals : List Arrival) (c : ℕ) → waiting lines arrivals 0 c ≡ of_stream receives lines c ++ of_stream (is_left lines) lines c
 unfolding waiting
 waiting_begins lines arrivals c = refl
 
--- what waits behind an arrival
+-- the messages that wait after an arrival
 module _ (lines : List LogLine) (arrivals : List Arrival) (i : ℕ) (a : Arrival) (here : slice_get arrivals i ≡ Some a) where
   pub waiting_next : (c : ℕ) → waiting lines arrivals (i + 1) c ≡ behind c (waiting lines arrivals i c) (Some a)
   unfolding waiting
   waiting_next c = ap (λ n. waiting lines arrivals n c) (add-one i) ∙ ap (behind c (waiting lines arrivals i c)) here
 
   module _ (received left : ℕ → List LogLine) (first next : List (Option ℕ)) (left_are : AreQueues lines true first next 0 left) (both : (c : ℕ) → waiting lines arrivals i c ≡ received c ++ left c) where
-    -- those that no line above receives
+    -- the messages that no line above receives
     abbrev kept : List LogLine
     kept = filter (is_open a.«at») (received a.stream)
 
@@ -71,7 +71,7 @@ module _ (lines : List LogLine) (arrivals : List Arrival) (i : ℕ) (a : Arrival
         let gone : None ≡ Some its.line = sym (ap (λ l. slice_get l 0) (open_is ∙ none)) ∙ first in
         absurd (cc gone)
 
-    -- the lists of the streams, when the first of these was taken
+    -- the lists of the streams, after the first of these messages was removed
     module _ (others : ℕ → List LogLine) (others_left : ℕ → List LogLine) (taken : others a.stream ++ others_left a.stream ≡ drop 1 (kept ++ left a.stream))
         (stays : (c : ℕ) → (a.stream == c) ≡ false → others c ++ others_left c ≡ received c ++ left c) where
       pub both_next : (c : ℕ) → waiting lines arrivals (i + 1) c ≡ others c ++ others_left c
@@ -83,14 +83,14 @@ module _ (lines : List LogLine) (arrivals : List Arrival) (i : ℕ) (a : Arrival
               (ap (drop 1) open_is ∙ sym taken)
           go false other = both c ∙ sym (stays c other)
 
--- one list is changed
+-- one list was changed
 pub with_same : (lists : ℕ → List LogLine) (c : ℕ) (list : List LogLine) → with_list lists c list c ≡ list
 with_same lists c list = ap (λ b. cond b list (lists c)) (eq-eqb c c refl)
 
 pub with_other : (lists : ℕ → List LogLine) (c : ℕ) (list : List LogLine) (d : ℕ) → (c == d) ≡ false → with_list lists c list d ≡ lists d
 with_other lists c list d other = ap (λ b. cond b list (lists d)) other
 
--- a line of a stream was taken: of those that lines receive, or of those that none does
+-- a line of the stream was removed, from its receives or from its sends that no line takes
 module _ (lines : List LogLine) (arrivals : List Arrival) (i : ℕ) (a : Arrival) (here : slice_get arrivals i ≡ Some a) (received left : ℕ → List LogLine) (first next : List (Option ℕ))
     (left_are : AreQueues lines true first next 0 left) (both : (c : ℕ) → waiting lines arrivals i c ≡ received c ++ left c) where
   abbrev opened : ℕ → List LogLine
@@ -130,12 +130,12 @@ module _ (lines : List LogLine) (arrivals : List Arrival) (i : ℕ) (a : Arrival
   pub never_arrived : opened a.stream ≡ [] → left a.stream ≡ [] → (m : MessageNo) → IsArrivalOf lines arrivals m i → ⊥
   never_arrived none none_left = arrived_never lines arrivals i a here received left first next left_are both (none_kept none ∙ none_left)
 
--- the first of a list by its number
+-- the first line of a list, by its number
 no_first : (list : List LogLine) → None ≡ first_number list → list ≡ []
 no_first [] e = refl
 no_first (x ∷ xs) e = absurd (cc e)
 
--- what waits where an arrival more stands above, and of which message the arrival is
+-- the messages that wait after one more arrival, and the message of this arrival
 module _ (lines : List LogLine) (arrivals : List Arrival) (i : ℕ) (a : Arrival) (here : slice_get arrivals i ≡ Some a) (received received_next left left_next : List (Option ℕ))
     (w : AreWaiting lines arrivals i received received_next left left_next) where
   abbrev pub opened_lists : ℕ → List LogLine
@@ -159,7 +159,7 @@ module _ (lines : List LogLine) (arrivals : List Arrival) (i : ℕ) (a : Arrival
   pub number_in : (sends : Bool) (first next : List (Option ℕ)) (lists : ℕ → List LogLine) → AreQueues lines sends first next 0 lists → (n : ℕ) → Some n ≡ first_number (lists a.stream) → n < length lines
   number_in sends first next lists are n some = let its = first_at sends first next lists are n some in slice_get_within lines n its.x its.here
 
-  -- it is of the message of the line with this number
+  -- the arrival is that of the message of the line with this number
   pub record IsAtLine (n : ℕ) : Type 0 where
     pub line : LogLine
     pub stands : slice_get lines n ≡ Some line
@@ -227,7 +227,7 @@ same_message (messages.Begun n) (messages.Begun k) =
       | inr other ↦ inr (λ e. other (cc e))
     ]
 
--- an arrival more
+-- one more arrival
 module _ (lines : List LogLine) (arrivals : List Arrival) (n : ℕ) (sent begun : List (Option ℕ)) (are : AreArrived lines arrivals n sent begun) where
   pub arrived_pass : ((m : MessageNo) → IsArrivalOf lines arrivals m n → ⊥) → AreArrived lines arrivals (n + 1) sent begun
   arrived_pass none = record {
@@ -258,7 +258,7 @@ module _ (lines : List LogLine) (arrivals : List Arrival) (n : ℕ) (sent begun 
       go (Some k) e first =
           subst (IsFirst (IsArrivalOf lines arrivals m) (n + 1)) (sym (put.kept k e)) (first_kept (IsArrivalOf lines arrivals m) n k (subst (IsFirst (IsArrivalOf lines arrivals m) n) e first))
 
--- none was gone over
+-- no arrival yet
 pub arrived_none : (lines : List LogLine) (arrivals : List Arrival) (sent begun : List (Option ℕ)) → sent ≡ replicate (length lines) None → begun ≡ replicate (length lines) None → AreArrived lines arrivals 0 sent begun
 arrived_none lines arrivals sent begun sent_is begun_is = record {
   sent_whole = none_whole (length lines) sent sent_is;
@@ -270,12 +270,12 @@ arrived_none lines arrivals sent begun sent_is begun_is = record {
     go (messages.Sent n) = ap (λ t. get_or t n None) sent_is ∙ none_at (length lines) n
     go (messages.Begun n) = ap (λ t. get_or t n None) begun_is ∙ none_at (length lines) n
 
--- all were
+-- all arrivals
 pub arrived_all : (lines : List LogLine) (arrivals : List Arrival) (n : ℕ) (sent begun : List (Option ℕ)) → n ≡ length arrivals → AreArrived lines arrivals n sent begun
     → AreArrived lines arrivals (length arrivals) sent begun
 arrived_all lines arrivals n sent begun all are = subst (λ k. AreArrived lines arrivals k sent begun) all are
 
--- which came first
+-- the message that came first
 module _ (rec : RecordingView) where
   first_is : (m : MessageNo) (k : ℕ) (entry : Option ℕ) → IsFirst (IsArrivalOf rec.lines rec.arrivals m) (length rec.arrivals) entry → IsFirstArrival rec m k → entry ≡ Some k
   first_is m k None none first = absurd (let its = first.its in none k (slice_get_within rec.arrivals k its.arrival its.is) its)

@@ -1,4 +1,4 @@
--- Receives behind invented sends, by the sends that are known to be.
+-- Receives that come after invented sends, by the sends that are known to do so.
 use Rattle.std.proofs.Common.{◌≡◌, ℕ, zero, suc, ◌+◌, ◌<◌, ◌≤◌, ◌↔◌, inl, inr, Bool, List, [], Option, None, Some, length, get_or, set, refl, sym, ap, ◌∙◌, subst, arith}
 use Rattle.std.specs.Prelude.{IsTrue}
 use Rattle.std.proofs.lemmas.Bool.{cases_eq, cases_lt}
@@ -20,7 +20,7 @@ use Rattle.race_verdicts.specs.Luck.Tables.{IsFirst}
 use Rattle.race_verdicts.proofs.LuckLemmas.ItemLemmas.{IsOnHost, on_host, of_log}
 use Rattle.race_verdicts.specs.Recordings.{RecordingView}
 
--- numbers of events are from 1 on
+-- the numbers of events are at least 1
 unlogged_begun : (items : List Item) (i : ℕ) → IsUnlogged items i → 1 ≤ i
 unlogged_begun items zero its = absurd (let is = its.is in cc is)
 unlogged_begun items (suc i) its = omega arith
@@ -43,7 +43,7 @@ module _ (hosts : List (List Item)) (invented : List (Option ℕ)) (are : AreInv
   pub are_numbered : AreNumbered invented
   are_numbered p i is = let first = first_at p i is in unlogged_begun (get_or hosts p []) i first.1
 
--- an invented event is a send, and the first of its line is up to where it is
+-- an invented event is a send, and the first invented event of its line is at most this one
 module _ (lines : List LineView) (rec : RecordingView) (known : List (Option ℕ)) (are : AreBeginnings lines rec known) where
   invented_send : (e : Place) → IsInvented rec e → (q : ℕ) × IsSendTo (chart_lines lines) q e
   invented_send e its = let log = of_log lines rec are.recording e its.item its.is in are.recording.same e its.item its.is (log.unlogged its.unlogged)
@@ -84,7 +84,7 @@ module _ (lines : List LineView) (rec : RecordingView) (known : List (Option ℕ
       let one = first.1 in
       (at (suc its.line) its.index, record { item = one.item; is = one.is; unlogged = one.unlogged }, its.up)
 
-  -- a receive comes behind an invented send where its send is known to
+  -- a receive comes after an invented send if its send is known to
   pub known_before : (s r : Place) (place : ℕ) (first : Option ℕ) (stated : Bool) → BelongsTo (chart_lines lines) s r → s.instance ≡ suc place → place < length lines → first ≡ get_or known place None
       → (IsTrue stated ↔ IsUpToFirst first s.index) → IsTrue stated ↔ ((e : Place) × IsInvented rec e × Before (chart_lines lines) e r)
   known_before s r place first stated belongs at_place within is states = (
@@ -108,7 +108,7 @@ module _ (lines : List LineView) (rec : RecordingView) (known : List (Option ℕ
           (subst (IsKnownFrom (chart_lines lines) are.invented (suc place)) (sym is) (are.sends.each place within)) in
           from s.index send
 
--- a line more
+-- one more line
 pub known_more : (c : Chart) (invented : List (Option ℕ)) (place : ℕ) (old new : List (Option ℕ)) (first : Option ℕ) → place < length old → new ≡ set old place first → IsKnownFrom c invented (suc place) first
     → ((p : ℕ) → p < place → IsKnownFrom c invented (suc p) (get_or old p None)) → (p : ℕ) → p < place + 1 → IsKnownFrom c invented (suc p) (get_or new p None)
 known_more c invented place old new first within is found each p less =
@@ -119,7 +119,7 @@ known_more c invented place old new first within is found each p less =
           (subst (IsKnownFrom c invented (suc place)) (sym (ap (λ t. get_or t place None) is ∙ get_or-set_same old place first None within)) found)
     ]
 
--- the line of a send is one of the chart's
+-- the line of a send is a line of the chart
 pub send_within : (lines : List LineView) (s r : Place) (place : ℕ) → BelongsTo (chart_lines lines) s r → s.instance ≡ suc place → place < length lines
 send_within lines s r place belongs at_place =
     let here : IsEvent (chart_lines lines) s = IsEvent-from_event (chart_lines lines) s belongs.sent.0 belongs.sent.1 in

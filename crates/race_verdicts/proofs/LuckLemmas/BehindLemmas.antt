@@ -1,4 +1,4 @@
--- Messages behind others of their lanes, send by send from the last one back.
+-- Messages that are behind others of their lanes, from send to send backwards.
 use Rattle.std.proofs.Common.{◌≡◌, ℕ, zero, ◌+◌, ◌<◌, ◌≤◌, ◌↔◌, inl, inr, Bool, true, false, List, Option, None, Some, length, get_or, refl, sym, ap, ◌∙◌, subst, arith}
 use Rattle.std.specs.Prelude.{Contains, IsTrue, not}
 use Rattle.std.proofs.lemmas.Bool.{cases_eq, cases_lt, false≢true, leb-true, le-leb}
@@ -18,7 +18,7 @@ use Rattle.race_verdicts.proofs.LuckLemmas.LogLemmas.{contained_get, line_at, nu
 use Rattle.race_verdicts.proofs.LuckLemmas.TableLemmas.{some_same}
 use Rattle.race_verdicts.specs.Recordings.{RecordingView}
 
--- who takes it, and when
+-- the line that takes a message
 module _ (rec : RecordingView) (takers above over : List (Option ℕ)) (are : AreLaneTables rec.lines takers above over) (k s : ℕ) (within : s < length rec.lines) where
   takes_at : (x : LogLine) → Contains rec.lines x → x.send ≡ Some s → Takes rec.lines s x.number
   takes_at x has is = record { line = x; is = line_at rec.lines are.log x has; send = is }
@@ -56,14 +56,14 @@ module _ (rec : RecordingView) (takers above over : List (Option ℕ)) (are : Ar
       let early = taken.early in
       absurd (omega arith)
 
--- the sends of the lane from a bound on were gone over, and the next is the last before it that a line takes
+-- the sends of the lane from a bound on were visited, and the next one is the last before the bound that a line takes
 pub record IsWalking (rec : RecordingView) (k : ℕ) (own : MessageNo) (s q p : ℕ) (next : Option ℕ) : Type 0 where
   pub bound : ℕ
   pub low : bound ≤ s
   pub last : IsLast (IsTakenOnLane rec.lines q p) bound next
   pub none : (o : ℕ) → bound ≤ o → o < s → IsOnLane rec.lines q p o → WouldHaveTaken rec k own o → ⊥
 
--- how far the walk may still go
+-- how far the walk may continue
 abbrev pub left_before : Option ℕ → ℕ
 left_before None = zero
 left_before (Some n) = n + 1
@@ -77,13 +77,13 @@ module _ (rec : RecordingView) (takers above over : List (Option ℕ)) (are : Ar
     none = λ o low less. absurd (omega arith);
   }
 
-  -- what would have been taken is taken
+  -- a message that would have been taken is taken by some line
   taken_there : (q p o : ℕ) → IsOnLane rec.lines q p o → WouldHaveTaken rec k own o → IsTakenOnLane rec.lines q p o
   taken_there q p o on would =
       let there = would.there in
       record { on = on; taker = there.taker.number; takes = record { line = there.taker; is = line_at rec.lines are.log there.taker there.among; send = there.takes } }
 
-  -- the next is another on the lane
+  -- the next send is another one on the lane
   pub walk_within : (q p o : ℕ) → IsWalking rec k own s q p (Some o) → o < length rec.lines
   walk_within q p o walking = let its = walking.last.1.on in slice_get_within rec.lines o its.line its.is
 
@@ -103,7 +103,7 @@ module _ (rec : RecordingView) (takers above over : List (Option ℕ)) (are : Ar
         ];
   }
 
-  -- what stands between the next and the bound isn't on the lane
+  -- no taken send of the lane is between the next one and the bound
   module _ (send : IsSendLine rec.lines s) where
     pub own_lane : IsOnLane rec.lines send.line.entry.host send.line.entry.peer s
     own_lane = record { line = send.line; is = send.is; sends = send.sends; sender = refl; receiver = refl }
@@ -168,7 +168,7 @@ module _ (rec : RecordingView) (takers above over : List (Option ℕ)) (are : Ar
           ]),
     )
 
--- the send before another stands before it
+-- the send before another one has a smaller number
 pub above_less : (lines : List LogLine) (above : List (Option ℕ)) → AreAbove lines above → (q p o : ℕ) → IsOnLane lines q p o → left_before (get_or above o None) < o + 1
 above_less lines above are q p o its = go (get_or above o None) (are.each o q p its)
   where
@@ -176,7 +176,7 @@ above_less lines above are q p o its = go (get_or above o None) (are.each o q p 
     go None last = omega arith
     go (Some m) last = omega (arith, last.0)
 
--- whether it would have been taken, part by part
+-- whether the message would have been taken, condition by condition
 module _ (rec : RecordingView) (k : ℕ) (own : MessageNo) (s : ℕ) (takes : Bool) where
   pub would_not_take : (IsTrue takes ↔ WouldTake rec k s) → takes ≡ false → IsTrue false ↔ WouldHaveTaken rec k own s
   would_not_take stated fails = (λ yes. absurd (false≢true yes), λ would. absurd (false≢true (sym fails ∙ stated.1 would.takes)))

@@ -1,4 +1,4 @@
--- The events of a log's hosts, with the lines that they are of: of each line one, and rising along a host's line; and that no
+-- The events of a log's hosts with their lines: each event has one line, and the lines rise along the host's line. No
 -- two lines take one message.
 use Rattle.std.proofs.Common.{◌≡◌, ℕ, zero, suc, ◌<◌, ◌⊎◌, ◌==◌, ◌&&◌, inl, inr, not, Bool, true, false, cond, List, [], ◌∷◌, ◌++◌, Option, None, Some, map, refl, sym, ap₂, ◌∙◌, subst, arith, eq-eqb}
 use Rattle.std.specs.Prelude.{slice_get, Contains}
@@ -23,7 +23,7 @@ use Rattle.log_chart.proofs.OrderLemmas.{IsAbove, Rises, kept_rises}
 use Rattle.log_chart.proofs.TakenLanes.{stream_at, all_left, taken_apart, matched_fit}
 use Rattle.race_verdicts.proofs.LuckLemmas.LogLemmas.{get_contained}
 
--- a fact of each of a list, and of each with each later one
+-- a fact of each element of a list, and a fact of each element and each later one
 abbrev Each : (Item → Type 0) → List Item → Type 0
 Each P [] = Unit {0}
 Each P (i ∷ is) = P i × Each P is
@@ -54,7 +54,7 @@ pairs_at R (x ∷ xs) (suc n) (suc zero) i j all i_is j_is less = absurd (omega 
 pairs_at R (x ∷ xs) (suc zero) (suc (suc m)) i j all i_is j_is less = each_at (R i) xs (suc m) j (subst (λ y. Each (R y) xs) (same_Some x i i_is) all.0) j_is
 pairs_at R (x ∷ xs) (suc (suc n)) (suc (suc m)) i j all i_is j_is less = pairs_at R xs (suc n) (suc m) i j all.1 i_is j_is (omega (arith, less))
 
--- the lines of two events rise
+-- the lines of two events are rising
 abbrev pub HaveRising : Item → Item → Type 0
 HaveRising i j = (a b : ℕ) → i.line ≡ Some a → j.line ≡ Some b → a < b
 
@@ -88,7 +88,7 @@ heads_bare given [] = tt
 heads_bare given (x ∷ hosts) =
     each_append IsBare (map (invented x.host) (heads_to given x.host)) (heads_in given hosts) (invented_bare x.host (heads_to given x.host)) (heads_bare given hosts)
 
--- what a line gives stands at it
+-- the events of a line have this line
 abbrev IsOfLine : ℕ → Item → Type 0
 IsOfLine k i = (b : ℕ) → i.line ≡ Some b → b ≡ k
 
@@ -142,7 +142,7 @@ rising_items hosts lines given q rises =
     pairs_append HaveRising (heads_in (heads given q) hosts) (flat_map (items_by given q) lines) (bare_pairs (heads_in (heads given q) hosts) (heads_bare (heads given q) hosts)) (rising_lines given q lines rises)
     (bare_across (heads_in (heads given q) hosts) (flat_map (items_by given q) lines) (heads_bare (heads given q) hosts))
 
--- along a host's line the lines of events rise
+-- the lines of events rise along a host's line
 pub lines_rise : (n : ℕ) (log : List Entry) (q i j : ℕ) (x y : Item) (a b : ℕ) → ith (line_of n log q) i ≡ Some x → ith (line_of n log q) j ≡ Some y → i < j → x.line ≡ Some a → y.line ≡ Some b → a < b
 lines_rise n log q i j x y a b x_is y_is less = pairs_at HaveRising (line_of n log q) i j x y (rising_items (by_name n log) (kept log) (begun (kept log)) q (kept_rises log)) x_is y_is less a b
 

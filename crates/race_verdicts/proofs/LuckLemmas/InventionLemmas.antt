@@ -1,4 +1,4 @@
--- Sends that come behind invented ones, found by halves.
+-- Sends that come after invented ones, found by bisection.
 use Rattle.std.proofs.Common.{◌≡◌, ℕ, zero, suc, ◌+◌, ◌<◌, ◌≤◌, ◌↔◌, inl, inr, Bool, true, false, List, [], Option, None, Some, length, get_or, set, refl, sym, ap, ◌∙◌, subst, arith}
 use Rattle.std.specs.Prelude.{slice_index, IsTrue}
 use Rattle.std.proofs.lemmas.Bool.{cases_eq, cases_lt, false≢true}
@@ -14,7 +14,7 @@ use Rattle.race_verdicts.specs.Luck.Invention.{IsUnlogged, IsSendAt, IsUpToFirst
 use Rattle.race_verdicts.specs.Luck.Tables.{IsFirst, IsLast}
 use Rattle.race_verdicts.proofs.LuckLemmas.TableLemmas.{some_same}
 
--- a host more
+-- one more host
 pub invented_more : (hosts : List (List Item)) (place : ℕ) (old new : List (Option ℕ)) (items : List Item) (first : Option ℕ) → place < length hosts → items ≡ get_or hosts place [] → length old ≡ length hosts
     → new ≡ set old place first → IsFirst (IsUnlogged items) (length items + 1) first
     → ((p : ℕ) → p < place → IsFirst (IsUnlogged (get_or hosts p [])) (length (get_or hosts p []) + 1) (get_or old p None))
@@ -29,7 +29,7 @@ invented_more hosts place old new items first within is whole new_is found each 
           (subst (λ l. IsFirst (IsUnlogged l) (length l + 1) first) is found))
     ]
 
--- an event less to look at
+-- one event less
 pub no_send_more : (events : List Event) (index count : ℕ) (m : Event) → index < length events → m ≡ get_or events index m → ((q : ℕ) × (is_send_to q m ≡ true) → ⊥)
     → ((k : ℕ) → index + 1 < k → k < count + 1 → IsSendAt events k → ⊥) → (k : ℕ) → index < k → k < count + 1 → IsSendAt events k → ⊥
 no_send_more events index count m within is not none k low high send =
@@ -71,7 +71,7 @@ module _ (c : Chart) (invented : List (Option ℕ)) (q : ℕ) where
           go zero send_to = absurd (cc send_to.1)
           go (suc k) send_to = omega arith
 
-  -- the last send tells of all before it
+  -- the last send decides for all before it
   pub known_last : (count index : ℕ) (r : Bool) → IsLast (IsSendAt (c q)) (count + 1) (Some index) → (IsTrue r ↔ IsKnownSend c invented q index) → IsTrue r ↔ IsKnownBy c invented q count
   known_last count index r last stated = (
     λ yes. (index, (let low = last.0 in omega arith), stated.0 yes),
@@ -88,7 +88,7 @@ module _ (c : Chart) (invented : List (Option ℕ)) (q : ℕ) where
     λ known. let send = known.2 in absurd (none known.0 (let low = known.1 in omega arith) send.send),
   )
 
-  -- nothing is known by no event
+  -- the first 0 events have no known send
   pub none_by_zero : IsKnownBy c invented q 0 → ⊥
   none_by_zero known =
       let send = known.2 in
@@ -116,7 +116,7 @@ module _ (c : Chart) (invented : List (Option ℕ)) (q : ℕ) where
     λ past. known_later known.0 j (let early = known.1 in omega arith) send known.2,
   )
 
--- what is up to a send, by the first events of the lines
+-- events up to a send, by the first events of the lines
 module _ (c : Chart) (invented : List (Option ℕ)) (q j : ℕ) (send : IsSend c (at q j)) (numbered : AreNumbered invented) (fronts : List ℕ) (whole : length fronts ≡ length invented) (reached : IsReached c (at q j) fronts) where
   pub known_reached : IsKnownSend c invented q j ↔ HasInvented invented fronts
   known_reached = (there, back)

@@ -21,7 +21,7 @@ pub ith_contained : (items : List Item) (i : ℕ) (x : Item) → ith items i ≡
 ith_contained items zero x is = absurd (cc is)
 ith_contained items (suc i) x is = contained_get items i x is
 
--- the line on which it stands
+-- the host has the event at the place
 pub record IsOnHost (rec : RecordingView) (e : Place) (i : Item) : Type 0 where
   pub host : ℕ
   pub instance : e.instance ≡ suc host
@@ -49,7 +49,7 @@ of_log lines rec are e i is =
     let all : All (IsOfLog rec.lines) items = All-contains (All (IsOfLog rec.lines)) rec.hosts items are.items (on.host, on.within, get_or_default rec.hosts on.host items [] on.within) in
     All-contains (IsOfLog rec.lines) items i all (ith_contained items e.index i on.is)
 
--- the events of a host that was read
+-- the host whose events were read
 pub hosts_read : (hosts : List (List Item)) (q p : ℕ) (items : List Item) → q ≡ suc p → (i : ℕ) → 1 ≤ i → i ≤ length (host_items hosts q) → items ≡ get_or hosts p items → items ≡ host_items hosts q
 hosts_read hosts q p items is i low high read =
     let there : i ≤ length (get_or hosts p []) = subst (λ k. i ≤ length (host_items hosts k)) is high in

@@ -1,4 +1,4 @@
--- The first reason that applies, reason by reason.
+-- The first reason that applies, one reason after the other.
 use Rattle.std.proofs.Common.{◌≡◌, ℕ, zero, suc, ◌<◌, ◌↔◌, inl, inr, Bool, true, false, List, None, Some, length, refl, sym, ap, ◌∙◌, subst, arith}
 use Rattle.std.specs.Prelude.{IsTrue}
 use Rattle.std.proofs.lemmas.Bool.{cases_lt, false≢true}
@@ -27,12 +27,12 @@ use Rattle.race_verdicts.specs.declared.verdict.Verdict.TheVariants.{Luck, Earli
 pub false_not : {P : Type 0} (r : Bool) → (IsTrue r ↔ P) → r ≡ false → P → ⊥
 false_not r stated fails p = false≢true (sym fails ∙ stated.1 p)
 
--- the number of the line that names a message is one of the log's
+-- the line that identifies a message is a line of the log
 pub named_within : (lines : List LogLine) (m : MessageNo) → IsNamed lines m → naming_line m < length lines
 named_within lines (messages.Sent n) its = slice_get_within lines n its.line its.is
 named_within lines (messages.Begun n) its = its
 
--- of what is in the log
+-- for an event and a message that are both in the log
 module _ (rec : RecordingView) (k : ℕ) (own : MessageNo) (s : ℕ) where
   pub logged_would_not : (IsAhead rec.lines k s → ⊥) → (WouldTake rec k s → ⊥) → IsLoggedVerdict rec k own s WouldNotTake
   logged_would_not not_ahead not_take = record { reason = not_take; first = first }
@@ -152,7 +152,7 @@ module _ (lines : List LineView) (rec : RecordingView) (r e : Place) (receive ea
       first = λ other less its. logged.first other less (logged_of other no_send not_begun its);
     }
 
--- of an event of a line and a sent message nothing is begun but what comes before
+-- a logged event and a sent message are begun in the middle only if an invented send comes before
 pub not_begun : (lines : List LineView) (rec : RecordingView) (r : Place) (receive earlier : Item) (k s : ℕ) → earlier.line ≡ Some k → receive.message ≡ messages.Sent s
     → ((e : Place) → IsInvented rec e → Before (chart_lines lines) e r → ⊥) → IsBegunBefore lines rec r receive earlier → ⊥
 not_begun lines rec r receive earlier k s line send none (unlogged no_line) = absurd (let one : None ≡ Some k = sym no_line ∙ line in cc one)
@@ -198,7 +198,7 @@ one_verdict lines rec r e a b of_a of_b =
           ]
     ]
 
--- a message that no line sends is begun
+-- a message that no line sends is begun in the middle
 pub begun_of : (m : MessageNo) → ((s : ℕ) → m ≡ messages.Sent s → ⊥) → (n : ℕ) × (m ≡ messages.Begun n)
 begun_of (messages.Sent s) none = absurd (none s refl)
 begun_of (messages.Begun n) none = (n, refl)

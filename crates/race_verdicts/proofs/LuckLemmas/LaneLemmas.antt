@@ -1,4 +1,4 @@
--- The sends of lanes, one before the other, and until when they were taken, line by line.
+-- The sends of each lane, linked to the ones before them, and the lines by which they were taken, line by line.
 use Rattle.std.proofs.Common.{◌≡◌, ℕ, ◌+◌, ◌<◌, ◌≤◌, ◌==◌, ◌&&◌, inl, inr, max, Bool, true, false, List, Option, None, Some, length, get_or, set, cond, refl, sym, ap, ap₂, ◌∙◌, subst, arith, eqb-true, eq-eqb}
 use Rattle.std.specs.Prelude.{slice_get, is_some}
 use Rattle.std.proofs.lemmas.Bool.{cases_eq, cases_lt, and_parts, false≢true}
@@ -31,7 +31,7 @@ module _ (lines : List LogLine) (i : ℕ) (x : LogLine) (here : slice_get lines 
   sends_on : (q p : ℕ) (its : IsOnLane lines q p i) → is_send x.entry.kind ≡ true
   sends_on q p its = ap (λ (y : LogLine). is_send y.entry.kind) (sym (line_on q p its)) ∙ its.sends
 
-  -- the table of sends, where the line is another one, or a send
+  -- the table of sends, if the line isn't a send, or is one
   pub record AreMore (new : List (Option ℕ)) : Type 0 where
     pub whole : length new ≡ length lines
     pub each : (n q p : ℕ) → n < i + 1 → IsOnLane lines q p n → IsLast (IsTakenOnLane lines q p) n (get_or new n None)
@@ -65,7 +65,7 @@ module _ (lines : List LogLine) (i : ℕ) (x : LogLine) (here : slice_get lines 
         ];
   }
 
-  -- the last sends, where no line takes what it sends, or one does
+  -- the last sends, if no line takes the message, or one does
   module _ (takers : List (Option ℕ)) (taken : AreTakers lines takers) where
     here_taken : IsFirst (Takes lines i) (length lines) (get_or takers i None)
     here_taken = taken.each i (slice_get_within lines i x here)
@@ -119,7 +119,7 @@ module _ (lines : List LogLine) (i : ℕ) (x : LogLine) (here : slice_get lines 
             (sym e ∙ ap₂ (λ a b. a && b) (eq-eqb x.entry.host q (ap (λ (y : LogLine). y.entry.host) (sym one) ∙ on.sender)) (eq-eqb x.entry.peer p (ap (λ (y : LogLine). y.entry.peer) (sym one) ∙ on.receiver))))
             (so_far.lasts.each q p)
 
-  -- both
+  -- both tables
   pub above_next : (new lasts : List (Option ℕ)) → AreMore new → AreLastSends lines (i + 1) lasts → AreAboveSoFar lines (i + 1) new lasts
   above_next new lasts more are = record { whole = more.whole; each = more.each; lasts = are }
 
@@ -129,7 +129,7 @@ above_all lines i above last past so_far = record {
   each = λ n q p its. so_far.each n q p (let within = slice_get_within lines n its.line its.is in omega arith) its;
 }
 
--- until when sends were taken
+-- the lines by which sends were taken
 module _ (lines : List LogLine) (above takers over : List (Option ℕ)) (are : AreAbove lines above) (taken : AreTakers lines takers) (i : ℕ) (within : i < length lines) (whole : length over ≡ length lines)
     (each : (n : ℕ) → n < i → IsOver lines over n) where
   taken_here : (t : ℕ) → get_or takers i None ≡ Some t → IsTakenUpTo lines i t
@@ -138,7 +138,7 @@ module _ (lines : List LogLine) (above takers over : List (Option ℕ)) (are : A
   later : (o t u : ℕ) → t ≤ u → IsTakenUpTo lines o t → IsTakenUpTo lines o u
   later o t u low its = record { taker = its.taker; takes = its.takes; early = let early = its.early in omega arith }
 
-  -- what was found for the line
+  -- the entry for the line
   over_here : (up taker : Option ℕ) → get_or above i None ≡ up → get_or takers i None ≡ taker → (t q p : ℕ) → until_of up taker over ≡ Some t → IsOnLane lines q p i
       → (o : ℕ) → o ≤ i → IsTakenOnLane lines q p o → IsTakenUpTo lines o t
   over_here None taker up_is taker_is t q p is its o low other =

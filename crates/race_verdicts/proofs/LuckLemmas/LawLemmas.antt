@@ -1,5 +1,5 @@
--- Where the verdict of a log's race is luck, some run comes to a moment at which the earlier receive could have had the
--- later message.
+-- If the verdict on a log's race is luck, some run has a moment at which the earlier receive could have had the later
+-- message.
 use Rattle.std.proofs.Common.{◌≡◌, ℕ, zero, suc, ◌+◌, ◌-◌, ◌<◌, ◌≤◌, ◌==◌, inl, inr, true, false, cond, List, [], Option, None, Some, length, refl, sym, ap, ◌∙◌, subst, arith, eqb-true}
 use Rattle.std.specs.Prelude.{Contains, slice_get}
 use Rattle.std.proofs.Math.Path.{fun_ext}
@@ -48,7 +48,7 @@ use Rattle.race_verdicts.proofs.LuckLemmas.LogLemmas.{line_at}
 use Rattle.race_verdicts.proofs.LuckLemmas.MomentLemmas.{line_reached, run, moment, is_run, begins_run, line_came, not_yet, send_came, waits_still}
 use Rattle.reordering.specs.OtherRuns.OtherRuns.{HasCome}
 
--- some run of a possible chart comes to such a moment
+-- some run of a possible chart has such a moment
 pub record HasMoment (n : ℕ) (c : Chart) (e s r : Place) : Type 0 where
   pub run : List Occurrence
   pub moment : List Occurrence
@@ -78,7 +78,7 @@ has_moment n c (h, k, legal, same) s r e =
     })
 
 module _ (n : ℕ) (from to : ℕ → ℕ) (log : List Entry) (lanes : AreOfLanes from to log) (rec : RecordingView) (of : IsOfEntries n log rec) (keeps : IsRecording (chart_from log 1 (host_lines n log)) rec) where
-  -- an event of a host in the recording
+  -- an event of a host is in the recording
   item_here : (f : Place) (x : Item) → 1 ≤ f.instance → f.instance ≤ n → ith (line_of n log f.instance) f.index ≡ Some x → item_at rec f ≡ Some x
   item_here f x low high is = go f.instance low high is
     where
@@ -86,13 +86,13 @@ module _ (n : ℕ) (from to : ℕ → ℕ) (log : List Entry) (lanes : AreOfLane
       go zero one two here = absurd (omega (arith, one))
       go (suc p) one two here = ap (λ hosts. ith (host_items hosts (suc p)) f.index) of.events ∙ ap (λ items. ith items f.index) (host_is n log p [] (omega (arith, two))) ∙ here
 
-  -- a line of the log that stays is one of the recording
+  -- a kept line of the log is in the recording
   line_kept : (x : LogLine) → Contains (kept log) x → Contains rec.lines x
   line_kept x has =
       subst (λ l. Contains l x) (sym of.lines)
       (All-contains (Contains (matched log)) (kept log) x (All-filter (λ y. stays (fate_of (matched log) y)) (Contains (matched log)) (matched log) (All-contains_itself (matched log))) has)
 
-  -- a logged event is one of a line
+  -- a logged event has a line
   pub record IsLineAt (q : ℕ) (i : Item) : Type 0 where
     pub line : LogLine
     pub among : Contains rec.lines line
@@ -113,7 +113,7 @@ module _ (n : ℕ) (from to : ℕ → ℕ) (log : List Entry) (lanes : AreOfLane
       go v same (after y r y_in y_host there item stands) = never r (ap (λ (x : Item). x.message) (sym item ∙ same) ∙ message)
       go v same (own y y_in y_host item stands) = record { line = y; among = line_kept y y_in; host = y_host; is = sym same ∙ item }
 
-  -- what a line's event says of it
+  -- the line of a sent message is the one that identifies it
   sends_line : (x : LogLine) (s : ℕ) → is_send x.entry.kind ≡ true → message_of x ≡ messages.Sent s → x.number ≡ s
   sends_line x s sends message =
       let its : messages.Sent x.number ≡ messages.Sent s = sym (ap (λ b. cond b (messages.Sent x.number) (received_message x.number x.send)) sends) ∙ message in
@@ -129,7 +129,7 @@ module _ (n : ℕ) (from to : ℕ → ℕ) (log : List Entry) (lanes : AreOfLane
   abbrev c : Chart
   c = chart_of_log n log
 
-  -- whom a send is to
+  -- the receiver of a send
   sent_to_host : (o d : Place) → BelongsTo c o d → (i : Item) → ith (line_of n log o.instance) o.index ≡ Some i → i.partner ≡ d.instance
   sent_to_host o d belongs i is =
       let x = item_of_event n log o belongs.sent.0 belongs.sent.1 in

@@ -1,4 +1,4 @@
--- A search backwards that marks lines, send by send.
+-- A backward search that marks lines, from send to send.
 use Rattle.std.proofs.Common.{◌≡◌, ℕ, ◌+◌, ◌<◌, ◌≤◌, ◌==◌, ◌&&◌, inl, inr, Bool, true, false, List, [], ◌∷◌, ◌++◌, Option, None, Some, length, get_or, set, map, replicate, refl, sym, ap, ap₂, ◌∙◌, subst, arith, eqb-true}
 use Rattle.std.specs.Prelude.{slice_get, is_some, Contains}
 use Rattle.std.proofs.lemmas.Bool.{cases_eq, false≢true, eq-eqb}
@@ -23,7 +23,7 @@ use Rattle.race_verdicts.proofs.LuckLemmas.TableLemmas.{some_same, none_at, none
 abbrev no_mark : Option ℕ
 no_mark = None
 
--- what is marked was seen
+-- exactly the marked lines were seen
 pub seen_at : (marks : List (Option ℕ)) (a : ℕ) → get_or (map (is_some {T = ℕ}) marks) a false ≡ is_some (get_or marks a None)
 seen_at marks a = get_or-map (is_some {T = ℕ}) marks a no_mark
 
@@ -37,7 +37,7 @@ seen_marked marks a its = go (get_or marks a None) refl (sym (seen_at marks a) �
     go (Some m) e its = (m, e)
     go None e its = absurd (false≢true its)
 
--- one line more
+-- one more line
 pub reached_marked : (marks : List (Option ℕ)) (stack stacked : List ℕ) (n mark : ℕ) (new : List (Option ℕ)) → n < length marks → is_some (get_or marks n None) ≡ false → new ≡ set marks n (Some mark)
     → stacked ≡ stack ++ n ∷ [] → HasReached (Some n) (map (is_some {T = ℕ}) marks) stack (map (is_some {T = ℕ}) new) stacked
 reached_marked marks stack stacked n mark new within none is pushed =
@@ -62,7 +62,7 @@ marked_then mark one two three first second = record {
       ];
 }
 
--- nothing so far
+-- no line yet
 pub passed_none : (lines : List LogLine) (tops sends : List (Option ℕ)) (host : ℕ) (marks : List (Option ℕ)) (stack : List ℕ) → marks ≡ replicate (length lines) None → stack ≡ []
     → HasPassed lines tops sends host 0 marks stack
 passed_none lines tops sends host marks stack is empty = record {
@@ -103,7 +103,7 @@ module _ (lines : List LogLine) (log : IsLog lines) where
       both {a = false} e = absurd (false≢true e)
 
   module _ (tops sends : List (Option ℕ)) (sources : AreSources lines (length lines) tops sends) (host i : ℕ) (marks : List (Option ℕ)) (stack : List ℕ) (passed : HasPassed lines tops sends host i marks stack) where
-    -- a later send of the host comes behind all that was found
+    -- a later send of the host comes after all lines that were found
     pub before_send : (s : ℕ) → i ≤ s → IsSendOf lines host s → AreBefore tops sends (map (is_some {T = ℕ}) marks) s
     before_send s low its a seen =
         let w = seen_marked marks a seen in
@@ -114,7 +114,7 @@ module _ (lines : List LogLine) (log : IsLog lines) where
         (on_host one.line its.line (contained_get lines w.0 one.line one.is) (contained_get lines s its.line its.is) (log.numbered w.0 one.line one.is) (log.numbered s its.line its.is)
         (one.its ∙ sym its.its) (let less = m.0 in omega arith)))
 
-    -- the line is no send of the host
+    -- the line isn't a send of the host
     pub passed_other : (x : LogLine) → slice_get lines i ≡ Some x → (x.entry.host == host && is_send x.entry.kind) ≡ false → HasPassed lines tops sends host (i + 1) marks stack
     passed_other x is fails = record {
       whole = passed.whole;
@@ -131,7 +131,7 @@ module _ (lines : List LogLine) (log : IsLog lines) where
           ];
     }
 
-    -- it is one
+    -- the line is a send of the host
     pub passed_send : (x : LogLine) (new : List (Option ℕ)) (stacked : List ℕ) → slice_get lines i ≡ Some x → IsSendOf lines host i → stacked ≡ [] → IsPast tops sends i (map (is_some {T = ℕ}) new)
         → HaveMarked i marks new → HasPassed lines tops sends host (i + 1) new stacked
     passed_send x new stacked is send empty past more = record {
@@ -169,7 +169,7 @@ module _ (lines : List LogLine) (log : IsLog lines) where
               | inr now ↦ let one : i ≡ m = some_same (sym now.1 ∙ its) in omega (arith, one, same)
             ]
 
-    -- all lines were gone over
+    -- all lines were searched
     pub passed_all : length lines ≤ i → AreFirsts lines host marks
     passed_all past = record {
       sound = λ a m s its low send.

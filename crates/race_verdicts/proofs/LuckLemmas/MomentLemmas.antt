@@ -1,4 +1,4 @@
--- A moment of a run at which all before an event of a line has come, and a later receive's message waits.
+-- A moment of a run at which all events above an event of a line have come, and a later receive's message waits.
 use Rattle.std.proofs.Common.{◌≡◌, ℕ, ◌+◌, ◌≤◌, ◌⊎◌, ◌==◌, inl, inr, max, Bool, true, false, cond, List, [], ◌∷◌, length, refl, sym, ◌∙◌, subst, subst₂, arith, length-append}
 use Rattle.std.proofs.lemmas.Bool.{cases_lt}
 use Rattle.chart.specs.declared.history.Occurrence.{Occurrence}
@@ -31,7 +31,7 @@ use Rattle.reordering.proofs.OtherRunsLemmas.Turns.{IsWithin, within_come, come_
 use Rattle.reordering.proofs.OtherRunsLemmas.Turns.IsWithin.{send, receive}
 use Rattle.reordering.proofs.OtherRunsLemmas.Witnesses.{inner_come, come_inner, parted_causes, parted_events}
 
--- a line gets one event at most
+-- an occurrence adds at most one event to a line
 gets_one : (h : List Occurrence) (p : ℕ) (x : Occurrence) → length (line_gets h p x) ≤ 1
 gets_one h p (Send a b m) = go (a == p)
   where
@@ -46,12 +46,12 @@ gets_one h p (Receive a b c) = go (a == p) (waiting h b a)
     go false ms = omega arith
 gets_one h p (Close a b) = omega arith
 
--- a send that is within, on its lane
+-- a send that is within the numbers, on its lane
 send_within : (c : Chart) (s r : Turns) (q p : ℕ) (t : Place) → t.instance ≡ q → IsSendTo c p t → IsWithin c s r t → tally (is_send_to p) (c q) t.index ≤ s q p
 send_within c s r q p t line sends (send to is le) = subst₂ (λ x y. tally (is_send_to x) (c y) t.index ≤ s y x) (one_receiver c to p t is sends) line le
 send_within c s r q p t line sends (receive from is le) = absurd (not_both c p from t sends is)
 
--- a beginning of a history in which a line has so many events
+-- a beginning of a history in which a line has this number of events
 pub line_reached : (h : List Occurrence) (p m : ℕ) → m ≤ length (chart_of h p) → (f : List Occurrence) × Begins f h × (length (chart_of f p) ≡ m)
 line_reached [] p m le = ([], begins_same [], omega (arith, le))
 line_reached (x ∷ h) p m le = elim (cases_lt (length (chart_of h p)) m) [
@@ -86,7 +86,7 @@ module _ (n k : ℕ) (h : List Occurrence) (legal : IsLegal n k h) (s r : Place)
   within_up f (send q is le) = (front f (IsEvent-from_passes (chart_of h) (is_send_to q) f is).0).1 (turn_from_place (is_send_to q) (chart_of h f.instance) f.index (known f.instance) is le)
   within_up f (receive q is le) = (front f (IsEvent-from_passes (chart_of h) (is_receive_from q) f is).0).1 (turn_from_place (is_receive_from q) (chart_of h f.instance) f.index (known f.instance) is le)
 
-  -- with what had come by a beginning
+  -- together with the events that had come by a beginning of the history
   module _ (past : List Occurrence) (begins : Begins past h) where
     abbrev pub sends : Turns
     sends q p = max (known_sends q p) (length (sent past q p))
@@ -120,7 +120,7 @@ module _ (n k : ℕ) (h : List Occurrence) (legal : IsLegal n k h) (s r : Place)
           ]
     ]
 
-    -- each receive has its send there
+    -- each receive has its send among them
     has_sends : (q p : ℕ) → receives q p ≤ sends q p
     has_sends q p = elim (cases_lt 0 (receives q p)) [
       | inr none ↦ omega (arith, none)
@@ -138,7 +138,7 @@ module _ (n k : ℕ) (h : List Occurrence) (legal : IsLegal n k h) (s r : Place)
           omega (arith, le, turn, last.3)
     ]
 
-    -- and with a slot for each event of the history there are slots enough
+    -- and with a slot for each event of the history there are enough slots
     has_slots : (q p : ℕ) → sends q p ≤ receives q p + (k + length h)
     has_slots q p = omega (arith, tally-le-count_by (is_send_to p) (chart_of h q) (known q), sent_count h q p, sends_short h q p, sent_begins-le past h begins q p)
 
@@ -161,18 +161,18 @@ module _ (n k : ℕ) (h : List Occurrence) (legal : IsLegal n k h) (s r : Place)
     pub begins_run : Begins moment run
     begins_run = inner_first sends receives h h
 
-    -- what has come then
+    -- the events that have come then
     pub come_then : (f : Place) → IsEvent (chart_of h) f → IsWithin (chart_of h) sends receives f → HasCome (chart_of h) moment f
     come_then f here within = come_inner (chart_of h) sends receives h h f within (all_come n k h legal f here)
 
     pub then_come : (f : Place) → HasCome (chart_of h) moment f → IsUpTo (chart_of h) s f ⊎ HasCome (chart_of h) past f
     then_come f come = either f (inner_come (chart_of h) sends receives h h f come).0
 
-    -- the send
+    -- the send has come
     pub send_came : HasCome (chart_of h) moment s
     send_came = come_then s (IsEvent-from_passes (chart_of h) (is_send_to r.instance) s belongs.sent) (from_up s (inl refl))
 
-    -- where the line has all before an event
+    -- if the line has all events above an event
     module _ (e : Place) (earlier : IsEarlier e r) (apart : Before (chart_of h) e r → ⊥) (ends : length (chart_of past e.instance) + 1 ≡ e.index) where
       r_here : IsEvent (chart_of h) r
       r_here = IsEvent-from_passes (chart_of h) (is_receive_from s.instance) r belongs.received

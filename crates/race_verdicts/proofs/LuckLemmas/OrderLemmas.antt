@@ -1,4 +1,4 @@
--- What is ahead of a send in the whole log is what comes before it, host by host and message by message.
+-- The lines ahead of a send in the whole log are those that come before it, host by host and message by message.
 use Rattle.std.proofs.Common.{◌≡◌, ℕ, suc, ◌+◌, ◌<◌, ◌≤◌, ◌↔◌, ◌⊎◌, inl, inr, Bool, true, false, List, [], ◌∷◌, ◌++◌, Option, None, Some, length, get_or, refl, sym, ap, ◌∙◌, subst, arith}
 use Rattle.std.specs.Prelude.{slice_get, Contains, IsTrue}
 use Rattle.std.proofs.Math.Dec.{leb}
@@ -79,7 +79,7 @@ module _ (lines : List LogLine) (log : IsLog lines) where
       let number = log.numbered s send.line send.is in
       subst (IsAhead lines a) number (reaches_ahead a send.line.number (reach a s comes send.line (contained_get lines s send.line send.is) send.sends (inl (sym number))))
 
-  -- what the tables say
+  -- the meaning of the tables
   module _ (s : ℕ) (send : IsSendLine lines s) (line : LogLine) (is : slice_get lines s ≡ Some line) (firsts : List (Option ℕ)) (are : AreFirsts lines line.entry.host firsts) (a : ℕ) where
     its : IsSendOf lines line.entry.host s
     its = record { line = line; is = is; its = refl; sends = ap (λ (l : LogLine). is_send l.entry.kind) (some_same (sym is ∙ send.is)) ∙ send.sends }
@@ -93,7 +93,7 @@ module _ (lines : List LogLine) (log : IsLog lines) where
     pub ahead_none : get_or firsts a None ≡ None → IsTrue false ↔ IsAhead lines a s
     ahead_none none = (λ yes. absurd (false≢true yes), λ ahead. let w = are.all a s its (ahead_comes lines a s ahead) in absurd (cc (none, w.1)))
 
--- the tables of a host more
+-- the tables of one more host
 pub firsts_more : (lines : List LogLine) (place : ℕ) (tables : List (List (Option ℕ))) (more : List (Option ℕ)) → length tables ≡ place → ((p : ℕ) → p < place → AreFirsts lines (suc p) (get_or tables p []))
     → AreFirsts lines (suc place) more → (p : ℕ) → p < place + 1 → AreFirsts lines (suc p) (get_or (tables ++ more ∷ []) p [])
 firsts_more lines place tables more whole each new p within =

@@ -1,4 +1,4 @@
--- Lines of streams in two tables: made from the last line back, left above a line, and taken one by one.
+-- Queues of lines in two tables: built from the last line back, cut at a line, and read one by one.
 use Rattle.std.proofs.Common.{◌≡◌, ℕ, zero, ◌+◌, ◌-◌, ◌<◌, ◌≤◌, ◌==◌, ◌&&◌, ◌||◌, inl, inr, Bool, true, false, List, [], ◌∷◌, Option, None, Some, length, get_or, set, drop, cond, refl, sym, ap, ap₂, ◌∙◌, subst, arith, eqb-true, eq-eqb}
 use Rattle.std.specs.Prelude.{slice_get, filter, not, is_none, nat_lt}
 use Rattle.std.specs.List.{list_any}
@@ -19,7 +19,7 @@ use Rattle.race_verdicts.proofs.LuckLemmas.LogLemmas.{contained_get}
 use Rattle.race_verdicts.proofs.LuckLemmas.TableLemmas.{some_same}
 
 module _ (lines : List LogLine) (sends : Bool) where
-  -- a queue from an earlier line on, and where a line before it is changed
+  -- a queue from an earlier line on, and a queue if a line before it is changed
   pub queue_low : (next : List (Option ℕ)) (low earlier : ℕ) → earlier ≤ low → (entry : Option ℕ) (list : List LogLine) → IsQueue lines sends next low entry list
       → IsQueue lines sends next earlier entry list
   queue_low next low earlier less entry [] q = q
@@ -86,7 +86,7 @@ module _ (lines : List LogLine) (sends : Bool) where
   number_first next low entry [] q = q
   number_first next low entry (x ∷ xs) q = q.0
 
-  -- one list is changed
+  -- one list was changed
   module _ (first next : List (Option ℕ)) (lists : ℕ → List LogLine) (are : AreQueues lines sends first next 0 lists) (c : ℕ) where
     pub queues_with : (entry : Option ℕ) (list : List LogLine) → IsQueue lines sends next 0 entry list → (length first ≤ c → list ≡ []) → AreQueues lines sends (set first c entry) next 0 (with_list lists c list)
     queues_with entry list q past = record {
@@ -129,7 +129,7 @@ module _ (lines : List LogLine) (sends : Bool) where
             (subst (λ l. IsQueue lines sends next 0 (get_or first c None) (drop 1 l)) (sym (queue_none next 0 (get_or first c None) (lists c) (are.each c) none)) none)
         go d false other = are.each d
 
--- lists without what stands above a line
+-- lists without the lines above a line
 module _ (lines : List LogLine) where
   pub open_sends : (next : List (Option ℕ)) (at low : ℕ) (entry : Option ℕ) (list : List LogLine) → IsQueue lines true next low entry list → filter (is_open at) list ≡ list
   open_sends next at low entry [] q = refl
@@ -149,7 +149,7 @@ module _ (lines : List LogLine) where
       let rest = open_all next at (x.number + 1) (omega (arith, q.3)) (get_or next x.number None) xs q.5 in
       subst (λ b. cond b (x ∷ filter (is_open at) xs) (filter (is_open at) xs) ≡ x ∷ xs) (sym (open_later x at q.2 (omega (arith, q.3)))) (ap (λ l. x ∷ l) rest)
 
-  -- lines were left from a queue, and this is the next one
+  -- lines were dropped from a queue, and this is its next one
   pub record HasLeft (next : List (Option ℕ)) (at : ℕ) (list : List LogLine) (entry : Option ℕ) : Type 0 where
     pub low : ℕ
     pub rest : List LogLine
@@ -184,7 +184,7 @@ module _ (lines : List LogLine) where
       let gone = queue_none lines false next left.low entry left.rest left.is none in
       subst (λ l. IsQueue lines false next 0 None l) (sym (left.same ∙ ap (filter (is_open at)) gone)) refl
 
--- how far the walk along a queue may still go
+-- how far the walk along a queue may continue
 abbrev pub left_after : List (Option ℕ) → Option ℕ → ℕ
 left_after next None = zero
 left_after next (Some n) = length next - n + 1
@@ -199,7 +199,7 @@ after_less lines sends next low n entry list q some =
     go within [] e rest = subst (λ k. left_after next k < left_after next (Some n)) (sym rest) (omega arith)
     go within (x ∷ xs) e rest = subst (λ k. left_after next k < left_after next (Some n)) (sym rest.0) (let low_is = rest.3 in let more = rest.4 in omega arith)
 
--- some queue, whatever it leads through: how far it goes on, and the next of it
+-- the walk along any queue ends: its next line, and how far it continues
 pub some_less : (next : List (Option ℕ)) (n : ℕ) (entry : Option ℕ) → entry ≡ Some n → IsSomeQueue next entry → left_after next (get_or next n None) < left_after next entry
 some_less next n entry some queue = subst (λ e. left_after next (get_or next n None) < left_after next e) (sym some) (after_less queue.lines queue.sends next queue.low n entry queue.list queue.is some)
 
@@ -208,11 +208,11 @@ some_goes next n entry some queue =
     let its = queue_some queue.lines queue.sends next queue.low n entry queue.list queue.is some in
     record { lines = queue.lines; sends = queue.sends; list = its.xs; low = n + 1; is = its.rest }
 
--- a line's stream has its place
+-- a line's stream has an entry
 pub stream_in : (lines : List LogLine) → IsLog lines → (n : ℕ) (x : LogLine) → slice_get lines n ≡ Some x → x.entry.stream < length lines
 stream_in lines log n x here = All-contains (λ (y : LogLine). y.entry.stream < length lines) lines x log.streams (contained_get lines n x here)
 
--- made from the last line back
+-- built from the last line back
 module _ (lines : List LogLine) (log : IsLog lines) (sends : Bool) (test : LogLine → Bool) where
   pub queues_begin : (first next : List (Option ℕ)) (n : ℕ) → length lines ≤ n → length first ≡ length lines → length next ≡ length lines → ((c : ℕ) → get_or first c None ≡ None)
       → AreQueues lines sends first next n (of_stream test (drop n lines))
@@ -266,7 +266,7 @@ module _ (lines : List LogLine) (log : IsLog lines) (sends : Bool) (test : LogLi
             (queue_low lines sends (set next n (get_or first x.entry.stream None)) (n + 1) n (omega arith) (get_or first c None) (of_stream test (drop (n + 1) lines) c)
             (queue_set lines sends next n (get_or first x.entry.stream None) (n + 1) (omega arith) (get_or first c None) (of_stream test (drop (n + 1) lines) c) (are.each c)))
 
--- whether a line takes what another one sends
+-- whether a line takes the message of another line
 is_sent : (n : ℕ) (t : Option ℕ) → is_sent_at n t ≡ true → t ≡ Some n
 is_sent n None e = absurd (false≢true e)
 is_sent n (Some t) e = ap (λ k. Some k) (eqb-true t n e)

@@ -1,4 +1,4 @@
--- Neighbouring events of one kind, and the verdict that they have.
+-- Neighbouring events of one kind, and their verdict.
 use Rattle.std.proofs.Common.{◌≡◌, ◌≢◌, ℕ, zero, suc, ◌+◌, ◌-◌, ◌<◌, ◌≤◌, ◌↔◌, ◌⊎◌, inl, inr, Bool, true, false, List, [], ◌∷◌, ◌++◌, Option, None, Some, length, get_or, set, refl, sym, ap, ◌∙◌, subst, arith}
 use Rattle.std.specs.Prelude.{All, IsTrue, min, slice_get}
 use Rattle.std.proofs.lemmas.Bool.{cases_eq, cases_lt, false≢true}
@@ -32,7 +32,7 @@ use Rattle.race_verdicts.specs.Recordings.{RecordingView}
 
 -- Tables.
 
--- whether the next event is alike, by both events
+-- whether the next event is of the same kind, by both events
 pub alike_read : (items : List Item) (k : ℕ) (x y : Item) → slice_get items k ≡ Some x → slice_get items (k + 1) ≡ Some y → (b : Bool) → (IsTrue b ↔ (kind_of y ≡ kind_of x)) → IsTrue b ↔ IsNextAlike items k
 alike_read items k x y is next_is b both = (
   λ yes. record { item = x; is = is; next = y; next_is = next_is; same = both.0 yes },
@@ -42,7 +42,7 @@ alike_read items k x y is next_is b both = (
       both.1 (ap kind_of (sym other) ∙ its.same ∙ ap kind_of one),
 )
 
--- at the end of a line none is
+-- the last event of a line has no next one
 pub alike_none : (items : List Item) (k : ℕ) → k + 1 ≡ length items → IsTrue false ↔ IsNextAlike items k
 alike_none items k last = (λ yes. absurd (false≢true yes), λ its. let within = slice_get_within items (k + 1) its.next its.next_is in absurd (omega (arith, within, last)))
 
@@ -95,7 +95,7 @@ runs_more items old new n run within is have its = λ k low less.
           (w.0, ap (λ t. get_or t k None) is ∙ get_or-set_other old n k (Some run) None other ∙ w.1, w.2)
     ]
 
--- the table of a host more
+-- the table of one more host
 pub hosts_more : (hosts : List (List Item)) (place : ℕ) (tables : List (List (Option ℕ))) (more : List (Option ℕ)) → length tables ≡ place
     → ((p : ℕ) → p < place → HaveRuns (get_or hosts p []) (get_or tables p []) 0) → HaveRuns (get_or hosts place []) more 0 → (p : ℕ) → p < place + 1 → HaveRuns (get_or hosts p []) (get_or (tables ++ more ∷ []) p []) 0
 hosts_more hosts place tables more whole each new p within =
@@ -117,7 +117,7 @@ host_there hosts q p i is low high =
           absurd (let empty = ap length (get_or_past hosts p [] past) in omega (arith, empty, there))
     ]
 
--- what is had of the host of an event
+-- the table of an event's host
 pub runs_there : (hosts : List (List Item)) (tables : List (List (Option ℕ))) → AreRuns hosts tables → (q p i : ℕ) → q ≡ suc p → 1 ≤ i → i ≤ length (host_items hosts q) → (table : List (Option ℕ))
     → table ≡ get_or tables p table → HaveRuns (host_items hosts q) table (i - 1)
 runs_there hosts tables are q p i is low high table read =
@@ -139,7 +139,7 @@ send_line None sends is = absurd (cc is)
 send_line (Some n) true is = (n, refl, refl)
 send_line (Some n) false is = absurd (cc is)
 
--- of one receive it is that one
+-- for a receive of the log the number is 1
 pub alike_alone : (items : List Item) (i n : ℕ) (x : Item) → 0 < n → ith items i ≡ Some x → kind_of x ≡ Receive → AreAlike items i n 1
 alike_alone items i n x some is receive = record {
   some = omega arith;
@@ -150,7 +150,7 @@ alike_alone items i n x some is receive = record {
   longest = λ y z less y_is z_is one. one.1 (ap kind_of (some_same (sym y_is ∙ is)) ∙ receive);
 }
 
--- of others as many as the table has, or all
+-- for other events it is the table's, or all of them if they are fewer
 pub alike_run : (items : List Item) (i n run : ℕ) (x : Item) → 1 ≤ i → 0 < n → ith items i ≡ Some x → (kind_of x ≡ Receive → ⊥) → IsRun items (i - 1) run → (count : ℕ) → count ≡ min run n → AreAlike items i n count
 alike_run items zero n run x low some is other its count smaller = absurd (omega (arith, low))
 alike_run items (suc k) n run x low some is other its count smaller =
@@ -172,7 +172,7 @@ alike_run items (suc k) n run x low some is other its count smaller =
 
 -- Verdicts.
 
--- a receive whose send is a line's is begun in the middle if an invented send comes before it
+-- a receive of a sent message is begun in the middle if an invented send comes before it
 pub begun_sent : (lines : List LineView) (rec : RecordingView) (r : Place) (receive : Item) (s : ℕ) → item_at rec r ≡ Some receive → receive.message ≡ messages.Sent s → (b : Bool)
     → (IsTrue b ↔ ((e : Place) × IsInvented rec e × Before (chart_lines lines) e r)) → IsTrue b ↔ IsBegun lines rec r
 begun_sent lines rec r receive s is send b both = (λ yes. let w = both.0 yes in before w.0 w.1 w.2, go)
@@ -192,7 +192,7 @@ pub receive_there : (lines : List LineView) (q : ℕ) (r : Place) → IsReceiveF
 receive_there lines q r its = ith_within (chart_lines lines r.instance) r.index its.0 its.1
 
 module _ (lines : List LineView) (rec : RecordingView) (keeps : IsRecording lines rec) (r : Place) where
-  -- what is begun in the middle is so before each earlier event
+  -- a receive that is begun in the middle is so for each earlier event
   begun_of_any : (receive earlier : Item) → item_at rec r ≡ Some receive → IsBegun lines rec r → IsBegunBefore lines rec r receive earlier
   begun_of_any receive earlier is (itself x n x_is message) =
       let same : receive ≡ x = some_same (sym is ∙ x_is) in
@@ -205,14 +205,14 @@ module _ (lines : List LineView) (rec : RecordingView) (keeps : IsRecording line
       let y = item_there lines rec keeps (place_of e) here in
       verdict_begun lines rec r (place_of e) x.0 y.0 x.1 y.1 (begun_of_any x.0 y.0 x.1 begun)
 
-  -- so all have one verdict
+  -- so all earlier events have one verdict
   pub begun_verdicts : IsEvent (chart_lines lines) r → IsBegun lines rec r → (events : List EventNo) → All (λ (e : EventNo). IsEvent (chart_lines lines) (place_of e)) events
       → All (λ (e : EventNo). IsVerdict lines rec r (at e.instance e.index) BegunInTheMiddle) events
   begun_verdicts receive begun events all =
       All-weaker (λ (e : EventNo). IsEvent (chart_lines lines) (place_of e)) (λ (e : EventNo). IsVerdict lines rec r (at e.instance e.index) BegunInTheMiddle) (begun_verdict receive begun) events all
 
   module _ (not_begun : IsBegun lines rec r → ⊥) where
-    -- so have events that are alike
+    -- events of one kind have one verdict too
     not_begun_before : (receive earlier : Item) (n : ℕ) → item_at rec r ≡ Some receive → earlier.line ≡ Some n → IsBegunBefore lines rec r receive earlier → ⊥
     not_begun_before receive earlier n is line (unlogged none) = absurd (cc (none, line))
     not_begun_before receive earlier n is line (begun_itself m message) = not_begun (itself receive m is message)
@@ -258,7 +258,7 @@ all_from P p i (suc n) each =
     All-cons P (record { instance = p; index = i }) (events_from p (i + 1) n) (subst (λ k. P (record { instance = p; index = k })) here (each 0 (omega arith)))
     (all_from P p (i + 1) n (λ j less. let next : i + suc j ≡ i + 1 + j = omega arith in subst (λ k. P (record { instance = p; index = k })) next (each (suc j) (omega (arith, less)))))
 
--- and each of them has it
+-- and each of them has the fact
 pub each_from : (P : EventNo → Type 0) (p i n : ℕ) → All P (events_from p i n) → (j : ℕ) → j < n → P (record { instance = p; index = i + j })
 each_from P p i zero all j less = absurd (omega (arith, less))
 each_from P p i (suc n) all zero less =

@@ -7,7 +7,7 @@ use Rattle.race_verdicts.specs.Luck.Tables.{IsFirst, IsLast, IsNoted}
 pub some_same : {A : Type 0} {a b : A} → Some a ≡ Some b → a ≡ b
 some_same e = cc e
 
--- the first one, with one number more
+-- the first number, with one more number
 module _ (P : ℕ → Type 0) (n : ℕ) where
   pub first_pass : (entry : Option ℕ) → (P n → ⊥) → IsFirst P n entry → IsFirst P (n + 1) entry
   first_pass None none are =
@@ -23,7 +23,7 @@ module _ (P : ℕ → Type 0) (n : ℕ) where
   pub first_found : P n → IsFirst P n None → IsFirst P (n + 1) (Some n)
   first_found p are = (omega arith, p, are)
 
--- a number more is noted, of which the fact holds for the key alone
+-- one more number is stored, for which the fact holds only of this key
 pub first_noted : (P : ℕ → ℕ → Type 0) (count n key : ℕ) (old new : List (Option ℕ)) → length old ≡ count → IsNoted old new key n → ((k : ℕ) → P k n → k ≡ key) → P key n
     → ((k : ℕ) → k < count → IsFirst (P k) n (get_or old k None)) → (k : ℕ) → k < count → IsFirst (P k) (n + 1) (get_or new k None)
 first_noted P count n key old new whole noted alone here are k within =
@@ -42,7 +42,7 @@ first_noted P count n key old new whole noted alone here are k within =
 abbrev no_entry : Option ℕ
 no_entry = None
 
--- a table with no entries
+-- a table without entries
 pub none_at : (count k : ℕ) → get_or (replicate count no_entry) k no_entry ≡ None
 none_at count k =
     elim (cases_lt k count) [
@@ -50,19 +50,19 @@ none_at count k =
       | inr past ↦ get_or_past {X = Option ℕ} (replicate count no_entry) k no_entry (let whole = length-replicate {A = Option ℕ} count no_entry in omega arith)
     ]
 
--- says that the fact holds of none so far
+-- its entries state that the fact holds of no number so far
 pub first_none : (P : ℕ → ℕ → Type 0) (count : ℕ) (table : List (Option ℕ)) → table ≡ replicate count None → (k : ℕ) → k < count → IsFirst (P k) 0 (get_or table k None)
 first_none P count table is k within = subst (IsFirst (P k) 0) (sym (ap (λ t. get_or t k None) is ∙ none_at count k)) (λ j less p. absurd (omega arith))
 
 pub none_whole : (count : ℕ) (table : List (Option ℕ)) → table ≡ replicate count None → length table ≡ count
 none_whole count table is = ap length is ∙ length-replicate {A = Option ℕ} count no_entry
 
--- all numbers of which it may hold were gone over
+-- all numbers for which the fact may hold were tried
 pub first_all : (P : ℕ → Type 0) (n i : ℕ) → n ≤ i → ((j : ℕ) → P j → j < n) → (entry : Option ℕ) → IsFirst P i entry → IsFirst P n entry
 first_all P n i low all None are = λ j less p. are j (omega arith) p
 first_all P n i low all (Some m) are = (all m are.1, are.1, are.2)
 
--- the last one, with one number more
+-- the last number, with one more number
 pub last_pass : (P : ℕ → Type 0) (n : ℕ) (entry : Option ℕ) → (P n → ⊥) → IsLast P n entry → IsLast P (n + 1) entry
 last_pass P n None none are =
     λ k less p. elim (cases_eq k n) [

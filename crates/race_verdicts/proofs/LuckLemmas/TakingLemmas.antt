@@ -1,4 +1,4 @@
--- What patterns fit, and where it is told what a receive would have taken.
+-- Messages that fit patterns, and the places of the patterns of a line.
 use Rattle.std.proofs.Common.{◌≡◌, ℕ, ◌+◌, ◌<◌, ◌≤◌, ◌↔◌, Bool, true, false, List, [], ◌∷◌, ◌++◌, Option, None, Some, length, get_or, drop, map, inl, inr, refl, sym, ap, ◌∙◌, subst, arith}
 use Rattle.std.specs.Prelude.{IsTrue, slice_get, option_map, AllPairs, Contains}
 use Rattle.std.proofs.lemmas.Bool.{cases_eq, cases_lt, false≢true}
@@ -32,7 +32,7 @@ name_whole names name r uncut equal = (λ is. whole (equal.0 is), back)
 pub fits_both : (p : PatternView) (w : WordsView) (r : Bool) → FitsSender p.peer w.host → IsTrue r ↔ FitsName p.names w.name → IsTrue r ↔ Fits p w
 fits_both p w r sender name = (λ is. record { sender = sender; name = name.0 is }, λ f. name.1 f.name)
 
--- one told more
+-- one more pattern
 pub placed_more : (taken : List Taken) (count i : ℕ) (old new : List (Option ℕ)) (d : Taken) → i < length taken → length old ≡ count → IsNoted old new (get_or taken i d).line i
     → ((k : ℕ) → k < count → IsFirst (IsOfLine (map taken_view taken) k) i (get_or old k None)) → (k : ℕ) → k < count → IsFirst (IsOfLine (map taken_view taken) k) (i + 1) (get_or new k None)
 placed_more taken count i old new d within old_whole noted =
@@ -45,7 +45,7 @@ placed_more taken count i old new d within old_whole noted =
     line_of : (k : ℕ) → (its : IsOfLine (map taken_view taken) k i) → its.stated.line ≡ (get_or taken i d).line
     line_of k its = ap (λ (t : TakenView). t.line) (some_same (sym its.is ∙ here))
 
--- and all
+-- all patterns
 pub placed_all : (taken : List Taken) (count i : ℕ) (table : List (Option ℕ)) → length taken ≤ i → length table ≡ count → ((k : ℕ) → k < count → IsFirst (IsOfLine (map taken_view taken) k) i (get_or table k None))
     → ArePlaced (map taken_view taken) count table
 placed_all taken count i table past table_whole each = record {
@@ -59,7 +59,7 @@ placed_all taken count i table past table_whole each = record {
     low : length (map taken_view taken) ≤ i
     low = let same = length-map taken taken_view in omega arith
 
--- what is told of line k before a place doesn't fit
+-- the patterns of line k before a place don't fit
 abbrev pub AreUnfit : List TakenView → ℕ → WordsView → ℕ → Type 0
 AreUnfit taken k w i = (j : ℕ) (t : TakenView) → j < i → slice_get taken j ≡ Some t → t.line ≡ k → Fits t.pattern w → ⊥
 
@@ -70,7 +70,7 @@ unfit_more taken k i w t is not are =
       | inr other ↦ are j u (omega arith) u_is line fits
     ]
 
--- none fits, where none before the place does and there the next line's begin, or all were gone over
+-- no pattern fits, if none before the place does, and the patterns of line k end there
 pub none_fitting : (taken : List TakenView) (k i : ℕ) (w : WordsView) → ((j : ℕ) (t : TakenView) → i ≤ j → slice_get taken j ≡ Some t → t.line ≡ k → ⊥) → AreUnfit taken k w i → IsFitting taken k w → ⊥
 none_fitting taken k i w none are f =
     let is = slice_get-get_or taken f.among.0 f.stated f.among.1 ∙ ap (λ t. Some t) f.among.2 in
@@ -79,7 +79,7 @@ none_fitting taken k i w none are f =
       | inr past ↦ none f.among.0 f.stated past is f.line
     ]
 
--- the first of the line stands before this place, at which another line's stands
+-- line k has patterns before this place, and the pattern at the place is another line's
 pub past_line : (taken : List TakenView) (k first i : ℕ) (t : TakenView) → AllPairs (λ a b. a.line ≤ b.line) taken → IsFirst (IsOfLine taken k) (length taken) (Some first) → first ≤ i
     → slice_get taken i ≡ Some t → (t.line ≡ k → ⊥) → (j : ℕ) (u : TakenView) → i ≤ j → slice_get taken j ≡ Some u → u.line ≡ k → ⊥
 past_line taken k first i t rising is_first before is other j u past u_is line =
@@ -103,7 +103,7 @@ past_line taken k first i t rising is_first before is other j u past u_is line =
           ]
     ]
 
--- what was told at a place
+-- the pattern at a place
 module _ (taken : List Taken) (i : ℕ) (d : Taken) (within : i < length taken) where
   pub known_at : slice_get (map taken_view taken) i ≡ Some (taken_view (get_or taken i d))
   known_at = slice_get-map taken_view taken i ∙ ap (option_map taken_view) (slice_get-get_or taken i d within)
@@ -118,7 +118,7 @@ module _ (taken : List Taken) (k first : ℕ) (w : WordsView) (is_first : IsFirs
   pub fits_begin : AreUnfit (map taken_view taken) k w first
   fits_begin = λ j t less is line fits. is_first.2 j less (record { stated = t; is = is; line = line })
 
-  -- another line's stands there
+  -- the pattern there is another line's
   pub fits_past : (i : ℕ) (d : Taken) → AllPairs (λ a b. a.line ≤ b.line) (map taken_view taken) → first ≤ i → i < length taken → ((get_or taken i d).line ≡ k → ⊥) → AreUnfit (map taken_view taken) k w i
       → IsTrue false ↔ IsFitting (map taken_view taken) k w
   fits_past i d rising low within other are = (
@@ -128,7 +128,7 @@ module _ (taken : List Taken) (k first : ℕ) (w : WordsView) (is_first : IsFirs
         (past_line (map taken_view taken) k first i (taken_view (get_or taken i d)) rising (omega (arith, is_first.0, same_length), is_first.1, is_first.2) low (known_at taken i d within) other) are f),
   )
 
-  -- one fits
+  -- a pattern fits
   pub fits_here : (i : ℕ) (d : Taken) → i < length taken → ((get_or taken i d).line ≡ k) → Fits (taken_view (get_or taken i d)).pattern w → IsTrue true ↔ IsFitting (map taken_view taken) k w
   fits_here i d within line fits = (λ is. record { stated = taken_view (get_or taken i d); among = known_among taken i d within; line = line; fits = fits }, λ f. refl)
 
@@ -141,7 +141,7 @@ module _ (taken : List Taken) (k first : ℕ) (w : WordsView) (is_first : IsFirs
     λ f. absurd (none_fitting (map taken_view taken) k i w (λ j t low is line. let less = slice_get_within (map taken_view taken) j t is in absurd (omega (arith, less, same_length))) are f),
   )
 
--- in the words of the whole recording
+-- the same for the whole recording
 pub takes_unknown : (rec : RecordingView) (k s : ℕ) → IsFirst (IsOfLine rec.taken k) (length rec.taken) None → IsTrue true ↔ WouldTake rec k s
 takes_unknown rec k s none = (λ is. anything (λ t among line. unknown rec.taken k none t among line), λ takes. refl)
   where
@@ -163,7 +163,7 @@ takes_known rec k s first w r is_first is fitting = (
     back (fitting_one t v among line v_is fits) =
         fitting.1 (record { stated = t; among = among; line = line; fits = subst (Fits t.pattern) (some_same (sym v_is ∙ is)) fits })
 
--- the tables' entries, and the words of a line
+-- the entries of the tables, and the words of a line
 pub entry_placed : (taken : List TakenView) (count : ℕ) (places : List (Option ℕ)) → ArePlaced taken count places → (k : ℕ) → k < count → (entry : Option ℕ) → get_or places k None ≡ entry
     → IsFirst (IsOfLine taken k) (length taken) entry
 entry_placed taken count places placed k within entry is = subst (IsFirst (IsOfLine taken k) (length taken)) is (placed.each k within)

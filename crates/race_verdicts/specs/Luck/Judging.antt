@@ -1,4 +1,4 @@
--- The later reasons, of an event and a message that are both in the log, and what a judge keeps: for the crate's own
+-- The later reasons, for an event and a message that are both in the log; and the parts of a judge: for the crate's own
 -- functions.
 use Rattle.std.specs.Prelude.{◌≡◌, ℕ, ◌<◌, List}
 use Rattle.log_chart.specs.declared.item.Item.{Item}
@@ -15,7 +15,7 @@ use Rattle.race_verdicts.specs.Recordings.{RecordingView}
 use Rattle.race_verdicts.specs.declared.verdict.Verdict.{Verdict}
 use Rattle.race_verdicts.specs.declared.verdict.Verdict.TheVariants.{Luck, EarlierIsSend, BegunInTheMiddle, OrderedByLeftOut, WouldNotTake, PassedOver, BehindAnother}
 
--- the reason of each verdict, of the receive of line k, whose message is `own`, and the message that line s sends
+-- the reason of each verdict, for the receive of line k, whose message is `own`, and the message that line s sends
 abbrev pub IsLoggedReason : RecordingView → ℕ → MessageNo → ℕ → Verdict → Type 0
 IsLoggedReason rec k own s EarlierIsSend = ⊥
 IsLoggedReason rec k own s BegunInTheMiddle = ⊥
@@ -29,7 +29,7 @@ pub record IsLoggedVerdict (rec : RecordingView) (k : ℕ) (own : MessageNo) (s 
   pub reason : IsLoggedReason rec k own s verdict
   pub first : (other : Verdict) → turn_of other < turn_of verdict → IsLoggedReason rec k own s other → ⊥
 
--- all parts are of one recording
+-- all parts belong to one recording
 pub record IsJudge (view : JudgeView) (rec taking arrivals lanes : RecordingView) (order : List LogLine) (runs : List (List Item)) : Type 0 where
   pub recording : IsRecording view.lines view.recording
   pub same : rec ≡ view.recording

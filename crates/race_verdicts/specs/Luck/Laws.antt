@@ -1,5 +1,5 @@
--- What luck means of a log: some other run of its chart's events comes to a moment at which the earlier receive could have
--- had the later message (after the feasible executions of Netzer and Miller 1992, in this project's profile).
+-- The meaning of luck for a log (after the feasible executions of Netzer and Miller 1992, in this project's profile).
+-- Another run of its chart's events has a moment at which the earlier receive could have had the later message.
 use Rattle.std.specs.Prelude.{◌≡◌, ℕ, List, Some}
 use Rattle.chart.specs.Charts.{Chart, Place, BelongsTo, IsPossible, chart_lines}
 use Rattle.chart.specs.Histories.{Begins}
@@ -26,7 +26,7 @@ pub record IsOfEntries (hosts : ℕ) (log : List Entry) (rec : RecordingView) : 
   pub lines : rec.lines ≡ matched log
   pub events : rec.hosts ≡ host_lines hosts log
 
--- all that is earlier on the line of e has come, e hasn't, and what is sent at s, for the receive at r, waits
+-- all events above e on its line have come, e hasn't, and the message that is sent at s waits for the receive at r
 pub record IsReady (c : Chart) (moment : List Occurrence) (e s r : Place) : Type 0 where
   pub earlier : (f : Place) → IsEarlier f e → HasCome c moment f
   pub not_yet : HasCome c moment e → ⊥
@@ -50,8 +50,8 @@ pub record WouldHaveTakenAt (rec : RecordingView) (e o : Place) : Type 0 where
   pub takes : WouldTake rec k s
   pub kept : CameFirst rec (messages.Sent s) earlier.message → ⊥
 
--- some run comes to such a moment, and of the messages that wait there on the lane of s the receive at e would have taken
--- this one, and none before it
+-- some run has such a moment; the receive at e would have taken the message of s, and none of those that wait before it
+-- on its lane
 pub record CouldComeNext (n : ℕ) (c : Chart) (rec : RecordingView) (e s r : Place) : Type 0 where
   pub run : List Occurrence
   pub moment : List Occurrence
@@ -61,7 +61,7 @@ pub record CouldComeNext (n : ℕ) (c : Chart) (rec : RecordingView) (e s r : Pl
   pub first : (o d : Place) → BelongsTo c o d → d.instance ≡ r.instance → IsEarlier o s → (HasCome c moment d → ⊥)
       → WouldHaveTakenAt rec e o → ⊥
 
--- where the verdict of a log's race is luck, this is so
+-- if the verdict on a log's race is luck, there is such a moment
 abbrev pub LuckLaw : Type 0
 LuckLaw = (hosts : ℕ) (from to : ℕ → ℕ) (log : List Entry) → AreOfLanes from to log
     → IsPossible hosts (chart_lines (chart_from log 1 (host_lines hosts log)))

@@ -1,5 +1,5 @@
--- The events of a recording's hosts by their places (places as ITU-T Z.120 numbers the events of an instance: each along
--- its line, from 1).
+-- The events of a recording's hosts by their places (as ITU-T Z.120 numbers the events of an instance: along its line,
+-- from 1).
 use Rattle.std.specs.Prelude.{◌≡◌, ℕ, zero, suc, List, [], Option, None, Some, slice_index_or}
 use Rattle.chart.specs.Charts.{Place}
 use Rattle.chart.specs.Events.{ith}
@@ -18,7 +18,7 @@ items_of rec p = host_items rec.hosts p
 abbrev pub item_at : RecordingView → Place → Option Item
 item_at rec e = ith (items_of rec e.instance) e.index
 
--- at the place is an invented send: it has no line of the log
+-- the event at the place is an invented send: it has no line of the log
 pub record IsInvented (rec : RecordingView) (e : Place) : Type 0 where
   pub item : Item
   pub is : item_at rec e ≡ Some item

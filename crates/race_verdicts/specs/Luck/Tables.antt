@@ -1,17 +1,17 @@
--- Tables with an entry for each of so many numbers, and what entries say (this project's own).
+-- Tables with an entry for each number below a limit, and the meaning of entries (this project's own).
 use Rattle.std.specs.Prelude.{◌≡◌, ◌≢◌, ℕ, ◌<◌, List, length, Option, None, Some, slice_index_or}
 
--- of the numbers below n, the entry is the first of which the fact holds, if there is one
+-- the entry is the first of the numbers below n for which the fact holds, if there is one
 abbrev pub IsFirst : (ℕ → Type 0) → ℕ → Option ℕ → Type 0
 IsFirst P n None = (k : ℕ) → k < n → P k → ⊥
 IsFirst P n (Some m) = (m < n) × P m × ((k : ℕ) → k < m → P k → ⊥)
 
--- of those below n, it is the last
+-- the entry is the last of these numbers
 abbrev pub IsLast : (ℕ → Type 0) → ℕ → Option ℕ → Type 0
 IsLast P n None = (k : ℕ) → k < n → P k → ⊥
 IsLast P n (Some m) = (m < n) × P m × ((k : ℕ) → m < k → k < n → P k → ⊥)
 
--- the number was noted for the key, unless the key had one
+-- the number was stored for the key, unless the key had one
 pub record IsNoted (old new : List (Option ℕ)) (key number : ℕ) : Type 0 where
   pub whole : length new ≡ length old
   pub others : (k : ℕ) → k ≢ key → slice_index_or new k None ≡ slice_index_or old k None

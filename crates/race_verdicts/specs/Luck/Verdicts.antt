@@ -1,5 +1,5 @@
--- Which races of a recording were luck: the program didn't choose, and the later message was the next that the earlier
--- receive would have had (this project's profile of logs). A race that was none has the first reason that applies.
+-- The races of a recording that were luck (this project's profile of logs). The program didn't choose the order, and
+-- the earlier receive would have had the later message next. Any other race has the first reason that applies.
 use Rattle.std.specs.Prelude.{◌≡◌, ℕ, ◌<◌, ◌≤◌, true, List, None, Some, All}
 use Rattle.chart.specs.declared.ranges.EventRange.{EventRange}
 use Rattle.chart.specs.Charts.{Place, at, LineView, chart_lines}
@@ -24,17 +24,18 @@ pub data IsBegunBefore (lines : List LineView) (rec : RecordingView) (r : Place)
   itself : (n : ℕ) → receive.message ≡ messages.Begun n → IsBegunBefore lines rec r receive earlier
   before : (e : Place) → IsInvented rec e → Before (chart_lines lines) e r → IsBegunBefore lines rec r receive earlier
 
--- the send of the receive r is invented, or an invented send is before r in the chart: then this holds of each earlier event
+-- the send of the receive r is invented, or an invented send is before r in the chart; then the above holds for each
+-- earlier event
 pub data IsBegun (lines : List LineView) (rec : RecordingView) (r : Place) : Type 0 where
   itself : (receive : Item) (n : ℕ) → item_at rec r ≡ Some receive → receive.message ≡ messages.Begun n → IsBegun lines rec r
   before : (e : Place) → IsInvented rec e → Before (chart_lines lines) e r → IsBegun lines rec r
 
--- the earlier event is of line k, and line s sends the message of the receive
+-- the earlier event is that of line k, and line s sends the message of the receive
 pub record AreLogged (earlier receive : Item) (k s : ℕ) : Type 0 where
   pub line : earlier.line ≡ Some k
   pub send : receive.message ≡ messages.Sent s
 
--- the reason that each verdict gives, of the receive r and an earlier event
+-- the reason of each verdict, for the receive r and an earlier event
 abbrev pub IsReason : List LineView → RecordingView → Place → Item → Item → Verdict → Type 0
 IsReason lines rec r receive earlier BegunInTheMiddle = IsBegunBefore lines rec r receive earlier
 IsReason lines rec r receive earlier EarlierIsSend = earlier.sends ≡ true
@@ -44,7 +45,7 @@ IsReason lines rec r receive earlier PassedOver = CameFirst rec receive.message 
 IsReason lines rec r receive earlier BehindAnother = (k s : ℕ) × AreLogged earlier receive k s × IsBehind rec k earlier.message s
 IsReason lines rec r receive earlier Luck = Unit {0}
 
--- the order in which reasons count
+-- the order of the reasons
 abbrev pub turn_of : Verdict → ℕ
 turn_of BegunInTheMiddle = 0
 turn_of EarlierIsSend = 1
@@ -54,8 +55,8 @@ turn_of PassedOver = 4
 turn_of BehindAnother = 5
 turn_of Luck = 6
 
--- what is said of the receive and an earlier event of its line, by their places: its reason holds, and none that counts
--- before it does
+-- the verdict on the receive and an earlier event of its line, by their places: its reason holds, and no reason before
+-- it does
 pub record IsVerdict (lines : List LineView) (rec : RecordingView) (r e : Place) (verdict : Verdict) : Type 0 where
   pub receive : Item
   pub earlier : Item
@@ -64,8 +65,9 @@ pub record IsVerdict (lines : List LineView) (rec : RecordingView) (r e : Place)
   pub reason : IsReason lines rec r receive earlier verdict
   pub first : (other : Verdict) → turn_of other < turn_of verdict → IsReason lines rec r receive earlier other → ⊥
 
--- What is answered of the receive and the first of some neighbouring events of its line: its verdict, and how many of them,
--- from the first on, have it. If the receive is begun in the middle, all have. Otherwise it is as many as are of one kind.
+-- The verdict on the receive and the first of some neighbouring events of its line. It comes with the number of events
+-- that have it, from the first on. If the receive is begun in the middle, all have it. Otherwise these are as many as
+-- are of one kind.
 pub record IsVerdictRun (lines : List LineView) (rec : RecordingView) (r : Place) (earlier : EventRange) (run : VerdictRun) : Type 0 where
   pub some : 0 < run.count
   pub within : run.count ≤ earlier.count
@@ -73,7 +75,7 @@ pub record IsVerdictRun (lines : List LineView) (rec : RecordingView) (r : Place
   pub begun : IsBegun lines rec r → run.count ≡ earlier.count
   pub alike : (IsBegun lines rec r → ⊥) → AreAlike (items_of rec earlier.first.instance) earlier.first.index earlier.count run.count
 
--- a pair has one verdict at most
+-- a pair has at most one verdict
 abbrev pub OneVerdictLaw : Type 0
 OneVerdictLaw = (lines : List LineView) (rec : RecordingView) (r e : Place) (a b : Verdict) → IsVerdict lines rec r e a
     → IsVerdict lines rec r e b → a ≡ b

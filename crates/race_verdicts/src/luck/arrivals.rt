@@ -1,4 +1,4 @@
-//! Which message arrived when.
+//! The arrivals of messages, in order.
 ghost use Rattle.std.specs.Prelude.{◌≡◌, ◌<◌, ◌+◌, ◌↔◌, length, None, Some, replicate, slice_get, IfOk, MatchOption, IsTrue};
 ghost use Rattle.log_chart.specs.declared.item.MessageNo.{MessageNo};
 ghost use Rattle.log_chart.specs.Items.{message_of, naming_line};
@@ -28,14 +28,15 @@ fn message_at(lines: &[LogLine], number: usize) -> MessageNo
 /// The messages of each stream that wait for their arrival.
 #[derive(Drop)]
 struct Waiting {
-    /// Those that a line receives, by these lines.
+    /// The messages that a line receives, by their receives.
     received: Queues,
-    /// Those that none receives, by the lines that send them.
+    /// The messages that no line receives, by their sends.
     left: Queues,
 }
 
 impl Waiting {
-    /// The message of an arrival, the next one: of those of its stream the first that waits. It waits no longer.
+    /// The message of the next arrival: the first message of its stream that waits. Afterwards it doesn't wait any
+    /// more.
     fn message_arrived(
         &mut self,
         lines: &[LogLine],
@@ -61,7 +62,8 @@ impl Waiting {
     }
 }
 
-/// For each message the place of its first arrival, if one is told: of messages that a line sends, and of others.
+/// For each message, the place of its first arrival, if the log records one. One table is for messages that a line
+/// sends, and the other one for the rest.
 #[derive(Drop)]
 struct Arrived {
     sent: Table,
@@ -69,7 +71,7 @@ struct Arrived {
 }
 
 impl Arrived {
-    /// None of the messages of so many lines.
+    /// No arrivals, for a log with this number of lines.
     fn none(alloc: Global, count: usize) -> Result<Arrived, AllocError>
         ensures sent { IfOk result (λ arrived. arrived.sent ≡ replicate count None) }
         ensures begun { IfOk result (λ arrived. arrived.begun ≡ replicate count None) }
@@ -90,7 +92,7 @@ impl Arrived {
         }
     }
 
-    /// Notes the place of an arrival of a message, unless it has one.
+    /// Stores the place of a message's arrival, unless it has one.
     fn note(&mut self, message: MessageNo, place: usize)
         requires sent { naming_line message < length self.old.sent }
         requires begun { naming_line message < length self.old.begun }
@@ -123,7 +125,7 @@ fn arrivals_of(
     Ok(found)
 }
 
-/// Which messages arrived before which. A contract sees the recording.
+/// Compares the arrivals of messages. Contracts see the recording.
 #[derive(Drop)]
 pub(crate) struct Arrivals<'a> {
     recording: Recording<'a>,
@@ -143,7 +145,7 @@ impl<'a> Model for Arrivals<'a> {
 }
 
 impl<'a> Arrivals<'a> {
-    /// What is told of arrivals in a recording.
+    /// The arrivals that a recording has.
     pub(crate) fn of(
         alloc: Global,
         recording: Recording<'a>,
@@ -160,7 +162,7 @@ impl<'a> Arrivals<'a> {
         Ok(Arrivals { recording, arrived })
     }
 
-    /// Whether a message had arrived before another, of which an arrival is told too.
+    /// Whether a message arrived before another one, of which the log records an arrival too.
     pub(crate) fn came_first(&self, message: MessageNo, other: MessageNo) -> bool
         requires message { naming_line message < length self.now.lines }
         requires other { naming_line other < length self.now.lines }

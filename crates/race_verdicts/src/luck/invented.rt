@@ -1,4 +1,4 @@
-//! Sends that come behind invented ones.
+//! Sends that come after invented ones.
 ghost use Rattle.std.specs.Prelude.{ℕ, suc, ◌≡◌, ◌+◌, ◌<◌, ◌≤◌, ◌↔◌, length, map, None, Some, slice_index, slice_index_or, true, IfOk, IsTrue};
 ghost use Rattle.chart.specs.declared.instance.TheConstants.{MAX_INSTANCES};
 ghost use Rattle.chart.specs.Events.{is_send_to};
@@ -20,7 +20,7 @@ use log_chart::{HostLine, Item};
 use std::alloc::{AllocError, Global};
 use std::marker::Model;
 
-/// The first of a host's events that is invented, by its number from 1.
+/// The number of a host's first invented event, from 1.
 fn first_invented(items: &[Item]) -> Option<usize>
     ensures { IsFirst (IsUnlogged items.now) (length items.now + 1) result }
 {
@@ -32,7 +32,7 @@ fn first_invented(items: &[Item]) -> Option<usize>
     None
 }
 
-/// The same of each host.
+/// The same for each host.
 fn invented_of(alloc: Global, hosts: &[HostLine]) -> Result<Table, AllocError>
     ensures { IfOk result (AreInvented hosts.now) }
 {
@@ -43,7 +43,7 @@ fn invented_of(alloc: Global, hosts: &[HostLine]) -> Result<Table, AllocError>
     Ok(invented)
 }
 
-/// Whether an event sends.
+/// Whether an event is a send.
 fn is_send(event: &Event) -> bool
     ensures { IsTrue result ↔ ((q : ℕ) × (is_send_to q event.now ≡ true)) }
 {
@@ -53,7 +53,7 @@ fn is_send(event: &Event) -> bool
     }
 }
 
-/// The last send among so many first events of a line, by its number from 1.
+/// The number of the last send among the first `count` events of a line, from 1.
 fn last_send(events: &[Event], count: usize) -> Option<usize>
     requires { count ≤ length events.now }
     ensures { IsLast (IsSendAt events.now) (count + 1) result }
@@ -68,7 +68,7 @@ fn last_send(events: &[Event], count: usize) -> Option<usize>
     None
 }
 
-/// Whether there is a first number, and it isn't above this one.
+/// Whether `first` is given, and is at most `number`.
 fn is_up_to(first: Option<usize>, number: usize) -> bool
     ensures { IsTrue result ↔ IsUpToFirst first number }
 {
@@ -78,7 +78,8 @@ fn is_up_to(first: Option<usize>, number: usize) -> bool
     }
 }
 
-/// Whether an invented event is among the first events of the lines, of each so many.
+/// Whether the first events of the lines include an invented one. `fronts` has how many first events of each line
+/// count.
 fn has_invented(invented: &Table, fronts: &Numbers) -> bool
     ensures { IsTrue result ↔ HasInvented invented.now fronts.now }
 {
@@ -90,7 +91,7 @@ fn has_invented(invented: &Table, fronts: &Numbers) -> bool
     false
 }
 
-/// Whether one of so many first events of a line is a send, and an invented one comes before it or is it.
+/// Whether one of the first `count` events of a line is a send that is invented, or that an invented send comes before.
 fn is_known_by(
     closure: &Closure<'_>,
     invented: &Table,
@@ -114,7 +115,7 @@ fn is_known_by(
     Ok(has_invented(invented, &fronts))
 }
 
-/// The first event of a line that is a send behind an invented one, or is one.
+/// The number of a line's first send that is invented, or that an invented send comes before.
 fn first_known(
     closure: &Closure<'_>,
     invented: &Table,
@@ -142,7 +143,7 @@ fn first_known(
     Ok(Some(high))
 }
 
-/// Whether a table has an entry for one of so many numbers.
+/// Whether a table has an entry for one of the first `count` numbers.
 fn has_entry(table: &Table, count: usize) -> bool
     ensures { IsTrue result ↔ HasEntry table.now count }
 {
@@ -154,7 +155,8 @@ fn has_entry(table: &Table, count: usize) -> bool
     false
 }
 
-/// For each line its first send behind an invented one. Where nothing is invented, nothing is searched.
+/// For each line, its first send that is invented or comes after an invented send. If nothing is invented, nothing is
+/// searched.
 fn known_of(alloc: Global, closure: &Closure<'_>, invented: &Table) -> Result<Table, AllocError>
     requires whole { length invented.now ≡ length closure.now }
     requires numbered { AreNumbered invented.now }
@@ -171,12 +173,12 @@ fn known_of(alloc: Global, closure: &Closure<'_>, invented: &Table) -> Result<Ta
     Ok(known)
 }
 
-/// Which receives of a chart come behind invented sends. A contract sees the chart's lines and the recording.
+/// The receives of a chart that come after invented sends. Contracts see the chart's lines and the recording.
 #[derive(Drop)]
 pub(crate) struct Beginnings<'a> {
     closure: &'a Closure<'a>,
     recording: Recording<'a>,
-    /// For each line its first send behind an invented one.
+    /// For each line, its first send that is invented or comes after an invented send.
     known: Table,
 }
 
@@ -193,7 +195,7 @@ impl<'a> Model for Beginnings<'a> {
 }
 
 impl<'a> Beginnings<'a> {
-    /// Those of a recording and the closure of its chart.
+    /// Finds these receives in a recording, with the closure of its chart.
     pub(crate) fn of(
         alloc: Global,
         closure: &'a Closure<'a>,

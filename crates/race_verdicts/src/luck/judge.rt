@@ -1,4 +1,4 @@
-//! What is said of races in a recording.
+//! Verdicts on the races of a recording.
 ghost use Rattle.std.specs.Prelude.{ℕ, ◌≡◌, ◌<◌, ◌≤◌, ◌↔◌, length, min, Some, All, IfOk, IsTrue};
 ghost use Rattle.chart.specs.Charts.{chart_lines, IsReceiveFrom};
 ghost use Rattle.chart.specs.Events.{ith};
@@ -43,7 +43,7 @@ fn smaller_of(first: usize, second: usize) -> usize
     first.min(second)
 }
 
-/// Says of races in a recording whether they were luck. A contract sees the chart's lines and the recording.
+/// Decides which races of a recording were luck. Contracts see the chart's lines and the recording.
 #[derive(Drop)]
 pub struct Judge<'a> {
     recording: Recording<'a>,
@@ -69,10 +69,10 @@ impl<'a> Model for Judge<'a> {
 }
 
 impl<'a> Judge<'a> {
-    /// The judge of a log's recording, with the closure of its chart. It keeps a number for each line and each host,
-    /// and one for each event.
+    /// The judge of a log's recording, with the closure of its chart. It keeps one number for each pair of a line and a
+    /// host, and one for each event.
     ///
-    /// F6: it fails only where there is no memory.
+    /// F6: it fails only if there is no memory.
     pub fn of(
         alloc: Global,
         recording: Recording<'a>,
@@ -101,7 +101,8 @@ impl<'a> Judge<'a> {
         })
     }
 
-    /// What is said of a receive of this line, which has its own message, and a later one of what another line sends.
+    /// The verdict on the receive of a line, whose message is `own`, and a later receive of the message that line
+    /// `send` sends.
     fn logged_verdict(&self, line: usize, own: MessageNo, send: usize) -> Verdict
         requires line { line < length self.now.recording.lines }
         requires own { naming_line own < length self.now.recording.lines }
@@ -126,8 +127,8 @@ impl<'a> Judge<'a> {
         Verdict::Luck
     }
 
-    /// What is said of a receive and an earlier event of its line. It takes no memory, and nearly the same time for
-    /// each.
+    /// The verdict on a receive and an earlier event of its line. It takes no memory, and nearly the same time for each
+    /// pair.
     pub fn verdict(&self, receive: EventNo, earlier: EventNo) -> Verdict
         requires receive { (q : ℕ) × IsReceiveFrom (chart_lines self.now.lines) q (place_of receive) }
         requires earlier { IsEvent (chart_lines self.now.lines) (place_of earlier) }
@@ -164,8 +165,8 @@ impl<'a> Judge<'a> {
         }
     }
 
-    /// How many of neighbouring events of a host are of one kind from the first on. Of a receive of the log it is that
-    /// one.
+    /// How many of these neighbouring events are of the kind of the first, from the first on. If the first is a receive
+    /// of the log, the number is 1.
     fn alike(&self, earlier: &EventRange) -> usize
         requires range { IsRange earlier.now }
         requires begun { 1 ≤ earlier.now.first.index }
@@ -181,9 +182,10 @@ impl<'a> Judge<'a> {
         smaller_of(run, earlier.count)
     }
 
-    /// The verdict of a receive and the first of these neighbouring events of its line, and how many of them, from the
-    /// first on, have it. If the receive is begun in the middle, all have. Otherwise it is as many as are invented, or
-    /// as are sends of the log, or one receive of the log. It takes no memory, and as long for many events as for one.
+    /// The verdict on a receive and the first of these neighbouring events of its line. It comes with the number of
+    /// events that have it, from the first on. If the receive is begun in the middle, all have it. Otherwise these are
+    /// the invented ones, the sends of the log, or one receive of the log. It takes no memory, and as much time for
+    /// many events as for one.
     pub fn verdict_of_first(&self, receive: EventNo, earlier: EventRange) -> VerdictRun
         requires receive { (q : ℕ) × IsReceiveFrom (chart_lines self.now.lines) q (place_of receive) }
         requires range { IsRange earlier }
@@ -203,7 +205,7 @@ impl<'a> Judge<'a> {
     }
 }
 
-/// A receive and an earlier event have one verdict at most.
+/// A receive and an earlier event have at most one verdict.
 pub fn one_verdict_law()
     ensures { OneVerdictLaw }
 {}

@@ -1,4 +1,4 @@
-//! Messages of a lane behind others.
+//! Messages that are behind others of their lanes.
 ghost use Rattle.std.specs.Prelude.{ℕ, ◌≡◌, ◌<◌, ◌≤◌, ◌↔◌, ◌&&◌, is_some, length, IfOk, IsTrue};
 ghost use Rattle.log_chart.specs.Entries.{is_send};
 ghost use Rattle.log_chart.specs.Items.{naming_line};
@@ -17,14 +17,14 @@ use std::alloc::{AllocError, Global};
 use std::cmp::max;
 use std::marker::Model;
 
-/// Whether a line sends a message that a line takes.
+/// Whether a line sends a message that some line takes.
 fn is_taken(line: &LogLine, taker: Option<usize>) -> bool
     ensures { result ≡ (is_send line.now.entry.kind && is_some taker) }
 {
     is_send(line.entry.kind) && taker.is_some()
 }
 
-/// For each send the last one before it on its lane that a line takes.
+/// For each send, the last one before it on its lane that a line takes.
 fn above_of(alloc: Global, lines: &[LogLine], takers: &Table) -> Result<Table, AllocError>
     requires { AreTakers lines.now takers.now }
     ensures { IfOk result (AreAbove lines.now) }
@@ -42,7 +42,7 @@ fn above_of(alloc: Global, lines: &[LogLine], takers: &Table) -> Result<Table, A
     Ok(above)
 }
 
-/// The later one of two lines, if there are both.
+/// The later of two lines, if both are given.
 fn later_of(one: Option<usize>, other: Option<usize>) -> Option<usize>
     ensures { result ≡ later_of one other }
 {
@@ -52,7 +52,7 @@ fn later_of(one: Option<usize>, other: Option<usize>) -> Option<usize>
     }
 }
 
-/// By when a send was taken, and so were all before it on its lane, of which this is the last.
+/// The line by which a send and all taken sends before it on its lane were taken. `above` is the last of these sends.
 fn until_of(above: Option<usize>, taker: Option<usize>, over: &Table) -> Option<usize>
     ensures { result ≡ until_of above taker over.now }
 {
@@ -62,7 +62,7 @@ fn until_of(above: Option<usize>, taker: Option<usize>, over: &Table) -> Option<
     }
 }
 
-/// For each send that a line takes a line up to which it was taken, and so were all such ones before it on its lane.
+/// For each send that a line takes, a line by which it and all such sends before it on its lane were taken.
 fn over_of(
     alloc: Global,
     lines: &[LogLine],
@@ -81,15 +81,15 @@ fn over_of(
     Ok(over)
 }
 
-/// Which messages are behind others on their lanes. A contract sees the recording.
+/// Decides which messages are behind others of their lanes. Contracts see the recording.
 #[derive(Drop)]
 pub(crate) struct Lanes<'a> {
     recording: Recording<'a>,
-    /// For each line the first that takes its message.
+    /// For each line, the first line that takes its message.
     takers: Table,
-    /// For each send the last one before it on its lane that a line takes.
+    /// For each send, the last one before it on its lane that a line takes.
     above: Table,
-    /// For each send that a line takes a line up to which it and all such ones before it on its lane were taken.
+    /// For each send that a line takes, a line by which it and all such sends before it on its lane were taken.
     over: Table,
 }
 
@@ -125,7 +125,7 @@ impl<'a> Lanes<'a> {
         })
     }
 
-    /// Whether a line takes what a line sends, and none before this one does.
+    /// Whether some line takes the message that `send` sends, and no line before `line` does.
     fn is_there(&self, line: usize, send: usize) -> bool
         requires { send < length self.now.lines }
         ensures { IsTrue result ↔ IsThere self.now line send }
@@ -136,7 +136,8 @@ impl<'a> Lanes<'a> {
         }
     }
 
-    /// Whether what a line sends was taken before this line, and so was all before it on its lane that is taken.
+    /// Whether the message that `send` sends was taken before `line`, and so were all taken messages before it on its
+    /// lane.
     fn is_over(&self, line: usize, send: usize) -> bool
         requires { send < length self.now.lines }
         ensures { IsTrue result → (q p o : ℕ) → IsOnLane self.now.lines q p send → o ≤ send → IsOnLane self.now.lines q p o
@@ -148,8 +149,8 @@ impl<'a> Lanes<'a> {
         }
     }
 
-    /// Whether the receive of a line, which has its own message, would have taken another that a line sends, and didn't
-    /// pass it over.
+    /// Whether the message that `send` sends waits at `line`, and the receive of `line` would have taken it and didn't
+    /// pass it over. `own` is the receive's own message.
     fn would_have_taken(
         &self,
         taking: &Taking<'_>,
@@ -175,7 +176,8 @@ impl<'a> Lanes<'a> {
         !arrivals.came_first(MessageNo::Sent(send), own)
     }
 
-    /// Whether it would have taken another before the message that a line sends, of the same lane and sent before.
+    /// Whether the receive would have taken another message of the same lane, which was sent before the one that `send`
+    /// sends.
     pub(crate) fn is_behind(
         &self,
         taking: &Taking<'_>,

@@ -1,4 +1,4 @@
-//! Which line takes which message.
+//! The line that takes each message.
 ghost use Rattle.std.specs.Prelude.{IfOk};
 ghost use Rattle.race_verdicts.specs.Luck.LineTables.{AreTakers};
 
@@ -6,7 +6,7 @@ use crate::luck::tables::Table;
 use log_chart::LogLine;
 use std::alloc::{AllocError, Global};
 
-/// For each line the first that takes its message.
+/// For each line, the first line that takes its message.
 pub(crate) fn takers_of(alloc: Global, lines: &[LogLine]) -> Result<Table, AllocError>
     ensures { IfOk result (AreTakers lines.now) }
 {

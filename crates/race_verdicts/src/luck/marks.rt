@@ -1,4 +1,4 @@
-//! Which sends of a host come behind which lines.
+//! The sends of a host that each line comes before.
 ghost use Rattle.std.specs.Prelude.{ℕ, ◌≡◌, ◌<◌, ◌&&◌, ◌==◌, [], length, None, map, is_some, replicate, IfOk, OnOk};
 ghost use Rattle.log_chart.specs.Entries.{is_send};
 ghost use Rattle.log_chart.specs.FateTables.{IsWithin};
@@ -13,17 +13,17 @@ use log_chart::cycles::Sources;
 use log_chart::{LogLine, is_send};
 use std::alloc::{AllocError, Global};
 
-/// What was found so far to come before some sends, each line with the first of these sends.
+/// The lines that were found to come before some sends, each with the first of these sends.
 #[derive(Drop)]
 struct Marks {
-    /// For each line the send, if it was found.
+    /// For each line, this send, if the line was found.
     marks: Table,
-    /// Those of them whose own sources are still to be looked at.
+    /// The found lines whose own sources haven't been followed yet.
     stack: Vec<usize>,
 }
 
 impl Marks {
-    /// Nothing of so many lines.
+    /// Nothing found, for a log with this number of lines.
     fn nothing(alloc: Global, count: usize) -> Result<Marks, AllocError>
         ensures marks { IfOk result (λ marks. marks.marks ≡ replicate count None) }
         ensures stack { IfOk result (λ marks. marks.stack.items ≡ []) }
@@ -34,7 +34,7 @@ impl Marks {
         })
     }
 
-    /// Finds a line, if there is one.
+    /// Marks a line, if one is given and it has no mark.
     fn reach(&mut self, number: Option<usize>, mark: usize) -> Result<(), AllocError>
         requires { IsWithin (length self.old.marks) number }
         ensures reached { OnOk result (HasReached number (map is_some self.old.marks) self.old.stack.items
@@ -49,7 +49,7 @@ impl Marks {
         Ok(())
     }
 
-    /// Finds what stands directly before a line.
+    /// Marks the lines directly before a line.
     fn follow(&mut self, sources: &Sources, number: usize, mark: usize) -> Result<(), AllocError>
         requires { (a : ℕ) → IsDirect sources.now.above.items sources.now.sends.items a number
             → a < length self.old.marks }
@@ -62,7 +62,7 @@ impl Marks {
         Ok(())
     }
 
-    /// Finds all that comes before a send. What was found before comes before it too.
+    /// Marks all lines that come before a send. The lines that were marked earlier come before it too.
     fn pass(&mut self, sources: &Sources, send: usize) -> Result<(), AllocError>
         requires within { (a b : ℕ) → IsDirect sources.now.above.items sources.now.sends.items a b
             → a < length self.old.marks }
@@ -88,7 +88,7 @@ fn is_send_of(line: &LogLine, host: InstanceNo) -> bool
     line.entry.host == host && is_send(line.entry.kind)
 }
 
-/// For each line the first send of a host before which it comes.
+/// For each line, the first send of the host that it comes before.
 pub(crate) fn firsts_of(
     alloc: Global,
     sources: &Sources,

@@ -1,4 +1,4 @@
-//! What is before what in the whole log.
+//! The order of the whole log.
 ghost use Rattle.std.specs.Prelude.{ℕ, suc, ◌≡◌, ◌<◌, ◌≤◌, ◌↔◌, [], length, All, slice_index_or, IfOk, IsTrue};
 ghost use Rattle.chart.specs.declared.instance.TheConstants.{MAX_INSTANCES};
 ghost use Rattle.log_chart.specs.Cycles.Sources.{AreSources};
@@ -14,7 +14,7 @@ use log_chart::cycles::{Sources, sources_of};
 use std::alloc::{AllocError, Global};
 use std::marker::Model;
 
-/// For each of so many hosts and each line the first send of the host before which the line comes.
+/// For each of the first `hosts` hosts and each line, the first send of the host that the line comes before.
 fn firsts_of_all(
     alloc: Global,
     hosts: usize,
@@ -35,11 +35,11 @@ fn firsts_of_all(
     Ok(tables)
 }
 
-/// What is before what in the whole log. A contract sees its lines.
+/// The order of the whole log. Contracts see its lines.
 #[derive(Drop)]
 pub(crate) struct Order<'a> {
     lines: &'a [LogLine],
-    /// For each host and line the first send of the host before which the line comes.
+    /// For each host and line, the first send of the host that the line comes before.
     firsts: Vec<Table>,
 }
 
@@ -56,7 +56,7 @@ impl<'a> Model for Order<'a> {
 }
 
 impl<'a> Order<'a> {
-    /// The order of a log with so many hosts.
+    /// The order of a log with this number of hosts.
     pub(crate) fn of(
         alloc: Global,
         hosts: usize,

@@ -1,4 +1,4 @@
-//! Lines of each stream, one behind the other.
+//! Queues of the lines of each stream.
 ghost use Rattle.std.specs.Prelude.{◌≡◌, ◌<◌, ◌&&◌, ℕ, Bool, List, false, true, is_none, length, filter, drop, None, Some, replicate, slice_index_or, slice_set, IfOk};
 ghost use Rattle.log_chart.specs.Entries.{is_send};
 ghost use Rattle.log_chart.specs.declared.matching.LogLine.{LogLine};
@@ -11,16 +11,16 @@ use crate::luck::tables::Table;
 use log_chart::{LogLine, is_send};
 use std::alloc::{AllocError, Global};
 
-/// For each stream some of its lines, in their order.
+/// For each stream, some of its lines, in order.
 #[derive(Drop)]
 pub(crate) struct Queues {
-    /// For each stream its first line.
+    /// For each stream, the first line of its queue.
     first: Table,
-    /// For each line the one behind it.
+    /// For each line, the next one of its queue.
     next: Table,
 }
 
-/// Streams without lines, of so many lines.
+/// Empty queues, for a log with this number of lines.
 fn no_queues(alloc: Global, count: usize) -> Result<Queues, AllocError>
     ensures first { IfOk result (λ queues. queues.first ≡ replicate count None) }
     ensures next { IfOk result (λ queues. queues.next ≡ replicate count None) }
@@ -44,7 +44,7 @@ impl Queues {
         self.first.set(stream, Some(number));
     }
 
-    /// The first line of a stream from this one on.
+    /// The first line of a stream's queue from line `at` on.
     fn first_from(&self, stream: usize, at: usize) -> Option<usize>
         requires { IsSomeQueue self.now.next (slice_index_or self.now.first stream None) }
         ensures { (lines list : List LogLine) → IsQueue lines false self.now.next 0 (slice_index_or self.now.first stream None) list
@@ -60,7 +60,7 @@ impl Queues {
         None
     }
 
-    /// Leaves those lines of a stream that stand above this one, where all its lines receive.
+    /// Drops the lines above line `at` from a stream's queue of receives.
     pub(crate) fn leave_above(&mut self, stream: usize, at: usize)
         requires { IsSomeQueue self.old.next (slice_index_or self.old.first stream None) }
         ensures { (lines : List LogLine) (lists : ℕ → List LogLine) → AreQueues lines false self.old.first self.old.next 0 lists
@@ -70,7 +70,7 @@ impl Queues {
         self.first.put(stream, first);
     }
 
-    /// Takes the first line of a stream.
+    /// Removes the first line from a stream's queue.
     pub(crate) fn take_first(&mut self, stream: usize) -> Option<usize>
         ensures first { (lines : List LogLine) (sends : Bool) (lists : ℕ → List LogLine) → AreQueues lines sends self.old.first self.old.next 0 lists
             → result ≡ first_number (lists stream) }
@@ -88,7 +88,7 @@ impl Queues {
     }
 }
 
-/// The lines of each stream that receive.
+/// The receives of each stream.
 pub(crate) fn received_of(alloc: Global, lines: &[LogLine]) -> Result<Queues, AllocError>
     requires { IsLog lines.now }
     ensures { IfOk result (λ queues. AreQueues lines.now false queues.first queues.next 0 (of_stream receives lines.now)) }
@@ -112,7 +112,7 @@ fn is_left(line: &LogLine, taker: Option<usize>) -> bool
     is_send(line.entry.kind) && taker.is_none()
 }
 
-/// The lines of each stream that send what no line takes.
+/// The sends of each stream that no line takes.
 pub(crate) fn left_of(
     alloc: Global,
     lines: &[LogLine],

@@ -1,4 +1,4 @@
-//! Neighbouring events of hosts that are of one kind.
+//! Neighbouring events of a host that are of one kind.
 ghost use Rattle.std.specs.Prelude.{ℕ, ◌≡◌, ◌+◌, ◌-◌, ◌<◌, ◌≤◌, ◌↔◌, length, IfOk, IsTrue};
 ghost use Rattle.race_verdicts.specs.Luck.Places.{host_items};
 ghost use Rattle.race_verdicts.specs.Luck.Runs.{kind_of, IsNextAlike, IsRun, HaveRuns, AreRuns};
@@ -9,7 +9,7 @@ use log_chart::{HostLine, Item};
 use std::alloc::{AllocError, Global};
 use std::marker::Model;
 
-/// What kind of event it is.
+/// The kind of an event.
 #[derive(Clone, Copy, Debug, PartialEq, Eq)]
 pub(crate) enum Kind {
     /// It has no line of the log.
@@ -31,7 +31,7 @@ impl Kind {
         }
     }
 
-    /// Whether both are one.
+    /// Whether both kinds are the same.
     pub(crate) fn is(self, other: Kind) -> bool
         ensures { IsTrue result ↔ (self ≡ other) }
     {
@@ -39,7 +39,7 @@ impl Kind {
     }
 }
 
-/// Whether the event after the one at this place, from 0, is of its kind.
+/// Whether the event after the one at this place, from 0, is of the same kind.
 fn is_next_alike(items: &[Item], place: usize) -> bool
     requires { place < length items.now }
     ensures { IsTrue result ↔ IsNextAlike items.now place }
@@ -51,7 +51,7 @@ fn is_next_alike(items: &[Item], place: usize) -> bool
     Kind::of(&items[next]).is(Kind::of(&items[place]))
 }
 
-/// How many events from this place on are of one kind, by these numbers of the later ones.
+/// How many events from this place on are of one kind. `runs` has these numbers for the later places.
 fn run_at(items: &[Item], runs: &Table, place: usize) -> usize
     requires place { place < length items.now }
     requires later { HaveRuns items.now runs.now (place + 1) }
@@ -66,7 +66,7 @@ fn run_at(items: &[Item], runs: &Table, place: usize) -> usize
     run + 1
 }
 
-/// The same of each event of a host.
+/// The same for each event of a host.
 fn runs_of(alloc: Global, items: &[Item]) -> Result<Table, AllocError>
     ensures { IfOk result (λ runs. HaveRuns items.now runs 0) }
 {
@@ -80,7 +80,7 @@ fn runs_of(alloc: Global, items: &[Item]) -> Result<Table, AllocError>
     Ok(runs)
 }
 
-/// The same of each host.
+/// The same for each host.
 fn runs_of_all(alloc: Global, hosts: &[HostLine]) -> Result<Vec<Table>, AllocError>
     ensures { IfOk result (λ tables. AreRuns hosts.now tables.items) }
 {
@@ -91,11 +91,11 @@ fn runs_of_all(alloc: Global, hosts: &[HostLine]) -> Result<Vec<Table>, AllocErr
     Ok(tables)
 }
 
-/// How many events of hosts are of one kind, from each event on. A contract sees the events.
+/// For each event of each host, how many events from it on are of one kind. Contracts see the events.
 #[derive(Drop)]
 pub(crate) struct Runs<'a> {
     hosts: &'a [HostLine],
-    /// For each event of each host.
+    /// The number for each event of each host.
     runs: Vec<Table>,
 }
 
@@ -119,7 +119,7 @@ impl<'a> Runs<'a> {
         Ok(Runs { hosts, runs })
     }
 
-    /// How many events are of one kind from this one on.
+    /// How many events from this one on are of one kind.
     pub(crate) fn count(&self, event: &EventNo) -> usize
         requires begun { 1 ≤ event.now.index }
         requires within { event.now.index ≤ length (host_items self.now event.now.instance) }

@@ -1,11 +1,11 @@
-//! Tables with an entry for each of so many numbers.
+//! Tables with an entry for each number below a limit.
 ghost use Rattle.std.specs.Prelude.{◌≡◌, ◌<◌, length, None, replicate, slice_index_or, slice_set, IfOk};
 ghost use Rattle.race_verdicts.specs.Luck.Tables.{IsNoted};
 
 use std::alloc::{AllocError, Global};
 use std::marker::Model;
 
-/// For each of so many numbers, as those of lines, another number or none. A contract sees the list.
+/// For each number below a limit, such as those of lines, another number or none. Contracts see the list.
 #[derive(Drop)]
 pub(crate) struct Table {
     entries: Vec<Option<usize>>,
@@ -20,7 +20,7 @@ impl Model for Table {
 }
 
 impl Table {
-    /// None for each of so many.
+    /// A table of this length without entries.
     pub(crate) fn none(alloc: Global, count: usize) -> Result<Table, AllocError>
         ensures { IfOk result (λ table. table ≡ replicate count None) }
     {
@@ -29,7 +29,7 @@ impl Table {
         })
     }
 
-    /// The entry of a number. Past the last one there is none.
+    /// The entry of a number. Past the last number there is none.
     pub(crate) fn at(&self, number: usize) -> Option<usize>
         ensures { result ≡ slice_index_or self.now number None }
     {
@@ -39,7 +39,7 @@ impl Table {
         }
     }
 
-    /// Puts an entry in place of the one that is there.
+    /// Replaces the entry of a number.
     pub(crate) fn set(&mut self, number: usize, entry: Option<usize>)
         requires { number < length self.old }
         ensures { self.new ≡ slice_set self.old number entry }
@@ -47,7 +47,7 @@ impl Table {
         self.entries[number] = entry;
     }
 
-    /// Puts an entry in place of the one that is there. Past the last one nothing is put.
+    /// Replaces the entry of a number. Past the last number it does nothing.
     pub(crate) fn put(&mut self, number: usize, entry: Option<usize>)
         ensures { self.new ≡ slice_set self.old number entry }
     {
@@ -56,7 +56,7 @@ impl Table {
         }
     }
 
-    /// Notes an entry for a number that has none. Past the last one nothing is noted.
+    /// Sets the entry of a number that has none. Past the last number it does nothing.
     pub(crate) fn note(&mut self, number: usize, entry: usize)
         ensures { IsNoted self.old self.new number entry }
     {

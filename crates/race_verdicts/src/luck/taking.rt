@@ -1,4 +1,4 @@
-//! What a receive would have taken.
+//! The messages that a receive would have taken.
 ghost use Rattle.std.specs.Prelude.{◌≡◌, ◌<◌, ◌≤◌, ◌↔◌, length, Some, map, AllPairs, IfOk, IsTrue};
 ghost use Rattle.race_verdicts.specs.Luck.Tables.{IsFirst};
 ghost use Rattle.race_verdicts.specs.Luck.Taking.{FitsSender, FitsName, Fits, WouldTake};
@@ -25,14 +25,15 @@ fn fits_name(names: &[u8], name: &[u8]) -> bool
     }
 }
 
-/// Whether a message of these words fits the pattern.
+/// Whether a message with these words fits the pattern.
 fn fits(pattern: &Pattern<'_>, words: &LineWords<'_>) -> bool
     ensures { IsTrue result ↔ Fits (pattern_view pattern.now) (words_view words.now) }
 {
     fits_sender(pattern.peer, words.host) && fits_name(pattern.names, words.name)
 }
 
-/// Whether a message of these words fits one of those patterns that are told of a line, from the first of them on.
+/// Whether a message with these words fits one of the patterns of a line. `first` is the place of the line's first
+/// pattern.
 fn any_fits(taken: &[Taken<'_>], first: usize, line: usize, words: &LineWords<'_>) -> bool
     requires first { IsFirst (IsOfLine (map taken_view taken.now) line) (length taken.now) (Some first) }
     requires rising { AllPairs (λ a b. a.line ≤ b.line) (map taken_view taken.now) }
@@ -50,7 +51,7 @@ fn any_fits(taken: &[Taken<'_>], first: usize, line: usize, words: &LineWords<'_
     false
 }
 
-/// For each of so many lines the place of the first that is told of it.
+/// For each of `count` lines, the place of its first pattern.
 fn places_of(alloc: Global, count: usize, taken: &[Taken<'_>]) -> Result<Table, AllocError>
     ensures { IfOk result (ArePlaced (map taken_view taken.now) count) }
 {
@@ -61,11 +62,11 @@ fn places_of(alloc: Global, count: usize, taken: &[Taken<'_>]) -> Result<Table, 
     Ok(places)
 }
 
-/// What receives would have taken. A contract sees the recording.
+/// The messages that receives would have taken. Contracts see the recording.
 #[derive(Drop)]
 pub(crate) struct Taking<'a> {
     recording: Recording<'a>,
-    /// For each line the place of the first that is told of it.
+    /// For each line, the place of its first pattern.
     places: Table,
 }
 
@@ -81,7 +82,7 @@ impl<'a> Model for Taking<'a> {
 }
 
 impl<'a> Taking<'a> {
-    /// What the receives of a recording would have taken, where that stands in the order of their lines.
+    /// The patterns of a recording, which are in the order of their lines.
     pub(crate) fn of(alloc: Global, recording: Recording<'a>) -> Result<Taking<'a>, AllocError>
         requires { AllPairs (λ a b. a.line ≤ b.line) (recording_view recording).taken }
         ensures { IfOk result (λ taking. taking ≡ recording_view recording.entry) }
@@ -90,7 +91,7 @@ impl<'a> Taking<'a> {
         Ok(Taking { recording, places })
     }
 
-    /// Whether the receive of a line would have taken the message that another one sends.
+    /// Whether the receive of `line` would have taken the message that `send` sends.
     pub(crate) fn would_take(&self, line: usize, send: usize) -> bool
         requires line { line < length self.now.lines }
         requires send { send < length self.now.words }

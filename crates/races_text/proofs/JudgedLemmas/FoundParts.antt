@@ -15,7 +15,7 @@ use Rattle.races_text.specs.Judged.Listing.{PartedReport, IsParted, HasBegun, Ha
 use Rattle.races_text.specs.Judged.Listing.AreParted.{none, more}
 use Rattle.races_text.specs.Judged.Listing.HaveParted.{none as none_begun, last as last_begun, more as more_begun}
 
--- the events that are listed are among the earlier ones
+-- the listed events are among the earlier ones
 selected_if : (P : EventNo → Type 0) (b : Bool) (events : List Event) (only : Bool) (earlier : List EventNo) → All P earlier → All P (cond b (kept_events events only earlier) [])
 selected_if P true events only earlier all = All-filter (is_kept events only) P earlier all
 selected_if P false events only earlier all = All-nil P
@@ -26,7 +26,7 @@ all_selected P manner lines receive passed earlier all =
     selected_if P (is_asked manner (record { receive = receive; earlier = later_than passed earlier })) (chart_lines lines receive.instance) manner.receives (later_than passed earlier)
     (All-filter (is_later passed) P earlier all)
 
--- the earlier events of a report are races
+-- each earlier event of a report is a race with its receive
 pub are_races : (race : EventNo → EventNo → Type 0) (lines : List LineView) → ((r e : EventNo) → IsRaceIn lines r e → race r e) → (reports : List ReportView) → AreReports lines reports → (report : ReportView)
     → Contains reports report → All (race report.receive) report.earlier
 are_races race lines each reports are report its =
@@ -45,13 +45,13 @@ module _ (is : EventNo → EventNo → Verdict → Type 0) (manner : Manner) (li
   parted_push report p none last = more last none
   parted_push report p (more first rest) last = more first (parted_push report p rest last)
 
-  -- where a put fails in the last
+  -- a put fails in the last report
   pub parted_last : {reports : List ReportView} {parted : List PartedReport} (report : ReportView) (p : PartedReport) (others : List ReportView) → AreParted is manner lines reports parted
       → HasBegun is manner lines report p → HaveParted is manner lines ((reports ++ report ∷ []) ++ others) (parted ++ p ∷ [])
   parted_last report p others none last = last_begun last
   parted_last report p others (more first rest) last = more_begun first (parted_last report p others rest last)
 
-  -- or behind it
+  -- a put fails after the last report
   pub parted_whole : {reports : List ReportView} {parted : List PartedReport} → AreParted is manner lines reports parted → HaveParted is manner lines reports parted
   parted_whole none = none_begun
   parted_whole (more first rest) = more_begun first (parted_whole rest)

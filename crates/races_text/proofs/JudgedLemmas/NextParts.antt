@@ -43,7 +43,7 @@ if_some A B (Some x) its = its
 -- Pieces.
 
 module _ (is : EventNo → Verdict → Type 0) where
-  -- the events of a piece, and those that are left then
+  -- the events of a piece, and then the events that are left
   pub piece_events : (earlier rest : EventRange) (piece : Part) (others : List EventNo) → IsFirstPart is earlier piece → IsBehind earlier piece.range.count rest
       → events_of earlier ++ others ≡ events_in piece ++ (events_of rest ++ others)
   piece_events earlier rest piece others first behind =
@@ -51,7 +51,7 @@ module _ (is : EventNo → Verdict → Type 0) where
       ap (λ es. es ++ others) (behind_events earlier rest n behind) ∙ append_assoc (events_from earlier.first.instance earlier.first.index n) (events_of rest) others
       ∙ ap (λ (e : EventNo). events_from e.instance e.index n ++ (events_of rest ++ others)) (sym first.begins)
 
-  -- two parts as one
+  -- the events of two joined parts
   pub events_joined : (p q : Part) → is_followed_by p.range q.range ≡ true → events_in (joined_part p q) ≡ events_in p ++ events_in q
   events_joined p q follows =
       let w = followed-is p.range q.range follows in
@@ -69,7 +69,7 @@ module _ (is : EventNo → Verdict → Type 0) where
         verdicts = subst (All P) (sym (events_joined p q follows)) (All-append P (events_in p) (events_in q) of_p.verdicts (subst (λ v. All (λ (e : EventNo). is e v) (events_in q)) (sym same) of_q.verdicts));
       }
 
-  -- What is left, by the piece that comes next.
+  -- The events that are left, by the next piece.
 
   left_events : (o : Option Part) (old later : List EventNo) → MatchOption o ((old ≡ []) × (later ≡ [])) (λ piece. old ≡ events_in piece ++ later) → next_events o ++ later ≡ old
   left_events None old later its = its.1 ∙ sym its.0
@@ -93,7 +93,7 @@ module _ (is : EventNo → Verdict → Type 0) where
       → events_left (record { next = next; rest = rest; kept = kept }) ≡ old
   left_has next rest kept old events = left_events next old (events_of rest ++ kept) events
 
-  -- Parts as long as they can be.
+  -- Parts that are as long as possible.
 
   longest_as : (parts : List Part) (p q : Part) → q.range.first ≡ p.range.first → q.verdict ≡ p.verdict → AreLongest (parts ++ p ∷ []) → AreLongest (parts ++ q ∷ [])
   longest_as [] p q first verdict are = tt
@@ -127,6 +127,6 @@ module _ (is : EventNo → Verdict → Type 0) where
       longest = longest_here;
     }
 
--- what was to come, once a part came too
+-- the events that are still to come, after one more part
 pub taken_part : (all begun left part rest : List EventNo) → all ≡ begun ++ left → left ≡ part ++ rest → all ≡ (begun ++ part) ++ rest
 taken_part all begun left part rest was is = was ∙ ap (λ l. begun ++ l) is ∙ sym (append_assoc begun part rest)

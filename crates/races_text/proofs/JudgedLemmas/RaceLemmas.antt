@@ -1,4 +1,4 @@
--- A race of a chart is of a receive and an event.
+-- A race of a chart consists of a receive and an event of the chart.
 use Rattle.std.proofs.Common.{◌≡◌, ℕ, zero, suc, ◌+◌, true, List, [], ◌∷◌, Some, map, refl, sym, ap, ◌∙◌, subst, arith}
 use Rattle.std.specs.Prelude.{All, Contains, slice_get}
 use Rattle.std.specs.List.{flat_map}
@@ -23,7 +23,7 @@ all_unmap f P (x ∷ xs) all = All-cons (λ y. P (f y)) x xs (All-head P (f x) (
 contains_map : {X Y : Type 0} (f : X → Y) (xs : List X) (x : X) → Contains xs x → Contains (map f xs) (f x)
 contains_map f xs x its = All-contains (λ y. Contains (map f xs) (f y)) xs x (all_unmap f (Contains (map f xs)) xs (All-contains_itself (map f xs))) its
 
--- the event is a receive of p's line, whose events from the i-th on these are
+-- the event is a receive of p's line; `line` has the events of this line from the i-th on
 abbrev IsReceiveOf : ℕ → ℕ → List Event → EventNo → Type 0
 IsReceiveOf p i line r = (r.instance ≡ p) × ((n : ℕ) × (m : Event) × (q : ℕ) × (r.index ≡ i + n) × (slice_get line n ≡ Some m) × (is_receive_from q m ≡ true))
 
@@ -65,7 +65,7 @@ module _ (lines : List LineView) (numbered : IsNumbered lines) where
       let receives = subst (All IsReceiveHere) (sym are.are.receives) all in
       All-contains (λ (r : ReportView). IsReceiveHere r.receive) reports report (all_unmap (λ (r : ReportView). r.receive) IsReceiveHere reports receives) its
 
-  -- of the receive and the earlier event of a race
+  -- a race consists of a receive and an event of the chart
   pub race_is : (r e : EventNo) → IsRaceIn lines r e → IsReceiveHere r × IsEvent (chart_lines lines) (place_of e)
   race_is r e race =
       let report = race.report in

@@ -1,4 +1,4 @@
--- The summary of races, by those so far and one more.
+-- The summary of races, with one more range or receive.
 use Rattle.std.proofs.Common.{◌≡◌, List, [], ◌∷◌, ◌++◌, Bool, true, refl, sym, ap, ◌∙◌}
 use Rattle.races_text.proofs.NamedLemmas.FoundRaces.{any_more}
 use Rattle.races_text.proofs.JudgedLemmas.TextLemmas.{has_more}
@@ -8,7 +8,7 @@ use Rattle.races_text.specs.Judged.Listing.{LuckManner, PartedReport, shows_part
 use Rattle.races_text.specs.Judged.Parts.{is_shown, has_parts}
 use Rattle.races_text.specs.Judged.Summaries.{is_claimed, claims_parts, summary_of_parts, summary_with, summary_of_both}
 
--- two of the same parts are one
+-- summaries with equal fields are equal
 same_summary : (a b : RaceSummary) → a.shown ≡ b.shown → a.any ≡ b.any → a.claimed ≡ b.claimed → a ≡ b
 same_summary a b shown any claimed =
     ap (λ (s : Bool). record { shown = s; any = a.any; claimed = a.claimed }) shown
@@ -19,7 +19,7 @@ has_one : (parts : List Part) (p : Part) → has_parts (parts ++ p ∷ []) ≡ t
 has_one [] p = refl
 has_one (x ∷ parts) p = refl
 
--- one range more
+-- with one more range
 pub summary_push : (luck : Bool) (summary : RaceSummary) (parts : List Part) (p : Part) → summary ≡ summary_of_parts luck parts
     → summary_with summary (is_shown luck p) p.verdict ≡ summary_of_parts luck (parts ++ p ∷ [])
 summary_push luck summary parts p was =
@@ -27,7 +27,7 @@ summary_push luck summary parts p was =
     ∙ same_summary (summary_with (summary_of_parts luck parts) (is_shown luck p) p.verdict) (summary_of_parts luck (parts ++ p ∷ [])) (sym (has_more luck parts p)) (sym (has_one parts p))
     (any_more (λ (q : Part). is_claimed q.verdict) parts p (claims_parts parts) (is_claimed p.verdict) refl refl)
 
--- one receive more
+-- with one more receive
 pub summary_next : (manner : LuckManner) (parted : List PartedReport) (p : PartedReport) (summary more : RaceSummary) → summary ≡ summary_of manner parted → more ≡ summary_of_parts manner.luck p.parts
     → summary_of_both summary more ≡ summary_of manner (parted ++ p ∷ [])
 summary_next manner parted p summary more was is =

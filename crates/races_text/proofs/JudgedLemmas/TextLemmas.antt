@@ -1,4 +1,4 @@
--- The text of a receive's ranges, by those so far and one more.
+-- The text of a receive's ranges, with one more range.
 use Rattle.std.proofs.Common.{◌≡◌, ℕ, List, [], ◌∷◌, ◌++◌, Bool, true, false, cond, ◌||◌, Result, Ok, Err, refl, sym, ap, ◌∙◌, subst, append_assoc, append-nil}
 use Rattle.std.specs.Result.{is_err}
 use Rattle.std.specs.List.{flat_map}
@@ -15,12 +15,12 @@ use Rattle.races_text.specs.declared.judged.part.Part.{Part}
 use Rattle.races_text.specs.Judged.Parts.{is_shown, shown_parts, has_parts}
 use Rattle.races_text.specs.Judged.Listing.{first_text, later_text, begun_text, added_text}
 
--- the exit of a `?` at the last part
+-- an early return by `?` at the last part
 pub adds_failed : {S T E : Type 0} {sink : S → Sink} {a b : TextBuffer S} {text : List ℕ} (r : Result T E) → is_err r ≡ true → Stops sink a b text → Adds sink a b r text
 adds_failed (Ok x) failed stops = cc
 adds_failed (Err e) failed stops = stops
 
--- those that are shown, of some and one more
+-- the part if it is shown, or nothing
 abbrev shown_if : Bool → Part → List Part
 shown_if b p = cond b (p ∷ []) []
 
@@ -32,7 +32,7 @@ has_if [] true p = refl
 has_if [] false p = refl
 has_if (x ∷ parts) b p = refl
 
--- whether some are shown
+-- whether one is shown, with one more part
 pub has_more : (luck : Bool) (parts : List Part) (p : Part) → has_parts (shown_parts luck (parts ++ p ∷ [])) ≡ (has_parts (shown_parts luck parts) || is_shown luck p)
 has_more luck parts p = ap has_parts (shown_push luck parts p) ∙ has_if (shown_parts luck parts) (is_shown luck p) p
 
@@ -47,12 +47,12 @@ module _ (form : Form) (names : List (List ℕ)) (events : List Event) (receive 
   begun_if (x ∷ parts) false p =
       ap (λ (ps : List Part). begun_text form names events receive (x ∷ ps)) (append-nil parts) ∙ sym (append-nil (begun_text form names events receive (x ∷ parts)))
 
-  -- their text
+  -- the text with one more part
   pub begun_more : (luck : Bool) (parts : List Part) (p : Part) → begun_text form names events receive (shown_parts luck (parts ++ p ∷ []))
       ≡ begun_text form names events receive (shown_parts luck parts) ++ added_text form names events receive luck (has_parts (shown_parts luck parts)) p
   begun_more luck parts p = ap (begun_text form names events receive) (shown_push luck parts p) ∙ begun_if (shown_parts luck parts) (is_shown luck p) p
 
-  -- one more was added
+  -- one more part was added
   pub adds_part : {S T E : Type 0} {sink : S → Sink} {a b : TextBuffer S} (c : TextBuffer S) (r : Result T E) (luck has : Bool) (parts : List Part) (p : Part) → has ≡ has_parts (shown_parts luck parts)
       → Buffers sink a b (begun_text form names events receive (shown_parts luck parts)) → Adds sink b c r (added_text form names events receive luck has p)
       → Adds sink a c r (begun_text form names events receive (shown_parts luck (parts ++ p ∷ [])))

@@ -1,4 +1,4 @@
--- Which reports are told: the chart's, or what is left of them where instances finish.
+-- The reports to list: the chart's, or those that remain with run to completion.
 use Rattle.std.proofs.Common.{◌≡◌, ℕ, suc, ◌<◌, ◌≤◌, Bool, true, false, cond, nat_lt, List, [], ◌∷◌, ◌++◌, map, All, Contains, refl, sym, ap, ap₂, ◌∙◌, subst, arith, lt-ltb}
 use Rattle.std.specs.Prelude.{filter}
 use Rattle.std.proofs.lemmas.List.Elements.{All-nil, All-cons, All-head, All-tail, All-filter, All-contains, Contains-push}
@@ -32,7 +32,7 @@ kept_events_later events only passed earlier = filter_both (is_later passed) (is
 pub kept_later : (events : List Event) (only : Bool) (passed : ℕ) (earlier : List EventNo) → kept_after events only passed earlier ≡ kept_ranges events only (later_than passed earlier)
 kept_later events only passed earlier = ap ranges_of (filter_both (is_later passed) (is_kept events only) earlier)
 
--- Numbers of events that are later.
+-- The numbers of later events.
 
 map_later : (passed : ℕ) (xs : List EventNo) → map (λ (e : EventNo). e.index) (later_than passed xs) ≡ filter (nat_lt passed) (map (λ (e : EventNo). e.index) xs)
 map_later passed [] = refl
@@ -50,7 +50,7 @@ all_later (x ∷ xs) begun =
     ap (λ b. cond b (x ∷ later_than 0 xs) (later_than 0 xs)) (lt-ltb 0 x.index first)
     ∙ ap (λ l. x ∷ l) (all_later xs (λ j here. begun j (suc here.0, omega (arith, here.1), here.2)))
 
--- Of a chart's reports.
+-- The reports of a chart.
 
 module _ (c : Chart) where
   same_selected : (report selected : ReportView) → IsReportIn c report → IsSelectedOf false c report selected → selected ≡ report
@@ -81,7 +81,7 @@ module _ (c : Chart) where
     same_receives none = refl
     same_receives (more is rest) = ap₂ (λ x xs. x ∷ xs) (ap (λ (r : ReportView). r.receive) is.2) (same_receives rest)
 
-    -- there is something to tell of each report
+    -- there is a report to list for each report
     pub selected_exist : (completed : Bool) (reports : List ReportView) → (selected : List ReportView) × AreSelectedOf completed c reports selected
     selected_exist completed [] = ([], none)
     selected_exist false (r ∷ reports) = let w = selected_exist false reports in (without_first 0 r ∷ w.0, more (0, refl, refl) w.1)
@@ -90,7 +90,7 @@ module _ (c : Chart) where
         let k = number_of c sound (at r.receive.instance r.receive.index) in
         (without_first k.0 r ∷ w.0, more (k.0, k.1, refl) w.1)
 
-  -- what is told of some and of others
+  -- the reports to list for two lists, one after the other
   pub selected_append : {completed : Bool} {xs ts ys us : List ReportView} → AreSelectedOf completed c xs ts → AreSelectedOf completed c ys us → AreSelectedOf completed c (xs ++ ys) (ts ++ us)
   selected_append none others = others
   selected_append (more is rest) others = more is (selected_append rest others)
@@ -98,7 +98,7 @@ module _ (c : Chart) where
   pub selected_push : {completed : Bool} {xs ts : List ReportView} (x t : ReportView) → AreSelectedOf completed c xs ts → IsSelectedOf completed c x t → AreSelectedOf completed c (xs ++ x ∷ []) (ts ++ t ∷ [])
   selected_push x t are is = selected_append are (more is none)
 
--- what is told of all is what is to be told
+-- the reports to list for all of the chart's are those that the definition selects
 pub selected_are : (completed : Bool) (n : ℕ) (lines : List LineView) (reports selected : List ReportView) → IsPossible n (chart_lines lines) → AreReports lines reports → AreSelectedOf completed (chart_lines lines) reports selected → AreSelected completed lines selected
 selected_are false n lines reports selected possible reported are = subst (AreReports lines) (sym (all_selected (chart_lines lines) are reported.are.each)) reported
 selected_are true n lines reports selected possible reported are =

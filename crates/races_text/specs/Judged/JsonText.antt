@@ -13,7 +13,7 @@ use Rattle.races_text.specs.declared.named.words.Word.TheVariants.{Next}
 use Rattle.races_text.specs.Judged.Words.{verdict_text}
 use Rattle.races_text.specs.declared.judged.part.Part.{Part}
 
--- what stands behind the messages of a range
+-- the end of a range, after its messages
 unfoldable pub why_text : Verdict → List ℕ
 why_text v = codes "],\"why\":\"" ++ (verdict_text v ++ codes "\"}")
 
@@ -23,11 +23,11 @@ part_text events p =
     range_front p.range.first.index (last_of p.range)
     ++ (flat_map (message_text events p.range.first.index) (events_of p.range) ++ why_text p.verdict)
 
--- an object up to its first range
+-- the beginning of an object, up to its first range and with it
 unfoldable pub front_text : List (List ℕ) → List Event → EventNo → Part → List ℕ
 front_text names events receive p =
     number_text names receive ++ (message_and_sender names (ith events receive.index) ++ part_text events p)
 
--- a range behind another one
+-- a range after another one
 unfoldable pub next_text : List Event → Part → List ℕ
 next_text events p = word_text Next ++ part_text events p

@@ -1,5 +1,5 @@
--- The races of a recording as they are listed (this project's profile): as those of its chart, each range with the word of
--- its verdict, or luck alone.
+-- The list of a recording's races (this project's profile): that of its chart, with the word of its verdict for each
+-- range. It may list only luck.
 use Rattle.std.specs.Prelude.{◌≡◌, ℕ, Bool, List, [], ◌∷◌, ◌++◌, Contains, Result, Ok, Err, IfOk, if◌then◌else◌}
 use Rattle.std.specs.List.{flat_map, list_any}
 use Rattle.chart.specs.declared.event.Event.{Event}
@@ -26,28 +26,28 @@ use Rattle.races_text.specs.declared.judged.summary.RaceSummary.{RaceSummary}
 
 -- The text of the ranges of a receive, in a form.
 
--- the first of them
+-- the first range
 abbrev pub first_text : Form → List (List ℕ) → List Event → EventNo → Part → List ℕ
 first_text Plain names events receive p = line_text names events receive p
 first_text Json names events receive p = json_front names events receive p
 
--- one behind it
+-- a later range
 abbrev pub later_text : Form → List (List ℕ) → List Event → EventNo → Part → List ℕ
 later_text Plain names events receive p = line_text names events receive p
 later_text Json names events receive p = json_next events p
 
--- what stands behind the last
+-- the end after the last range
 abbrev pub end_text : Form → List ℕ
 end_text Plain = []
 end_text Json = word_text EndObject
 
--- all of them, without the end
+-- all ranges, without the end
 abbrev pub begun_text : Form → List (List ℕ) → List Event → EventNo → List Part → List ℕ
 begun_text form names events receive [] = []
 begun_text form names events receive (p ∷ parts) =
     first_text form names events receive p ++ flat_map (later_text form names events receive) parts
 
--- the end, where there are some
+-- the end, if there are ranges
 abbrev pub ended_text : Form → Bool → List ℕ
 ended_text form has = if has then end_text form else []
 
@@ -55,16 +55,16 @@ abbrev pub parts_text : Form → List (List ℕ) → List Event → EventNo → 
 parts_text form names events receive parts =
     begun_text form names events receive parts ++ ended_text form (has_parts parts)
 
--- what is added of a part behind those so far, of which there are some or none
+-- the text that a part adds after the parts so far, if there are any
 abbrev pub added_text : Form → List (List ℕ) → List Event → EventNo → Bool → Bool → Part → List ℕ
 added_text form names events receive luck has p =
     if is_shown luck p then
     (if has then later_text form names events receive p else first_text form names events receive p)
     else []
 
--- Of a chart's reports.
+-- The reports of a chart.
 
--- the receive and the earlier event are a race of the chart with these lines: one of its reports has it
+-- the receive and the earlier event are a race of the chart with these lines: one of its reports has them
 pub record IsRaceIn (lines : List LineView) (r e : EventNo) : Type 0 where
   pub reports : List ReportView
   pub are : AreReports lines reports
@@ -73,7 +73,7 @@ pub record IsRaceIn (lines : List LineView) (r e : EventNo) : Type 0 where
   pub receive : report.receive ≡ r
   pub among : Contains report.earlier e
 
--- how races are listed, and whether luck alone is
+-- how races are listed, and whether only luck is
 pub record LuckManner : Type 0 where
   pub races : Manner
   pub luck : Bool
@@ -86,38 +86,38 @@ pub record PartedReport : Type 0 where
   pub receive : EventNo
   pub parts : List Part
 
--- the earlier events of a report that are listed, each or luck alone
+-- the earlier events of a report that are listed, if its instance is one of the query's
 abbrev pub selected_events : Manner → List LineView → ReportView → List EventNo
 selected_events manner lines report =
     if is_asked manner report then kept_events (chart_lines lines report.receive.instance) manner.receives report.earlier
     else []
 
--- the text of a receive's ranges that are shown
+-- the text of the shown ranges of a receive
 abbrev pub report_text : LuckManner → List (List ℕ) → List LineView → PartedReport → List ℕ
 report_text manner names lines parted =
     parts_text manner.races.form names (chart_lines lines parted.receive.instance) parted.receive
     (shown_parts manner.luck parted.parts)
 
--- one is shown
+-- a range of the receive is shown
 abbrev pub shows_parts : LuckManner → PartedReport → Bool
 shows_parts manner parted = has_parts (shown_parts manner.luck parted.parts)
 
--- the text of all
+-- the text of all receives
 abbrev pub luck_text : LuckManner → List (List ℕ) → List LineView → List PartedReport → List ℕ
 luck_text manner names lines parted = flat_map (report_text manner names lines) parted
 
 abbrev pub shows_luck : LuckManner → List PartedReport → Bool
 shows_luck manner parted = list_any (shows_parts manner) parted
 
--- there is a race, whether it is shown or not
+-- there is a race, even if it isn't shown
 abbrev pub has_races : List PartedReport → Bool
 has_races parted = list_any (λ p. has_parts p.parts) parted
 
--- one is claimed: it isn't begun in the middle
+-- a race is claimed, which means that it isn't begun in the middle
 abbrev pub claims_some : List PartedReport → Bool
 claims_some parted = list_any (λ p. claims_parts p.parts) parted
 
--- the summary of all
+-- the summary of all receives
 abbrev pub summary_of : LuckManner → List PartedReport → RaceSummary
 summary_of manner parted = record { shown = shows_luck manner parted; any = has_races parted; claimed = claims_some parted }
 
@@ -127,23 +127,24 @@ module _ (is : EventNo → EventNo → Verdict → Type 0) (manner : Manner) (li
     pub receive : parted.receive ≡ report.receive
     pub are : AreParts (is report.receive) (selected_events manner lines report) parted.parts
 
-  -- and these of so many of its events as were judged before a put failed
+  -- these are the ranges of a beginning of its events: those that were judged before a put failed
   pub record HasBegun (report : ReportView) (parted : PartedReport) : Type 0 where
     pub receive : parted.receive ≡ report.receive
     pub begun : HaveBegun (is report.receive) (selected_events manner lines report) parted.parts
 
-  -- of all of its events, where no put failed
+  -- the ranges of all events if no put failed, and otherwise of a beginning of them
   abbrev pub HasParted : {T E : Type 0} → ReportView → Result T E → PartedReport → Type 0
   HasParted report (Ok x) parted = IsParted report parted
   HasParted report (Err e) parted = HasBegun report parted
 
-  -- the ranges of each report
+  -- these are the ranges of each report
   pub data AreParted : List ReportView → List PartedReport → Type 0 where
     none : AreParted [] []
     more : {report : ReportView} {parted : PartedReport} {reports : List ReportView} {others : List PartedReport}
         → IsParted report parted → AreParted reports others → AreParted (report ∷ reports) (parted ∷ others)
 
-  -- of the first ones, and of the last of them so many events as were judged before a put failed
+  -- these are the ranges of the first reports; the last of them may have only the events that were judged before a put
+  -- failed
   pub data HaveParted : List ReportView → List PartedReport → Type 0 where
     none : {reports : List ReportView} → HaveParted reports []
     last : {report : ReportView} {parted : PartedReport} {reports : List ReportView} → HasBegun report parted
@@ -151,14 +152,14 @@ module _ (is : EventNo → EventNo → Verdict → Type 0) (manner : Manner) (li
     more : {report : ReportView} {parted : PartedReport} {reports : List ReportView} {others : List PartedReport}
         → IsParted report parted → HaveParted reports others → HaveParted (report ∷ reports) (parted ∷ others)
 
-  -- of all reports, where no put failed
+  -- the ranges of all reports if no put failed, and otherwise of the first ones
   abbrev pub ArePartedTo : {T E : Type 0} → List ReportView → Result T E → List PartedReport → Type 0
   ArePartedTo reports (Ok x) parted = AreParted reports parted
   ArePartedTo reports (Err e) parted = HaveParted reports parted
 
 module _ {S E : Type 0} (sink : S → Sink) where
-  -- the races of the chart with these lines were added to a text, by what is a verdict, and the summary says whether one is
-  -- shown, whether there is one, and whether one is claimed
+  -- the races of the chart with these lines were added to a text, with the verdicts that `is` allows. The summary
+  -- states whether one is shown, whether there is one, and whether one is claimed
   abbrev pub HasAdded : TextBuffer S → TextBuffer S → (EventNo → EventNo → Verdict → Type 0) → LuckManner
       → List (List ℕ) → List LineView → Result RaceSummary E → Type 0
   HasAdded old new is manner names lines result = (reports : List ReportView) × (parted : List PartedReport)
@@ -166,7 +167,7 @@ module _ {S E : Type 0} (sink : S → Sink) where
       × Adds sink old new result (luck_text manner names lines parted)
       × IfOk result (λ summary. summary ≡ summary_of manner parted)
 
-  -- they were written
+  -- the same, but they were written
   abbrev pub HasWritten : S → S → (EventNo → EventNo → Verdict → Type 0) → LuckManner → List (List ℕ)
       → List LineView → Result RaceSummary E → Type 0
   HasWritten old new is manner names lines result = (reports : List ReportView) × (parted : List PartedReport)

@@ -9,7 +9,7 @@ use Rattle.races_text.specs.Judged.Parts.{events_in, AreApart, IsPart}
 use Rattle.races_text.specs.declared.judged.part.Part.{Part}
 use Rattle.races_text.specs.declared.judged.parts.PartsLeft.{PartsLeft}
 
--- some neighbouring events, from the first on, with the verdict that they have
+-- some of these neighbouring events, from the first on, with their verdict
 pub record IsFirstPart (is : EventNo → Verdict → Type 0) (earlier : EventRange) (part : Part) : Type 0 where
   pub holds : IsPart is part
   pub begins : part.range.first ≡ earlier.first
@@ -24,21 +24,21 @@ abbrev pub listed : Option Part → List Part
 listed None = []
 listed (Some p) = p ∷ []
 
--- those whose verdict isn't known yet
+-- the events whose verdict isn't known yet
 abbrev pub later_events : PartsLeft → List EventNo
 later_events left = events_of left.rest ++ left.kept
 
 abbrev pub events_left : PartsLeft → List EventNo
 events_left left = next_events left.next ++ later_events left
 
--- all of them are races, and the first ones have their verdict; without these there are none
+-- all later events are races, and the next part has its verdict; without a next part there are no later events
 pub record AreLeft (race : EventNo → Type 0) (is : EventNo → Verdict → Type 0) (left : PartsLeft) : Type 0 where
   pub short : IsShort left.rest
   pub first : IfSome left.next (IsPart is)
   pub races : All race (later_events left)
   pub ended : left.next ≡ None → later_events left ≡ []
 
--- the next part, which is as long as it can be
+-- the next part, which is as long as possible
 pub record IsNextPart (is : EventNo → Verdict → Type 0) (old new : PartsLeft) (part : Part) : Type 0 where
   pub holds : IsPart is part
   pub events : events_left old ≡ events_in part ++ events_left new

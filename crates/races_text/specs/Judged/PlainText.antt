@@ -11,7 +11,7 @@ use Rattle.races_text.specs.declared.named.words.Word.TheVariants.{Colon, MayCom
 use Rattle.races_text.specs.Judged.Words.{verdict_text}
 use Rattle.races_text.specs.declared.judged.part.Part.{Part}
 
--- ; WORD at a line's end
+-- ; WORD at the end of a line
 unfoldable pub why_text : Verdict → List ℕ
 why_text v = codes "; " ++ (verdict_text v ++ codes "\n")
 

@@ -1,5 +1,5 @@
--- What is reported beside the text of races that are asked for (this project's profile): whether one is shown, whether there is
--- one, and whether one is claimed.
+-- The summary of the races of a query (this project's profile): whether one is shown, whether there is one, and whether
+-- one is claimed.
 use Rattle.std.specs.Prelude.{Bool, true, false, ◌||◌, ◌&&◌, not, List}
 use Rattle.std.specs.List.{list_any}
 use Rattle.race_verdicts.specs.declared.verdict.Verdict.{Verdict}
@@ -8,7 +8,7 @@ use Rattle.races_text.specs.Judged.Parts.{shown_parts, has_parts}
 use Rattle.races_text.specs.declared.judged.part.Part.{Part}
 use Rattle.races_text.specs.declared.judged.summary.RaceSummary.{RaceSummary}
 
--- a race of this verdict is claimed: it isn't begun in the middle
+-- a race with this verdict is claimed, which means that it isn't begun in the middle
 abbrev pub is_claimed : Verdict → Bool
 is_claimed Luck = true
 is_claimed EarlierIsSend = true
@@ -18,19 +18,19 @@ is_claimed WouldNotTake = true
 is_claimed PassedOver = true
 is_claimed BehindAnother = true
 
--- one of these ranges is
+-- one of these ranges is claimed
 abbrev pub claims_parts : List Part → Bool
 claims_parts parts = list_any (λ p. is_claimed p.verdict) parts
 
--- the summary of the ranges of a receive, each or luck alone
+-- the summary of the ranges of a receive, of which all are shown or only luck
 abbrev pub summary_of_parts : Bool → List Part → RaceSummary
 summary_of_parts luck parts = record { shown = has_parts (shown_parts luck parts); any = has_parts parts; claimed = claims_parts parts }
 
--- of none
+-- the summary of no ranges
 abbrev pub summary_of_none : RaceSummary
 summary_of_none = record { shown = false; any = false; claimed = false }
 
--- with one more after them, which is shown or isn't
+-- the summary with one more range, which is shown or not
 abbrev pub summary_with : RaceSummary → Bool → Verdict → RaceSummary
 summary_with summary shows verdict = record { shown = summary.shown || shows; any = true; claimed = summary.claimed || is_claimed verdict }
 

@@ -12,7 +12,7 @@ verdict_text WouldNotTake = codes "it would not take it"
 verdict_text PassedOver = codes "passed over"
 verdict_text BehindAnother = codes "behind another"
 
--- it is luck
+-- the verdict is luck
 abbrev pub is_luck : Verdict → Bool
 is_luck Luck = true
 is_luck EarlierIsSend = false

@@ -1,5 +1,5 @@
--- The races of a receive as JSON (RFC 8259; which members an object has is this project's profile). A name has letters,
--- digits and _ alone, so it stands between quotation marks as it is.
+-- The races of a receive as JSON (RFC 8259; the members of an object are this project's profile). A name has only
+-- letters, digits and _, so it isn't escaped.
 use Rattle.std.specs.Prelude.{ℕ, Bool, ◌==◌, List, [], ◌∷◌, ◌++◌, Option, None, Some, codes, decimal, if◌then◌else◌}
 use Rattle.std.specs.List.{flat_map}
 use Rattle.chart.specs.declared.event.Event.{Event}
@@ -13,31 +13,31 @@ use Rattle.races_text.specs.declared.named.words.Word.TheVariants.{Instance, Rec
 use Rattle.races_text.specs.Named.PlainText.{last_of}
 use Rattle.races_text.specs.Named.Words.{word_text}
 
--- the name of the instance at the other end of its message, where there is an event
+-- the name of an event's partner, or nothing without an event
 abbrev pub partner_at : List (List ℕ) → Option Event → List ℕ
 partner_at names None = []
 partner_at names (Some m) = name_at names (partner_of m)
 
--- an object up to the receive's number
+-- the beginning of an object, up to the receive's number
 unfoldable pub number_text : List (List ℕ) → EventNo → List ℕ
 number_text names receive =
     word_text Instance ++ (name_at names receive.instance ++ (word_text Receive ++ decimal receive.index))
 
--- what stands behind it, up to the list of the ranges: the receive's message, and its sender
+-- the part after it, up to the list of the ranges: the receive's message, and its sender
 unfoldable pub message_and_sender : List (List ℕ) → Option Event → List ℕ
 message_and_sender names event =
     word_text Message ++ (message_at event ++ (word_text Sender ++ (partner_at names event ++ word_text Ranges)))
 
--- a range up to the list of its messages: the numbers of its first and last event
+-- the beginning of a range, up to the list of its messages: the numbers of its first and its last event
 unfoldable pub range_front : ℕ → ℕ → List ℕ
 range_front first last =
     codes "{\"first\":" ++ (decimal first ++ (codes ",\"last\":" ++ (decimal last ++ codes ",\"messages\":[")))
 
--- a comma before each but the first
+-- a comma before each message except the first
 abbrev pub comma_before : Bool → List ℕ
 comma_before is_first = if is_first then [] else word_text Next
 
--- the message of an event of the range that begins with this number
+-- the message of an event, in the range whose first event has this number
 unfoldable pub message_text : List Event → ℕ → EventNo → List ℕ
 message_text events first e =
     comma_before (e.index == first) ++ (word_text Quote ++ (message_at (ith events e.index) ++ word_text Quote))
@@ -48,11 +48,11 @@ range_text events r =
     range_front r.first.index (last_of r) ++ (flat_map (message_text events r.first.index) (events_of r)
     ++ word_text EndRange)
 
--- a range behind another one
+-- a range after another one
 unfoldable pub next_text : List Event → EventRange → List ℕ
 next_text events r = word_text Next ++ range_text events r
 
--- an object on a line of its own, where there are ranges: of this receive of the line with these events
+-- an object on a line of its own, if there are ranges: for this receive of the line with these events
 abbrev pub object_text : List (List ℕ) → List Event → EventNo → List EventRange → List ℕ
 object_text names events receive [] = []
 object_text names events receive (r ∷ ranges) =

@@ -1,6 +1,5 @@
--- The races of a chart as they are told (this project's profile): of the instances that are asked for, in the order of
--- their receives; all of them, or those that are left where instances finish what a message makes them do before they
--- receive again.
+-- The list of a chart's races (this project's profile): for the instances of the query, in the order of their receives.
+-- All races are listed, or those that remain if the instances run to completion.
 use Rattle.std.specs.Prelude.{◌≡◌, ℕ, Bool, true, false, List, [], ◌∷◌, Option, None, Some, length, nat_eq, nat_lt, Result, IfOk, if◌then◌else◌}
 use Rattle.std.specs.List.{flat_map, list_any}
 use Rattle.chart.specs.declared.event.Event.{Event}
@@ -19,15 +18,15 @@ use Rattle.races_text.specs.Named.Kept.{kept_ranges, later_than}
 use Rattle.races_text.specs.Named.PlainText.{lines_text}
 use Rattle.races_text.specs.Named.JsonText.{object_text}
 
--- how the races are told: in which form, whether receives alone are shown, of which instances, and whether these finish
--- what a message makes them do before they receive again
+-- how races are listed: the form, whether only receives are shown as earlier events, the instances, and whether they
+-- run to completion
 pub record Manner : Type 0 where
   pub form : Form
   pub receives : Bool
   pub only : List ℕ
   pub completed : Bool
 
--- there is one
+-- the option has a value
 abbrev pub is_there : {X : Type 0} → Option X → Bool
 is_there None = false
 is_there (Some x) = true
@@ -40,12 +39,12 @@ manner_of selected = record {
   completed = is_there selected.completion;
 }
 
--- the reports that are told: the chart's, or those where instances finish
+-- the reports to list: the chart's, or those that remain with run to completion
 abbrev pub AreSelected : Bool → List LineView → List ReportView → Type 0
 AreSelected false lines reports = AreReports lines reports
 AreSelected true lines reports = AreCompletedReports lines reports
 
--- How the one come from the others: so many first events of the receive's line are left out.
+-- How the latter come from the former: the first events of the receive's line are omitted.
 
 abbrev pub IsPassed : Bool → Chart → Place → ℕ → Type 0
 IsPassed false c r passed = passed ≡ 0
@@ -55,13 +54,13 @@ IsPassed true c r passed = IsFinishedUpTo c r passed
 abbrev pub without_first : ℕ → ReportView → ReportView
 without_first passed report = record { receive = report.receive; earlier = later_than passed report.earlier }
 
--- what is told of the chart's report
+-- the report to list for a report of the chart
 abbrev pub IsSelectedOf : Bool → Chart → ReportView → ReportView → Type 0
 IsSelectedOf completed c report selected = (passed : ℕ)
     × IsPassed completed c (at report.receive.instance report.receive.index) passed
     × (selected ≡ without_first passed report)
 
--- what is told of several
+-- the same for several reports
 pub data AreSelectedOf (completed : Bool) (c : Chart) : List ReportView → List ReportView → Type 0 where
   none : AreSelectedOf completed c [] []
   more : {report selected : ReportView} {reports others : List ReportView} → IsSelectedOf completed c report selected
@@ -72,11 +71,11 @@ abbrev pub ranges_text : Form → List (List ℕ) → List Event → EventNo →
 ranges_text Plain names events receive ranges = lines_text names events receive ranges
 ranges_text Json names events receive ranges = object_text names events receive ranges
 
--- its instance is asked for
+-- its instance is one of the query's
 abbrev pub is_asked : Manner → ReportView → Bool
 is_asked manner report = list_any (nat_eq report.receive.instance) manner.only
 
--- the ranges of a report that are shown
+-- the shown ranges of a report
 abbrev pub shown_of : Manner → List LineView → ReportView → List EventRange
 shown_of manner lines report =
     if is_asked manner report then kept_ranges (chart_lines lines report.receive.instance) manner.receives report.earlier
@@ -96,18 +95,18 @@ races_text manner names lines reports = flat_map (report_text manner names lines
 abbrev pub has_ranges : List EventRange → Bool
 has_ranges ranges = nat_lt 0 (length ranges)
 
--- some race is shown
+-- a race is shown
 abbrev pub shows_races : Manner → List LineView → List ReportView → Bool
 shows_races manner lines reports = list_any (λ report. has_ranges (shown_of manner lines report)) reports
 
 module _ {S E : Type 0} (sink : S → Sink) where
-  -- the races of the chart with these lines were added to a text, and it was told whether some is shown
+  -- the races of the chart with these lines were added to a text, and the result is whether one is shown
   abbrev pub HasAdded : TextBuffer S → TextBuffer S → Manner → List (List ℕ) → List LineView → Result Bool E → Type 0
   HasAdded old new manner names lines result = (reports : List ReportView)
       × AreSelected manner.completed lines reports × Adds sink old new result (races_text manner names lines reports)
       × IfOk result (λ has. has ≡ shows_races manner lines reports)
 
-  -- they were written
+  -- the same, but they were written
   abbrev pub HasWritten : S → S → Manner → List (List ℕ) → List LineView → Result Bool E → Type 0
   HasWritten old new manner names lines result = (reports : List ReportView)
       × AreSelected manner.completed lines reports × Wrote sink old new result (races_text manner names lines reports)

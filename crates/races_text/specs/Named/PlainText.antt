@@ -1,4 +1,4 @@
--- The races of a receive in words (this project's profile): a line for each range of earlier events.
+-- The races of a receive as lines (this project's profile): one for each range of earlier events.
 use Rattle.std.specs.Prelude.{ℕ, ◌+◌, ◌-◌, ◌==◌, List, ◌++◌, codes, decimal, if◌then◌else◌}
 use Rattle.std.specs.List.{flat_map}
 use Rattle.chart.specs.declared.event.Event.{Event}
@@ -19,7 +19,7 @@ last_of r = r.first.index + (r.count - 1)
 unfoldable pub numbers_text : ℕ → ℕ → List ℕ
 numbers_text first last = codes "events " ++ (decimal first ++ (codes " to " ++ (decimal last ++ codes " (")))
 
--- what stands between the first message of so many and the last: dots, where there are more than two
+-- the word between the first and the last of this number of messages: dots, if there are more than two
 abbrev pub between : ℕ → Word
 between n = if n == 2 then Comma else Dots
 
@@ -29,7 +29,7 @@ several_text events r =
     numbers_text r.first.index (last_of r) ++ (message_at (ith events r.first.index)
     ++ (word_text (between r.count) ++ (message_at (ith events (last_of r)) ++ word_text Close)))
 
--- the events of a range: its one event, or its first and last
+-- the events of a range: its single event, or its first and its last
 abbrev pub range_text : List (List ℕ) → List Event → EventRange → List ℕ
 range_text names events r =
     if r.count == 1 then text_at names r.first.index (ith events r.first.index) else several_text events r

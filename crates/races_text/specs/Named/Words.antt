@@ -1,4 +1,4 @@
--- What the lines of races are put together from (this project's profile).
+-- The parts of the lines of races (this project's profile).
 use Rattle.std.specs.Prelude.{ℕ, List, [], ◌++◌, Option, None, Some, codes, decimal}
 use Rattle.chart.specs.declared.event.Event.{Event}
 use Rattle.chart.specs.declared.event.Event.TheVariants.{Send, Receive}
@@ -9,7 +9,7 @@ use Rattle.texts.specs.Instances.{name_at}
 use Rattle.races_text.specs.declared.named.words.Word.{Word}
 use Rattle.races_text.specs.declared.named.words.Word.TheVariants as words
 
--- what stands between names and numbers
+-- the texts between names and numbers
 unfoldable pub word_text : Word → List ℕ
 word_text words.Colon = codes ": "
 word_text words.MayCome = codes " may come before "
@@ -38,7 +38,7 @@ event_text names index (Send to name) = half_text name index keywords.To ++ (nam
 event_text names index (Receive from name region) =
     half_text name index keywords.From ++ (name_at names from ++ word_text words.Close)
 
--- the same where there is an event
+-- the same, or nothing without an event
 abbrev pub text_at : List (List ℕ) → ℕ → Option Event → List ℕ
 text_at names index None = []
 text_at names index (Some m) = event_text names index m

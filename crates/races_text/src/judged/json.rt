@@ -14,7 +14,7 @@ use chart::{Event, EventNo, Names};
 use race_verdicts::Verdict;
 use texts::{Out, TextBuffer, WriteError};
 
-/// What stands behind the messages of a range.
+/// Adds the end of a range, after its messages.
 #[tactic(auto, unfolding(crate::specs::Judged::JsonText::why_text))]
 fn add_why<W: Out>(text: &mut TextBuffer<'_, W>, verdict: &Verdict) -> Result<(), WriteError>
     ensures { Adds W.sink text.old text.new result (why_text verdict.now) }
@@ -22,7 +22,7 @@ fn add_why<W: Out>(text: &mut TextBuffer<'_, W>, verdict: &Verdict) -> Result<()
     text.add_all(&[b"],\"why\":\"", word_of(verdict), b"\"}"])
 }
 
-/// A range: its numbers, its messages and its word.
+/// Adds a range: its numbers, its messages and its word.
 #[tactic(auto, using(texts::proofs::Writes::joining), unfolding(crate::specs::Judged::JsonText::part_text))]
 fn add_part<W: Out>(
     text: &mut TextBuffer<'_, W>,
@@ -37,7 +37,7 @@ fn add_part<W: Out>(
     add_why(text, &part.verdict)
 }
 
-/// Adds the object of a receive up to its first range, with that.
+/// Adds the beginning of a receive's object, up to its first range and with it.
 #[tactic(auto, using(texts::proofs::Writes::joining), unfolding(crate::specs::Judged::JsonText::front_text))]
 pub(crate) fn add_front<W: Out>(
     text: &mut TextBuffer<'_, W>,
@@ -54,7 +54,7 @@ pub(crate) fn add_front<W: Out>(
     add_part(text, events, part)
 }
 
-/// Adds a range behind another one.
+/// Adds a range after another one.
 #[tactic(auto, using(texts::proofs::Writes::joining), unfolding(crate::specs::Judged::JsonText::next_text))]
 pub(crate) fn add_next<W: Out>(
     text: &mut TextBuffer<'_, W>,

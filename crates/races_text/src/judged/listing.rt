@@ -25,11 +25,11 @@ use chart::{Event, EventNo, EventRange};
 use closure::Reporter;
 use texts::{Out, TextBuffer, WriteError};
 
-/// Whose races are listed, and how: each with its word, or luck alone.
+/// A query for races with their words: all of them, or only those of luck.
 pub struct VerdictQuery<'a, V> {
     pub query: RaceQuery<'a>,
     pub verdicts: &'a V,
-    /// Whether luck alone is shown.
+    /// Whether only luck is shown.
     pub luck: bool,
 }
 
@@ -43,7 +43,7 @@ impl<V> Drop for VerdictQuery<'_, V> {
     }
 }
 
-/// Adds the first range of a receive that is shown.
+/// Adds the first shown range of a receive.
 fn add_first<W: Out>(
     text: &mut TextBuffer<'_, W>,
     query: &RaceQuery<'_>,
@@ -61,7 +61,7 @@ fn add_first<W: Out>(
     }
 }
 
-/// Adds one behind it.
+/// Adds a later range of the same receive.
 fn add_later<W: Out>(
     text: &mut TextBuffer<'_, W>,
     query: &RaceQuery<'_>,
@@ -79,7 +79,7 @@ fn add_later<W: Out>(
     }
 }
 
-/// Adds what stands behind the last range, where there are some.
+/// Adds the end after the last range, if there are ranges.
 fn add_end<W: Out>(text: &mut TextBuffer<'_, W>, form: Form, has: bool) -> Result<(), WriteError>
     ensures { Adds W.sink text.old text.new result (ended_text form has) }
 {
@@ -92,14 +92,14 @@ fn add_end<W: Out>(text: &mut TextBuffer<'_, W>, form: Form, has: bool) -> Resul
     }
 }
 
-/// Whether a part is shown: each, or luck alone.
+/// Whether a part is shown: any part, or with `luck` only a part of luck.
 fn is_shown(luck: bool, part: &Part) -> bool
     ensures { result ≡ is_shown luck part.now }
 {
     if luck { is_luck(part.verdict) } else { true }
 }
 
-/// Adds a range after those so far, of which this is the summary, if it is shown, and answers the summary of all.
+/// Adds a range, if it is shown, after the ranges so far with this summary. It returns the summary of all.
 fn add_shown<W: Out>(
     text: &mut TextBuffer<'_, W>,
     query: &RaceQuery<'_>,
@@ -125,7 +125,7 @@ fn add_shown<W: Out>(
     Ok(summary.more(true, part.verdict))
 }
 
-/// Adds the ranges of these events that are shown, without the end, and answers the summary of all.
+/// Adds the shown ranges of these events, without the end. It returns the summary of all ranges.
 fn add_begun<W: Out, V: Verdicts>(
     text: &mut TextBuffer<'_, W>,
     query: &VerdictQuery<'_, V>,
@@ -155,7 +155,7 @@ fn add_begun<W: Out, V: Verdicts>(
     Ok(summary)
 }
 
-/// Adds the ranges of these events that are shown, and answers the summary of all.
+/// Adds the shown ranges of these events. It returns the summary of all ranges.
 fn add_parts<W: Out, V: Verdicts>(
     text: &mut TextBuffer<'_, W>,
     query: &VerdictQuery<'_, V>,
@@ -174,7 +174,7 @@ fn add_parts<W: Out, V: Verdicts>(
     Ok(summary)
 }
 
-/// The earlier events of a receive that are listed, of those of these ranges that are later than so many first ones.
+/// The earlier events of a receive that are listed. They are in these ranges, and their numbers are above `passed`.
 fn selected_events<'a>(
     query: &RaceQuery<'a>,
     receive: &EventNo,
@@ -193,8 +193,8 @@ fn selected_events<'a>(
     }
 }
 
-/// Adds the ranges of a receive's races, of the events of these ranges that are later than so many first ones, and
-/// answers their summary.
+/// Adds the ranges of a receive's races with the events of these ranges whose numbers are above `passed`. It returns
+/// their summary.
 fn add_selected<W: Out, V: Verdicts>(
     text: &mut TextBuffer<'_, W>,
     query: &VerdictQuery<'_, V>,
@@ -215,7 +215,7 @@ fn add_selected<W: Out, V: Verdicts>(
     add_parts(text, query, receive, events, kept)
 }
 
-/// Adds the text of what is listed of a receive's report, and answers the summary of its races.
+/// Adds the text of a receive's report, as far as the query selects it. It returns the summary of its races.
 fn add_report<W: Out, V: Verdicts>(
     text: &mut TextBuffer<'_, W>,
     query: &VerdictQuery<'_, V>,
@@ -239,7 +239,7 @@ fn add_report<W: Out, V: Verdicts>(
     add_selected(text, query, &receive, passed, earlier)
 }
 
-/// Adds the text of each receive's races as they are found, and answers the summary of all.
+/// Adds the text of each receive's races as they are found. It returns the summary of all.
 fn add_found<W: Out, V: Verdicts>(
     text: &mut TextBuffer<'_, W>,
     query: &VerdictQuery<'_, V>,
@@ -263,9 +263,9 @@ fn add_found<W: Out, V: Verdicts>(
     Ok(summary)
 }
 
-/// Writes the races that a reporter finds in the chart with these lines, each range with its word, or luck alone, and
-/// answers their summary: whether one is shown, whether there is one, and whether one isn't begun in the middle.
-/// It takes no memory. F24: a put failed.
+/// Writes the races that a reporter finds in the chart with these lines, each range with its word, or only those of
+/// luck. It returns their summary: whether one is shown, whether there is one, and whether one isn't begun in the
+/// middle. It takes no memory. F24: a put failed.
 #[tactic(auto, using(texts::proofs::Writes::joining, crate::proofs::NamedLemmas::FoundRaces::wrote_less, crate::proofs::NamedLemmas::FoundRaces::vacuous))]
 pub fn write_luck<W: Out, V: Verdicts>(
     query: &VerdictQuery<'_, V>,

@@ -15,7 +15,7 @@ pub struct Part {
 }
 
 impl Part {
-    /// The part of one event.
+    /// The part of a single event.
     pub fn of(event: &EventNo, verdict: Verdict) -> Part
         ensures { result ≡ part_of event.now verdict }
     {
@@ -25,7 +25,7 @@ impl Part {
         }
     }
 
-    /// Whether another part goes on where it ends, with its verdict.
+    /// Whether the next part begins where this one ends, and has the same verdict.
     pub(crate) fn goes_on(&self, next: &Part) -> bool
         requires { IsRange self.now.range }
         ensures joins { result ≡ true → (self.now.verdict ≡ next.now.verdict)
@@ -39,7 +39,7 @@ impl Part {
         }
     }
 
-    /// Both as one.
+    /// Joins this part and the next one.
     pub(crate) fn with(&self, next: &Part) -> Part
         requires range { IsRange self.now.range }
         requires next { IsRange next.now.range }

@@ -1,4 +1,4 @@
-//! The earlier events of a receive in parts that have one verdict.
+//! The earlier events of a receive, in parts that have one verdict.
 ghost use Rattle.std.specs.Prelude.{◌≡◌, ◌++◌, ◌<◌, true, false, None, [], All, MatchOption};
 ghost use Rattle.races_text.specs.Named.Stretches.{IsShort};
 ghost use Rattle.races_text.specs.Judged.Parts.{IsPart, events_in};
@@ -9,17 +9,17 @@ use crate::judged::verdicts::Verdicts;
 use crate::named::{KeptEvents, behind, no_events};
 use chart::{EventNo, EventRange};
 
-/// The earlier events of a receive that are still to come. Of the first ones the verdict is known.
+/// The earlier events of a receive that are still to come. The verdict of the first ones is known.
 #[derive(Drop)]
 pub struct PartsLeft<'a> {
-    /// The first ones, as many as are known to have one verdict.
+    /// The first of these events, as far as they are known to have one verdict.
     next: Option<Part>,
-    /// The neighbours of the first ones.
+    /// The rest of their range.
     rest: EventRange,
     kept: KeptEvents<'a>,
 }
 
-/// Whether there is an event whose verdict isn't known yet. Begins its range.
+/// Whether there is an event whose verdict isn't known yet. If so, its range has begun.
 fn has_later(left: &mut PartsLeft<'_>) -> bool
     requires { IsShort left.old.rest }
     ensures short { IsShort left.new.rest }
@@ -40,7 +40,7 @@ fn has_later(left: &mut PartsLeft<'_>) -> bool
     }
 }
 
-/// The next events with one verdict, as many as are known to have it at once.
+/// The next events that are known at once to have one verdict.
 fn next_piece<V: Verdicts>(
     verdicts: &V,
     receive: &EventNo,
@@ -63,7 +63,7 @@ fn next_piece<V: Verdicts>(
     Some(piece)
 }
 
-/// The parts of these events.
+/// Begins the parts of these events.
 pub fn parts_of<'a, V: Verdicts>(
     verdicts: &V,
     receive: &EventNo,
@@ -83,7 +83,7 @@ pub fn parts_of<'a, V: Verdicts>(
     left
 }
 
-/// The next part: the events that come next and have one verdict, as many as are neighbours. It takes no memory.
+/// The next part: as many neighbours as possible, from the next event on, that have one verdict. It takes no memory.
 pub fn next_part<V: Verdicts>(
     verdicts: &V,
     receive: &EventNo,

@@ -1,4 +1,4 @@
-//! The races of a receive with their words, in words.
+//! The races of a receive with their words, as lines.
 ghost use Rattle.std.specs.Prelude.{◌≡◌};
 ghost use Rattle.chart.specs.Ranges.{IsRange};
 ghost use Rattle.texts.specs.Writing.{Adds};
@@ -11,7 +11,7 @@ use chart::{Event, EventNo, Names};
 use race_verdicts::Verdict;
 use texts::{Out, TextBuffer, WriteError};
 
-/// `; WORD` at a line's end.
+/// Adds `; WORD` at the end of a line.
 #[tactic(auto, unfolding(crate::specs::Judged::PlainText::why_text))]
 fn add_why<W: Out>(text: &mut TextBuffer<'_, W>, verdict: &Verdict) -> Result<(), WriteError>
     ensures { Adds W.sink text.old text.new result (why_text verdict.now) }
@@ -19,8 +19,8 @@ fn add_why<W: Out>(text: &mut TextBuffer<'_, W>, verdict: &Verdict) -> Result<()
     text.add_all(&[b"; ", word_of(verdict), b"\n"])
 }
 
-/// Adds a line for a range of a receive's races, `INSTANCE: RECEIVE may come before RANGE; WORD`, of the line with
-/// these events.
+/// Adds a line for a range of a receive's races, `INSTANCE: RECEIVE may come before RANGE; WORD`. `events` are the
+/// events of the receive's line.
 #[tactic(auto, using(texts::proofs::Writes::joining), unfolding(crate::specs::Judged::PlainText::line_text))]
 pub(crate) fn add_line<W: Out>(
     text: &mut TextBuffer<'_, W>,

@@ -1,22 +1,22 @@
-//! What is reported beside the text of races that are asked for.
+//! The summary of the races of a query.
 ghost use Rattle.std.specs.Prelude.{◌≡◌};
 ghost use Rattle.races_text.specs.Judged.Summaries.{is_claimed, summary_of_none, summary_with, summary_of_both, claims_none};
 
 use crate::named::either;
 use race_verdicts::Verdict;
 
-/// What is reported of the races that are asked for.
+/// The summary of the races of a query.
 #[derive(Clone, Copy, Debug, PartialEq, Eq)]
 pub struct RaceSummary {
     /// Whether one is shown.
     pub shown: bool,
-    /// Whether there is one, shown or not.
+    /// Whether there is one, even if it isn't shown.
     pub any: bool,
-    /// Whether one is claimed: it isn't begun in the middle.
+    /// Whether one is claimed, which means that it isn't begun in the middle.
     pub claimed: bool,
 }
 
-/// Whether a race of this verdict is claimed: it isn't begun in the middle.
+/// Whether a race with this verdict is claimed, which means that it isn't begun in the middle.
 fn is_claimed(verdict: Verdict) -> bool
     ensures { result ≡ is_claimed verdict }
 {
@@ -35,7 +35,7 @@ impl RaceSummary {
         }
     }
 
-    /// The summary with one more range of this verdict, which is shown or isn't.
+    /// The summary with one more range of this verdict. `shows` is whether the range is shown.
     pub(crate) fn more(&self, shows: bool, verdict: Verdict) -> RaceSummary
         ensures { result ≡ summary_with self.now shows verdict }
     {
@@ -46,7 +46,7 @@ impl RaceSummary {
         }
     }
 
-    /// The summary of the races of both.
+    /// The summary of the races of both summaries.
     pub(crate) fn either(&self, other: &RaceSummary) -> RaceSummary
         ensures { result ≡ summary_of_both self.now other.now }
     {

@@ -10,16 +10,16 @@ use crate::judged::part::Part;
 use chart::{EventNo, EventRange};
 use race_verdicts::Verdict;
 
-/// What gives each race its verdict.
+/// Gives each race its verdict.
 pub trait Verdicts {
-    /// A receive and an earlier event of its line are a race.
+    /// Whether a receive and an earlier event of its line are a race.
     ghost is_race: { Self → EventNo → EventNo → Type 0 };
 
-    /// This is its verdict.
+    /// Whether this is the verdict of the race.
     ghost is_verdict: { Self → EventNo → EventNo → Verdict → Type 0 };
 
-    /// The verdict of the races of the receive and the first of these neighbouring events of its line, with the events
-    /// from the first on that are known to have it. It takes no memory.
+    /// The verdict of the race of the receive with the first of these neighbouring events of its line. The result also
+    /// has the events, from the first on, that are known to have the same verdict. It takes no memory.
     fn verdict_of_first(&self, receive: &EventNo, earlier: &EventRange) -> Part
         requires range { IsRange earlier.now }
         requires races { All (is_race self.now receive.now) (events_of earlier.now) }
@@ -42,7 +42,7 @@ pub(crate) fn word_of(verdict: &Verdict) -> &[u8]
     }
 }
 
-/// Whether it is luck.
+/// Whether the verdict is luck.
 pub(crate) fn is_luck(verdict: Verdict) -> bool
     ensures { result ≡ is_luck verdict }
 {

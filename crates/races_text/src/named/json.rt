@@ -17,7 +17,7 @@ use chart::{Event, EventNo, EventRange, Names};
 use itoa::Buffer;
 use texts::{Out, TextBuffer, WriteError};
 
-/// Adds the name of the instance at the other end of its message, where there is an event.
+/// Adds the name of an event's partner, or nothing without an event.
 fn add_partner_at<W: Out>(
     text: &mut TextBuffer<'_, W>,
     names: &Names,
@@ -31,7 +31,7 @@ fn add_partner_at<W: Out>(
     }
 }
 
-/// Adds an object up to the receive's number. F24: a put failed.
+/// Adds the beginning of an object, up to the receive's number. F24: a put failed.
 #[tactic(auto, using(texts::proofs::Writes::joining), unfolding(crate::specs::Named::JsonText::number_text))]
 pub fn add_number<W: Out>(
     text: &mut TextBuffer<'_, W>,
@@ -46,7 +46,7 @@ pub fn add_number<W: Out>(
     text.add_number(u64::from(receive.index))
 }
 
-/// Adds what stands behind the receive's number, up to the list of its ranges. F24: a put failed.
+/// Adds the part of an object after the receive's number, up to the list of its ranges. F24: a put failed.
 #[tactic(auto, using(texts::proofs::Writes::joining), unfolding(crate::specs::Named::JsonText::message_and_sender))]
 pub fn add_message_and_sender<W: Out>(
     text: &mut TextBuffer<'_, W>,
@@ -62,7 +62,7 @@ pub fn add_message_and_sender<W: Out>(
     add_word(text, Word::Ranges)
 }
 
-/// Adds a range up to the list of its messages. F24: a put failed.
+/// Adds the beginning of a range, up to the list of its messages. F24: a put failed.
 #[tactic(auto, unfolding(crate::specs::Named::JsonText::range_front))]
 pub fn add_range_front<W: Out>(
     text: &mut TextBuffer<'_, W>,
@@ -82,7 +82,7 @@ pub fn add_range_front<W: Out>(
     ])
 }
 
-/// A comma before all messages of a range but the first.
+/// Adds a comma before each message of a range except the first.
 fn add_comma<W: Out>(text: &mut TextBuffer<'_, W>, is_first: bool) -> Result<(), WriteError>
     ensures { Adds W.sink text.old text.new result (comma_before is_first) }
 {
@@ -93,7 +93,7 @@ fn add_comma<W: Out>(text: &mut TextBuffer<'_, W>, is_first: bool) -> Result<(),
     }
 }
 
-/// The message of an event of the range that begins with this number.
+/// Adds the message of an event, in the range whose first event has the number `first`.
 #[tactic(auto, using(texts::proofs::Writes::joining), unfolding(crate::specs::Named::JsonText::message_text))]
 fn add_message<W: Out>(
     text: &mut TextBuffer<'_, W>,
@@ -125,7 +125,7 @@ pub fn add_messages<W: Out>(
     Ok(())
 }
 
-/// A range.
+/// Adds a range.
 #[tactic(auto, using(texts::proofs::Writes::joining), unfolding(crate::specs::Named::JsonText::range_text))]
 fn add_range<W: Out>(
     text: &mut TextBuffer<'_, W>,
@@ -140,7 +140,7 @@ fn add_range<W: Out>(
     add_word(text, Word::EndRange)
 }
 
-/// A range behind another one.
+/// Adds a range after another one.
 #[tactic(auto, using(texts::proofs::Writes::joining), unfolding(crate::specs::Named::JsonText::next_text))]
 fn add_next<W: Out>(
     text: &mut TextBuffer<'_, W>,
@@ -154,7 +154,7 @@ fn add_next<W: Out>(
     add_range(text, events, range)
 }
 
-/// The ranges behind the first one.
+/// Adds the ranges after the first one.
 fn add_others<W: Out>(
     text: &mut TextBuffer<'_, W>,
     events: &[Event],
@@ -192,7 +192,7 @@ fn add_object<W: Out>(
     add_word(text, Word::EndObject)
 }
 
-/// Adds an object where there are ranges, and answers whether there are.
+/// Adds an object if there are ranges. It returns whether there are any.
 pub(crate) fn add_ranges<W: Out>(
     text: &mut TextBuffer<'_, W>,
     names: &Names,

@@ -7,7 +7,7 @@ ghost use Rattle.races_text.specs.Named.Kept.{is_kept_after, kept_after, kept_ra
 use chart::{Event, EventNo, EventRange};
 use std::marker::Model;
 
-/// The event of this number of a line, from 1, if it has one.
+/// The event of a line with this number, from 1, if the line has one.
 pub fn event_at(events: &[Event], index: usize) -> Option<Event>
     ensures { result ≡ ith events.now index }
 {
@@ -17,14 +17,15 @@ pub fn event_at(events: &[Event], index: usize) -> Option<Event>
     events.get(index - 1).copied()
 }
 
-/// Whether there is a receive.
+/// Whether this is a receive.
 fn receives(event: Option<Event>) -> bool
     ensures { result ≡ receives event }
 {
     matches!(event, Some(Event::Receive { .. }))
 }
 
-/// Whether an earlier event of the line is shown, where those up to a number aren't: each, or receives alone.
+/// Whether an earlier event of the line is shown. Events up to the number `passed` aren't shown. With `only` only
+/// receives are shown.
 pub(crate) fn is_kept(events: &[Event], only: bool, passed: u32, event: &EventNo) -> bool
     ensures { result ≡ is_kept_after events.now only passed event.now }
 {
@@ -37,12 +38,12 @@ pub(crate) fn is_kept(events: &[Event], only: bool, passed: u32, event: &EventNo
     }
 }
 
-/// The events of ranges that are still to come. A contract sees them one by one.
+/// The events of ranges that are still to come. Its model is the list of these events.
 #[derive(Drop)]
 struct Coming<'a> {
-    /// The first one is that of the next event.
+    /// The first of these ranges has the next event.
     ranges: &'a [EventRange],
-    /// So many events of the first one have come.
+    /// The number of events of the first range that have come.
     passed: usize,
 }
 
@@ -74,7 +75,7 @@ impl<'a> Coming<'a> {
         Some(range.event(self.passed))
     }
 
-    /// Passes the next event.
+    /// Passes over the next event.
     fn pass(&mut self)
         ensures { self.new ≡ drop 1 self.old }
     {
@@ -90,7 +91,7 @@ impl<'a> Coming<'a> {
     }
 }
 
-/// Passes events up to the first that is shown, and passes that one too.
+/// Passes over the events up to the first one that is shown, and over this one too.
 fn next_kept(events: &[Event], only: bool, passed: u32, coming: &mut Coming<'_>) -> Option<EventNo>
     ensures { MatchOption result (filter (is_kept_after events.now only passed) coming.old ≡ [])
         (λ event. filter (is_kept_after events.now only passed) coming.old
@@ -105,7 +106,7 @@ fn next_kept(events: &[Event], only: bool, passed: u32, coming: &mut Coming<'_>)
     None
 }
 
-/// Whether the event stands right behind the range.
+/// Whether the event comes directly after the range.
 pub fn goes_on(range: &EventRange, event: EventNo) -> bool
     requires { IsRange range.now }
     ensures { result ≡ is_followed_by range.now (record { first = event; count = 1 }) }
@@ -114,8 +115,7 @@ pub fn goes_on(range: &EventRange, event: EventNo) -> bool
         && range.first.index as usize + range.count == event.index as usize
 }
 
-/// The range that this event begins, as long as it can be: the events that are shown are passed as far as they go on
-/// with it.
+/// The range that begins with this event, as long as possible. The shown events that continue it are passed over.
 fn joined(
     events: &[Event],
     only: bool,
@@ -140,7 +140,8 @@ fn joined(
     range
 }
 
-/// The earlier events of a receive that are shown, as the fewest ranges. A contract sees those still to come.
+/// The earlier events of a receive that are shown, as the fewest ranges. Its model is the list of the ranges that are
+/// still to come.
 #[derive(Drop)]
 pub(crate) struct KeptRanges<'a> {
     events: &'a [Event],
@@ -160,8 +161,8 @@ impl<'a> Model for KeptRanges<'a> {
 }
 
 impl<'a> KeptRanges<'a> {
-    /// Those of the events of these ranges that are later than so many first ones, of the line with these events: all,
-    /// or receives alone.
+    /// The ranges of the shown events among `earlier`: those with a number above `passed`, and with `only` only
+    /// receives. `events` are the events of their line.
     #[tactic(auto, using(crate::proofs::NamedLemmas::LaterRaces::kept_later))]
     pub fn of(
         events: &'a [Event],
@@ -180,7 +181,7 @@ impl<'a> KeptRanges<'a> {
         }
     }
 
-    /// The next one.
+    /// The next range.
     pub fn next_range(&mut self) -> Option<EventRange>
         ensures ranges { MatchOption result (self.old ≡ []) (λ range. self.old ≡ range ∷ self.new) }
         ensures is { IfSome result IsRange }

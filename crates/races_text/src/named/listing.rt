@@ -18,7 +18,7 @@ use closure::Reporter;
 use reordering::completion::Completion;
 use texts::{Out, TextBuffer, WriteError};
 
-/// In which form races are told.
+/// The form in which races are written.
 #[derive(Clone, Copy, Debug, PartialEq, Eq)]
 pub enum Form {
     /// A line for each range.
@@ -27,22 +27,22 @@ pub enum Form {
     Json,
 }
 
-/// Whose races are told, and how.
+/// A query for races: which of them are written, and in which form.
 #[derive(Clone, Copy)]
 pub struct RaceQuery<'a> {
     pub names: &'a Names,
     pub lines: &'a [Line],
-    /// The instances that are asked for.
+    /// The instances whose races are written.
     pub only: &'a [InstanceNo],
-    /// Whether earlier events are shown that are receives alone.
+    /// Whether only receives are shown as earlier events.
     pub receives: bool,
-    /// The chart's, where its instances finish what a message makes them do before they receive again: then the races
-    /// that are left are told.
+    /// The completion of the chart, if its instances are assumed to run to completion. Then only the races that remain
+    /// are written.
     pub completion: Option<&'a Completion<'a>>,
     pub form: Form,
 }
 
-/// Whether the instance is asked for.
+/// Whether the instance is one of these.
 pub fn is_among(instance: InstanceNo, only: &[InstanceNo]) -> bool
     ensures { result ≡ list_any (nat_eq instance) only.now }
 {
@@ -56,7 +56,7 @@ pub fn either(first: bool, second: bool) -> bool
     first || second
 }
 
-/// Adds the ranges of a receive's races, and answers whether there are some.
+/// Adds the ranges of a receive's races. It returns whether there are any.
 fn add_ranges<W: Out>(
     text: &mut TextBuffer<'_, W>,
     selected: &RaceQuery<'_>,
@@ -74,7 +74,8 @@ fn add_ranges<W: Out>(
     }
 }
 
-/// How many first events of a receive's line aren't told as its races: those that finishing puts before it.
+/// The number of the last send of a receive's line that run to completion puts before the receive, or 0 if there is
+/// none. Events up to this number aren't shown as races of the receive. Without `completion` it is 0.
 pub fn passed_by(selected: &RaceQuery<'_>, receive: &EventNo, earlier: &[EventRange]) -> u32
     requires report { IsReportIn (chart_lines selected.now.lines.now)
         (record { receive = receive.now; earlier = events_in earlier.now }) }
@@ -89,8 +90,8 @@ pub fn passed_by(selected: &RaceQuery<'_>, receive: &EventNo, earlier: &[EventRa
     }
 }
 
-/// Adds the text of a receive's races, of the events of these ranges that are later than so many first ones, and
-/// answers whether one is shown.
+/// Adds the text of a receive's races with the events of these ranges whose numbers are above `passed`. It returns
+/// whether one is shown.
 fn add_later<W: Out>(
     text: &mut TextBuffer<'_, W>,
     selected: &RaceQuery<'_>,
@@ -114,7 +115,7 @@ fn add_later<W: Out>(
     }
 }
 
-/// Adds the text of what is told of a receive's report, and answers whether a race is shown.
+/// Adds the text of a receive's report, as far as the query selects it. It returns whether a race is shown.
 fn add_report<W: Out>(
     text: &mut TextBuffer<'_, W>,
     selected: &RaceQuery<'_>,
@@ -135,7 +136,7 @@ fn add_report<W: Out>(
     add_later(text, selected, receive, passed, earlier)
 }
 
-/// Adds the text of each receive's races as they are found, and answers whether one is shown.
+/// Adds the text of each receive's races as they are found. It returns whether one is shown.
 fn add_found<W: Out>(
     text: &mut TextBuffer<'_, W>,
     selected: &RaceQuery<'_>,
@@ -156,7 +157,7 @@ fn add_found<W: Out>(
     Ok(has_races)
 }
 
-/// Writes the races that a reporter finds in the chart with these lines, and answers whether one is shown. It takes no
+/// Writes the races that a reporter finds in the chart with these lines. It returns whether one is shown. It takes no
 /// memory. F24: a put failed.
 #[tactic(auto, using(texts::proofs::Writes::joining, crate::proofs::NamedLemmas::FoundRaces::wrote_less, crate::proofs::NamedLemmas::FoundRaces::vacuous))]
 pub fn write_races<W: Out>(

@@ -21,7 +21,7 @@ pub fn last_of(range: &EventRange) -> u32
     range.event(range.count - 1).index
 }
 
-/// `events FIRST to LAST (`.
+/// Adds `events FIRST to LAST (`.
 #[tactic(auto, unfolding(crate::specs::Named::PlainText::numbers_text))]
 fn add_numbers<W: Out>(
     text: &mut TextBuffer<'_, W>,
@@ -41,14 +41,14 @@ fn add_numbers<W: Out>(
     ])
 }
 
-/// What stands between the first message of so many and the last.
+/// The word between the first and the last of this number of messages.
 fn between(count: usize) -> Word
     ensures { result ≡ between count }
 {
     if count == 2 { Word::Comma } else { Word::Dots }
 }
 
-/// `events FIRST to LAST (MESSAGE, .., MESSAGE)`.
+/// Adds `events FIRST to LAST (MESSAGE, .., MESSAGE)`.
 #[tactic(auto, using(texts::proofs::Writes::joining), unfolding(crate::specs::Named::PlainText::several_text))]
 fn add_several<W: Out>(
     text: &mut TextBuffer<'_, W>,
@@ -67,7 +67,7 @@ fn add_several<W: Out>(
     add_word(text, Word::Close)
 }
 
-/// Adds the events of a range: its one event, or its first and last. F24: a put failed.
+/// Adds the events of a range: its single event, or its first and its last. F24: a put failed.
 pub fn add_range<W: Out>(
     text: &mut TextBuffer<'_, W>,
     names: &Names,
@@ -85,8 +85,8 @@ pub fn add_range<W: Out>(
     }
 }
 
-/// Adds a line for a range of a receive's races, `INSTANCE: RECEIVE may come before RANGE`, of the line with these
-/// events. F24: a put failed.
+/// Adds a line for a range of a receive's races, `INSTANCE: RECEIVE may come before RANGE`. `events` are the events of
+/// the receive's line. F24: a put failed.
 #[tactic(auto, using(texts::proofs::Writes::joining), unfolding(crate::specs::Named::PlainText::line_text))]
 pub fn add_line<W: Out>(
     text: &mut TextBuffer<'_, W>,
@@ -107,7 +107,7 @@ pub fn add_line<W: Out>(
     add_word(text, Word::End)
 }
 
-/// Adds a line for each of these ranges, and answers whether there is one.
+/// Adds a line for each of these ranges. It returns whether there is one.
 pub(crate) fn add_lines<W: Out>(
     text: &mut TextBuffer<'_, W>,
     names: &Names,

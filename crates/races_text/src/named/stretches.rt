@@ -1,4 +1,4 @@
-//! The earlier events of a receive that are shown, neighbours at once.
+//! The earlier events of a receive that are shown, several neighbours at a time.
 ghost use Rattle.std.specs.Prelude.{ℕ, ◌≡◌, ◌++◌, ◌+◌, ◌-◌, ◌<◌, ◌≤◌, true, false, [], min, filter, All, IfSome, MatchOption};
 ghost use Rattle.chart.specs.Ranges.{IsRange, events_of, events_in};
 ghost use Rattle.races_text.specs.Named.Kept.{is_kept_after, kept_events, later_than};
@@ -8,7 +8,7 @@ use crate::named::kept::is_kept;
 use chart::{Event, EventNo, EventRange, InstanceNo};
 use std::marker::Model;
 
-/// What is left of a range after its first events. It may be none.
+/// The rest of a range after its first events. It may have no events.
 pub(crate) fn behind(range: &EventRange, count: usize) -> EventRange
     requires short { IsShort range.now }
     requires count { count ≤ range.now.count }
@@ -40,7 +40,7 @@ pub(crate) fn no_events() -> EventRange
     }
 }
 
-/// How many events of a range, from the first one on, are among so many first ones of their line.
+/// How many events of a range, from the first on, have a number of at most `passed`.
 fn early(range: &EventRange, passed: u32) -> usize
     ensures { result ≡ min (passed + 1 - range.now.first.index) range.now.count }
 {
@@ -49,7 +49,7 @@ fn early(range: &EventRange, passed: u32) -> usize
         .min(range.count)
 }
 
-/// How many events of a range, from the first one on, aren't shown.
+/// How many events of a range, from the first on, aren't shown.
 fn hidden_first(events: &[Event], only: bool, passed: u32, range: &EventRange) -> usize
     requires { IsShort range.now }
     ensures within { result ≤ range.now.count }
@@ -67,7 +67,7 @@ fn hidden_first(events: &[Event], only: bool, passed: u32, range: &EventRange) -
     range.count
 }
 
-/// How many events of a range, from the first one on, are shown, if the first one is.
+/// How many events of a range, from the first on, are shown, if the first one is.
 fn shown_first(events: &[Event], only: bool, passed: u32, range: &EventRange) -> usize
     requires range { IsRange range.now }
     requires first { is_kept_after events.now only passed range.now.first ≡ true }
@@ -86,7 +86,7 @@ fn shown_first(events: &[Event], only: bool, passed: u32, range: &EventRange) ->
     range.count
 }
 
-/// What is left of a range from its first event on that is shown. It may be none.
+/// The rest of a range from its first shown event on. It may have no events.
 fn from_shown(events: &[Event], only: bool, passed: u32, range: &EventRange) -> EventRange
     requires { IsShort range.now }
     ensures short { IsShort result }
@@ -101,12 +101,12 @@ fn from_shown(events: &[Event], only: bool, passed: u32, range: &EventRange) -> 
 /// The events of ranges that are still to come.
 #[derive(Clone, Copy)]
 struct Left<'a> {
-    /// What is left of the range that has begun.
+    /// The rest of the range that has begun.
     rest: EventRange,
     ranges: &'a [EventRange],
 }
 
-/// Passes events up to the first that is shown, if there is one, and begins its range.
+/// Passes over the events up to the first one that is shown, if there is one, and begins its range.
 fn begin_shown(events: &[Event], only: bool, passed: u32, left: &mut Left<'_>)
     requires { AreShort left.old }
     ensures short { AreShort left.new }
@@ -125,7 +125,7 @@ fn begin_shown(events: &[Event], only: bool, passed: u32, left: &mut Left<'_>)
     }
 }
 
-/// Passes the first event, which is shown, and its neighbours in its range that are shown too.
+/// Passes over the first event, which is shown, and over its neighbours in its range that are shown too.
 fn take_shown(events: &[Event], only: bool, passed: u32, left: &mut Left<'_>) -> EventRange
     requires short { AreShort left.old }
     requires some { 0 < left.old.rest.count }
@@ -144,7 +144,7 @@ fn take_shown(events: &[Event], only: bool, passed: u32, left: &mut Left<'_>) ->
     }
 }
 
-/// Passes events up to the first that is shown, and passes it with its neighbours that are shown.
+/// Passes over the events up to the first one that is shown, and over this one with its neighbours that are shown.
 fn next_shown(events: &[Event], only: bool, passed: u32, left: &mut Left<'_>) -> Option<EventRange>
     requires { AreShort left.old }
     ensures short { AreShort left.new }
@@ -161,7 +161,7 @@ fn next_shown(events: &[Event], only: bool, passed: u32, left: &mut Left<'_>) ->
     Some(take_shown(events, only, passed, left))
 }
 
-/// The earlier events of a receive that are shown. A contract sees those still to come.
+/// The earlier events of a receive that are shown. Its model is the list of those that are still to come.
 #[derive(Drop)]
 pub struct KeptEvents<'a> {
     events: &'a [Event],
@@ -184,8 +184,8 @@ impl<'a> Model for KeptEvents<'a> {
 }
 
 impl<'a> KeptEvents<'a> {
-    /// Those of the events of these ranges that are later than so many first ones, of the line with these events: all,
-    /// or receives alone.
+    /// The shown events among `earlier`: those with a number above `passed`, and with `only` only receives. `events`
+    /// are the events of their line.
     #[tactic(auto, using(crate::proofs::NamedLemmas::LaterRaces::kept_events_later))]
     pub fn of(
         events: &'a [Event],
@@ -207,8 +207,8 @@ impl<'a> KeptEvents<'a> {
         }
     }
 
-    /// The next ones that are neighbours. It takes time for their range, and where receives alone are shown for its
-    /// events.
+    /// The next events that are neighbours. Its time grows with the ranges that it passes over, or, if only receives
+    /// are shown, with their events.
     pub fn next_stretch(&mut self) -> Option<EventRange>
         ensures events { MatchOption result ((self.old ≡ []) × (self.new ≡ [])) (λ range. self.old ≡ events_of range ++ self.new) }
         ensures is { IfSome result IsRange }

@@ -1,4 +1,4 @@
-//! What the lines of races are put together from.
+//! The parts of the lines of races.
 ghost use Rattle.std.specs.Prelude.{◌≡◌};
 ghost use Rattle.msc_text.specs.ChartText.{message_at};
 ghost use Rattle.texts.specs.Instances.{name_at};
@@ -9,38 +9,38 @@ use chart::{Event, InstanceNo, Keyword, Name, Names};
 use itoa::Buffer;
 use texts::{Out, TextBuffer, WriteError};
 
-/// What stands between names and numbers.
+/// The texts between names and numbers.
 #[derive(Clone, Copy, Debug, PartialEq, Eq)]
 pub enum Word {
-    /// Behind an instance's name.
+    /// After an instance's name.
     Colon,
-    /// Between a receive and what it may come before.
+    /// Between a receive and the events that it may come before.
     MayCome,
     /// Between two messages.
     Comma,
-    /// Between the first message of several and the last.
+    /// Between the first and the last of more than two messages.
     Dots,
-    /// Behind a bracket's content.
+    /// After the content of a bracket.
     Close,
-    /// At a line's end.
+    /// At the end of a line.
     End,
-    /// Before the name of a receive's instance in JSON.
+    /// Before the name of the receive's instance, in JSON.
     Instance,
-    /// Before its number.
+    /// Before the number of the receive, in JSON.
     Receive,
-    /// Before its message.
+    /// Before the message of the receive, in JSON.
     Message,
-    /// Before its sender.
+    /// Before the sender of the receive's message, in JSON.
     Sender,
-    /// Before the ranges of its races.
+    /// Before the ranges of the receive's races, in JSON.
     Ranges,
-    /// On both sides of a text in JSON.
+    /// On both sides of a text, in JSON.
     Quote,
-    /// Between two elements of a list in JSON.
+    /// Between two elements of a list, in JSON.
     Next,
-    /// Behind the messages of a range.
+    /// After the messages of a range, in JSON.
     EndRange,
-    /// Behind the ranges of a receive.
+    /// After the ranges of a receive, in JSON.
     EndObject,
 }
 
@@ -67,14 +67,14 @@ fn word_of(word: &Word) -> &[u8]
     }
 }
 
-/// Adds it. F24: a put failed.
+/// Adds the text of a word. F24: a put failed.
 pub fn add_word<W: Out>(text: &mut TextBuffer<'_, W>, word: Word) -> Result<(), WriteError>
     ensures { Adds W.sink text.old text.new result (word_text word) }
 {
     text.add(word_of(&word))
 }
 
-/// Adds the name of an instance, or nothing where it has none. F24: a put failed.
+/// Adds the name of an instance, or nothing if it has none. F24: a put failed.
 pub fn add_name<W: Out>(
     text: &mut TextBuffer<'_, W>,
     names: &Names,
@@ -88,7 +88,7 @@ pub fn add_name<W: Out>(
     }
 }
 
-/// `MESSAGE (INDEX, from ` or `MESSAGE (INDEX, to `.
+/// Adds `MESSAGE (INDEX, from ` or `MESSAGE (INDEX, to `.
 #[tactic(auto, unfolding(crate::specs::Named::Words::half_text))]
 fn add_half<W: Out>(
     text: &mut TextBuffer<'_, W>,
@@ -110,7 +110,7 @@ fn add_half<W: Out>(
     ])
 }
 
-/// `MESSAGE (INDEX, from NAME)` or `MESSAGE (INDEX, to NAME)`.
+/// Adds `MESSAGE (INDEX, from NAME)` or `MESSAGE (INDEX, to NAME)`.
 #[tactic(auto, using(texts::proofs::Writes::joining), unfolding(crate::specs::Named::Words::event_text))]
 fn add_event<W: Out>(
     text: &mut TextBuffer<'_, W>,
@@ -134,8 +134,7 @@ fn add_event<W: Out>(
     }
 }
 
-/// Adds `MESSAGE (INDEX, from NAME)` or `MESSAGE (INDEX, to NAME)`, or nothing where there is no event. F24: a put
-/// failed.
+/// Adds `MESSAGE (INDEX, from NAME)` or `MESSAGE (INDEX, to NAME)`, or nothing without an event. F24: a put failed.
 pub fn add_event_at<W: Out>(
     text: &mut TextBuffer<'_, W>,
     names: &Names,
@@ -150,7 +149,7 @@ pub fn add_event_at<W: Out>(
     }
 }
 
-/// Adds the name of its message, where there is an event.
+/// Adds the name of an event's message, or nothing without an event.
 pub(crate) fn add_message_at<W: Out>(
     text: &mut TextBuffer<'_, W>,
     event: &Option<Event>,

@@ -1,4 +1,4 @@
--- Facts of numbers that are decided: of each below a bound, of one, of the last one.
+-- Decided facts of numbers: of each below a bound, of one, of the last one.
 use Rattle.std.proofs.Common.{ℕ, zero, suc, ◌<◌, ◌≤◌, ◌⊎◌, inl, inr, sym, subst, arith}
 use Rattle.std.proofs.lemmas.Bool.{cases_eq}
 
@@ -6,7 +6,7 @@ use Rattle.std.proofs.lemmas.Bool.{cases_eq}
 abbrev pub Decided : Type 0 → Type 0
 Decided P = P ⊎ (P → ⊥)
 
--- it holds of each, or one is found of which it doesn't
+-- the fact holds of each number, or there is one of which it doesn't
 pub each_or_one : (P : ℕ → Type 0) → ((j : ℕ) → Decided (P j)) → (n : ℕ) → ((j : ℕ) → j < n → P j) ⊎ ((j : ℕ) × (P j → ⊥))
 each_or_one P decided zero = inl (λ j less. absurd (omega arith))
 each_or_one P decided (suc n) = elim (each_or_one P decided n) [
@@ -18,7 +18,7 @@ each_or_one P decided (suc n) = elim (each_or_one P decided n) [
       ]
 ]
 
--- of those of which P holds each has Q, or one has R
+-- of the numbers with P each has Q, or one has R
 pub sorted : (P Q R : ℕ → Type 0) → ((j : ℕ) → Decided (P j)) → ((j : ℕ) → P j → Q j ⊎ R j) → (n : ℕ) → ((j : ℕ) → j < n → P j → Q j) ⊎ ((j : ℕ) × P j × R j)
 sorted P Q R decided either zero = inl (λ j less p. absurd (omega arith))
 sorted P Q R decided either (suc n) = elim (sorted P Q R decided either n) [
@@ -34,7 +34,7 @@ sorted P Q R decided either (suc n) = elim (sorted P Q R decided either n) [
       ]
 ]
 
--- the fact holds of a last one below the bound, or of none
+-- there is a last number below the bound of which the fact holds, or there is none
 pub last_or_none : (P : ℕ → Type 0) → ((j : ℕ) → Decided (P j)) → (n : ℕ) → ((j : ℕ) × (j < n) × P j × ((l : ℕ) → l < n → P l → l ≤ j)) ⊎ ((j : ℕ) → j < n → P j → ⊥)
 last_or_none P decided zero = inr (λ j less p. omega arith)
 last_or_none P decided (suc n) = elim (decided n) [

@@ -1,4 +1,4 @@
--- Receives of a line and the sends that they are handled by; that a coregion's receives are neighbours.
+-- Receives of a line and the sends that handle them; the receives of a coregion are neighbours.
 use Rattle.std.proofs.Common.{◌≡◌, ℕ, zero, suc, ◌<◌, ◌≤◌, inl, inr, Bool, true, List, [], ◌∷◌, take, Option, Some, None, refl, sym, ap, ◌∙◌, subst, arith}
 use Rattle.std.proofs.lemmas.Bool.{cases_lt, cases_eq, cases_Bool, false≢true, eq-eqb, or_cases}
 use Rattle.std.proofs.lemmas.Option.{none-some, same_Some}
@@ -25,7 +25,7 @@ pub to_whom : (m : Event) → is_send m ≡ true → (q : ℕ) × (is_send_to q 
 to_whom (Send to name) sends = (to, eq-eqb to to refl)
 to_whom (Receive from name region) sends = absurd (false≢true sends)
 
--- no place has both
+-- no place has a send and a receive
 pub never_both : (line : List Event) (j : ℕ) → IsReceiveAt line j → IsSendAt line j → ⊥
 never_both line j (q, m, at_j, from) (n, there, sends) = no_send q n (subst (λ x. is_receive_from q x ≡ true) (same_Some m n (sym at_j ∙ there)) from) sends
 
@@ -66,7 +66,7 @@ decide_between line d s j = elim (cases_lt d j) [
       | inr fails ↦ inr (λ all. false≢true (sym fails ∙ all n low high is))
     ]
 
--- whether a receive is handled by a send is decided
+-- whether a send handles a receive is decided
 pub decide_handled : (line : List Event) (d s : ℕ) → Decided (IsHandled line d s)
 decide_handled line d s = elim (cases_lt d s) [
   | inr past ↦ inr (λ h. let l = h.less in omega arith)
@@ -100,7 +100,7 @@ last_region_at (x ∷ line) (suc zero) m at_n = ap region_of (same_Some x m at_n
 last_region_at (x ∷ []) (suc (suc n)) m at_n = absurd (none-some m at_n)
 last_region_at (x ∷ y ∷ line) (suc (suc n)) m at_n = last_region_at (y ∷ line) (suc n) m at_n
 
--- an event whose coregion has an earlier one stands directly behind one of it
+-- an event whose coregion has an earlier one comes directly after one of it
 goes_on : (line : List Event) → HasRegionsInOrder line → (i k : ℕ) (a b : Event) → i ≤ k → ith line i ≡ Some a → ith line (suc k) ≡ Some b → region_of a ≡ region_of b → 0 < region_of b → (m : Event) × (ith line k ≡ Some m) × (region_of m ≡ region_of b)
 goes_on line regions i k a b le at_i at_k same some = elim (regions k b at_k) [
   | inl none ↦ absurd (omega arith)
@@ -115,7 +115,7 @@ goes_on line regions i k a b le at_i at_k same some = elim (regions k b at_k) [
       ]
 ]
 
--- events between two of one coregion are of it
+-- events between two of one coregion are in it
 pub in_one_region : (line : List Event) → HasRegionsInOrder line → (i : ℕ) (a : Event) → ith line i ≡ Some a → 0 < region_of a → (k : ℕ) (b : Event) → ith line k ≡ Some b → region_of b ≡ region_of a → (j : ℕ) (m : Event) → i < j → j < k → ith line j ≡ Some m → region_of m ≡ region_of a
 in_one_region line regions i a at_i some zero b at_k same j m low high at_j = absurd (omega arith)
 in_one_region line regions i a at_i some (suc k) b at_k same j m low high at_j =
@@ -125,9 +125,9 @@ in_one_region line regions i a at_i some (suc k) b at_k same j m low high at_j =
       | inr differs ↦ in_one_region line regions i a at_i some k w.0 w.1 (w.2 ∙ same) j m low (omega arith) at_j
     ]
 
--- Of a line whose coregions are in order.
+-- A line whose coregions are in order.
 module _ (line : List Event) (regions : HasRegionsInOrder line) where
-  -- a receive behind one that is handled, before the send, is of its coregion
+  -- a receive between a handled one and the send is in its coregion
   pub same_region : (d e s : ℕ) (a b : Event) → IsHandled line d s → ith line d ≡ Some a → ith line e ≡ Some b → IsReceiveAt line e → d < e → e < s → (region_of b ≡ region_of a) × (0 < region_of a)
   same_region d e s a b handled at_d at_e received low high =
       elim (or_cases (is_send b) (is_in (region_of_event (ith line d)) b) (handled.between e b low high at_e)) [
@@ -137,7 +137,7 @@ module _ (line : List Event) (regions : HasRegionsInOrder line) where
             (same, elim (cases_eq (region_of b) 0) [ inl none ↦ absurd (none_in (region_of_event (ith line d)) b none inside) | inr some ↦ omega arith ])
       ]
 
-  -- no send stands between two receives that are handled by one
+  -- no send is between two receives that are handled by the same send
   pub none_between : (d e s t : ℕ) → IsHandled line d s → IsReceiveAt line e → d < t → t < e → e < s → IsSendAt line t → ⊥
   none_between d e s t handled received low middle high sends =
       let a = handled.received in
@@ -146,7 +146,7 @@ module _ (line : List Event) (regions : HasRegionsInOrder line) where
       let same = in_one_region line regions d a.1 a.2 w.1 e b.1 b.2 w.0 t sends.0 low middle sends.1 in
       omega (arith, w.1, same, region_of_send sends.0 sends.2)
 
-  -- a receive behind one that is handled, before the send, is handled by it too
+  -- a receive between a handled one and the send is handled by it too
   pub later_handled : (d e s : ℕ) → IsHandled line d s → IsReceiveAt line e → d < e → e < s → IsHandled line e s
   later_handled d e s handled received low high =
       let a = handled.received in
@@ -160,7 +160,7 @@ module _ (line : List Event) (regions : HasRegionsInOrder line) where
         between = λ j m above below at_j. subst (λ x. may_follow x m ≡ true) same (handled.between j m (omega arith) below at_j);
       }
 
--- it is handled by an earlier send too
+-- an earlier send after the receive handles it too
 pub handled_sooner : (line : List Event) (d s t : ℕ) → IsHandled line d s → IsSendAt line t → d < t → t ≤ s → IsHandled line d t
 handled_sooner line d s t handled sends low high = record {
   less = low;

@@ -1,4 +1,4 @@
--- The races that are left where instances finish.
+-- The remaining races if instances finish.
 use Rattle.std.proofs.Common.{◌≡◌, ℕ, zero, suc, ◌<◌, ◌↔◌, ◌⊎◌, inl, inr, Bool, true, false, cond, nat_lt, List, [], ◌∷◌, Contains, refl, sym, ◌∙◌, subst, arith, lt-ltb}
 use Rattle.std.specs.Prelude.{filter}
 use Rattle.std.proofs.lemmas.Bool.{cases_lt, false≢true, ltb-true}
@@ -20,7 +20,7 @@ first_or_rest x xs j (suc k, within, same) = inr (k, omega arith, same)
 behind_first : (x : ℕ) (xs : List ℕ) (j : ℕ) → Contains xs j → Contains (x ∷ xs) j
 behind_first x xs j (k, within, same) = (suc k, omega arith, same)
 
--- what a filter leaves are the elements that pass
+-- a filtered list has exactly the elements that pass
 pub filter_has : (test : ℕ → Bool) (xs : List ℕ) (j : ℕ) → Contains (filter test xs) j ↔ (Contains xs j × (test j ≡ true))
 filter_has test [] j = (λ here. absurd (omega (arith, here.1)), λ w. absurd (omega (arith, w.0.1)))
 filter_has test (x ∷ xs) j = go (test x) refl (filter_has test xs j)
@@ -41,7 +41,7 @@ filter_has test (x ∷ xs) j = go (test x) refl (filter_has test xs j)
       ],
     )
 
--- those later than the last send that is finished before the receive
+-- the remaining races are those later than the last send that is finished before the receive
 pub left_of : (c : Chart) → IsSound c → (p i k : ℕ) → (report : List ℕ) → IsReport c (at p i) report → IsFinishedUpTo c (at p i) k → IsCompletedReport c (at p i) (filter (nat_lt k) report)
 left_of c sound p i k report is up_to = record {
   rising = AllPairs-filter (λ x y. x < y) (nat_lt k) report is.rising;

@@ -1,4 +1,4 @@
--- The order where instances finish, in its closed form.
+-- The order if instances finish, in its closed form.
 use Rattle.std.proofs.Common.{◌≡◌, ℕ, ◌<◌, ◌≤◌, ◌↔◌, ◌⊎◌, inl, inr, refl, sym, ap, ◌∙◌, subst, arith}
 use Rattle.std.proofs.lemmas.Bool.{cases_lt, cases_eq}
 use Rattle.chart.specs.Events.{is_receive_from}
@@ -19,12 +19,12 @@ use Rattle.reordering.proofs.CompletionLemmas.Deciding.{Decided, sorted, last_or
 use Rattle.reordering.proofs.CompletionLemmas.HandlingLemmas.{to_whom, never_both, decide_at, decide_receive, decide_handled, none_between, handled_sooner}
 use Rattle.reordering.proofs.CompletionLemmas.Possible.{IsSound}
 
--- what is enforced is before
+-- an event that is enforced before another is before it
 pub part : {c : Chart} {e f : Place} → Before c e f → Completed c e f
 part (direct step) = stepped step
 part (through x y) = chained (part x) (part y)
 
--- a send that is finished is before
+-- a send that is finished before a receive is before it
 pub finished_before : {c : Chart} {s r : Place} → IsFinished c s r → Completed c s r
 finished_before is = finishing is.receive.0 is.handling.0 is.earlier is.receive.1 is.handling.1 (λ d handled. part (is.before d handled))
 
@@ -37,7 +37,7 @@ from_ends c e f (inl before) = part before
 from_ends c e f (inr (s, finished, inl same)) = subst (λ x. Completed c x f) (sym same) (finished_before finished)
 from_ends c e f (inr (s, finished, inr before)) = chained (part before) (finished_before finished)
 
--- there is a send
+-- a send on a line is a send of the chart
 pub sends_at : (c : Chart) (p s : ℕ) → IsSendAt (c p) s → (q : ℕ) × IsSendTo c q (at p s)
 sends_at c p s (m, at_s, sends) = let q = to_whom m sends in (q.0, (m, at_s, q.1))
 
@@ -45,15 +45,15 @@ sends_at c p s (m, at_s, sends) = let q = to_whom m sends in (q.0, (m, at_s, q.1
 pub finished_sends : {c : Chart} {s r : Place} → IsFinished c s r → (q : ℕ) × IsSendTo c q s
 finished_sends {c = c} {s = s} is = sends_at c s.instance s.index is.handling.1.sent
 
--- what is up to an event is before what this is before
+-- an event that is s or before it is before any event that s is before
 up_through : (c : Chart) (e s t : Place) → IsUpTo c s e → Before c s t → Before c e t
 up_through c e s t (inl same) before = subst (λ x. Before c x t) (sym same) before
 up_through c e s t (inr first) before = through first before
 
 -- The steps of a chain in the closed form.
 
--- of an event of a line and a later one, what the later is before: the earlier is before it too, or it is a later receive
--- of the line
+-- let an event of a line be before f. An earlier event of the line is then before f too, or f is a later receive of the
+-- line
 from_later : (c : Chart) → IsSound c → (s d f : Place) → IsEarlier s d → Before c d f → Before c s f ⊎ (IsEarlier d f × ((q : ℕ) × IsReceiveFrom c q f))
 from_later c sound s d f earlier before = elim (send_or_receive c f (before_events before).1) [
   | inl sends ↦ inl (before_from_above c sends.0 f s d sends.1 earlier (inr before))
@@ -65,7 +65,7 @@ from_later c sound s d f earlier before = elim (send_or_receive c f (before_even
       ]
 ]
 
--- what is before d, where d is enforced before f
+-- an event before d, if d is enforced before f
 then_before : (c : Chart) → IsSound c → (e d f : Place) → Ends c e d → Before c d f → Ends c e f
 then_before c sound e d f (inl first) before = inl (through first before)
 then_before c sound e d f (inr (s, finished, up)) before = elim (from_later c sound s d f finished.earlier before) [
@@ -82,7 +82,7 @@ then_before c sound e d f (inr (s, finished, up)) before = elim (from_later c so
   )
 ]
 
--- where d is, or is before, a send that is finished before f
+-- an event before d, if d is a send that is finished before f, or is before such a send
 then_finished : (c : Chart) → IsSound c → (e d f s : Place) → Ends c e d → IsFinished c s f → IsUpTo c s d → Ends c e f
 then_finished c sound e d f s (inl first) finished up = inr (s, finished, inr (before_up up))
   where
@@ -102,8 +102,8 @@ then_ends c sound e d f first (inl before) = then_before c sound e d f first bef
 then_ends c sound e d f first (inr (s, finished, up)) = then_finished c sound e d f s first finished up
 
 module _ (c : Chart) (sound : IsSound c) where
-  -- a send that is finished before r on the line of s, where a receive that s handles is before it: then s is up to one
-  -- that is finished
+  -- let t on the line of s be finished before r, and let a receive that s handles be before t: then s is before r in
+  -- the closed form
   by_other : (p s t d q : ℕ) (r : Place) → IsEarlier (at p s) r → IsReceiveFrom c q r → IsHandled (c p) d s → IsFinished c (at p t) r → Before c (at p d) (at p t) → Ends c (at p s) r
   by_other p s t d q r earlier receive handled finished before = elim (cases_eq s t) [
     | inl same ↦ inr (at p t, finished, inl (ap (λ x. at p x) same))
@@ -143,7 +143,7 @@ module _ (c : Chart) (sound : IsSound c) where
             ]
       ]
 
-  -- a send of which all that it handles is before r in the closed form is so too
+  -- if all receives that a send handles are before r in the closed form, so is the send
   ends_finished : (p s q d : ℕ) (r : Place) → IsEarlier (at p s) r → IsReceiveFrom c q r → IsHandled (c p) d s → ((i : ℕ) → IsHandled (c p) i s → Ends c (at p i) r) → Ends c (at p s) r
   ends_finished p s q d r earlier receive handled all =
       elim (sorted (λ i. IsHandled (c p) i s) (λ i. Before c (at p i) r) (λ i. (t : Place) × IsFinished c t r × IsUpTo c t (at p i)) (λ i. decide_handled (c p) i s) all s) [
@@ -196,7 +196,7 @@ module _ (c : Chart) (sound : IsSound c) where
               ]
         ]
 
-  -- what is before a receive on its line is decided
+  -- whether an event is before a receive of its line is decided
   pub decide_before : (p i : ℕ) (s : Place) (k : ℕ) → BelongsTo c s (at p i) → IsKnown c s p k → (j : ℕ) → 1 ≤ j → j < i → Decided (Before c (at p j) (at p i))
   decide_before p i s k belongs known j begun less = let splits = before_in_line c s p i j k belongs known begun less in elim (decide_at (is_receive_from s.instance) (c p) j) [
     | inl from ↦ inl (splits.1 (inl from))
@@ -207,7 +207,7 @@ module _ (c : Chart) (sound : IsSound c) where
         ]
   ]
 
-  -- so is whether a send is finished before it
+  -- whether a send is finished before it is decided too
   decide_finished : (p i q : ℕ) → IsReceiveFrom c q (at p i) → (s : ℕ) → Decided (IsFinished c (at p s) (at p i))
   decide_finished p i q receive s = elim (cases_lt s i) [
     | inr past ↦ inr (λ is. let l = is.earlier.less in omega arith)
@@ -239,7 +239,7 @@ module _ (c : Chart) (sound : IsSound c) where
     | inr none ↦ (0, record { attained = inl refl; last = λ j is. let w = is.receive in absurd (none (w.0, w.1.0, w.1.1, w.1.2)) })
   ]
 
-  -- nothing is before itself
+  -- no event is before itself
   pub no_cycle : (e : Place) → Completed c e e → ⊥
   no_cycle e is = go (to_ends is)
     where

@@ -1,4 +1,4 @@
--- What a possible chart keeps, as the lemmas on its order need it.
+-- What holds of a possible chart, as the lemmas on its order need it.
 use Rattle.std.proofs.Common.{◌≡◌, ℕ, ◌==◌, inl, Bool, true, false, cond, List, [], ◌∷◌, ◌++◌, refl, sym, subst, append-nil, eqb-true}
 use Rattle.std.proofs.lemmas.Option.{none-some}
 use Rattle.std.proofs.Math.Path.{fun_ext}

@@ -1,4 +1,4 @@
--- The last send that is finished before a receive, by the first of its races and what is kept of its line.
+-- The last send that is finished before a receive, from the first of its races and what is kept for its line.
 use Rattle.std.proofs.Common.{◌≡◌, ℕ, zero, suc, ◌-◌, ◌<◌, ◌≤◌, ◌⊎◌, inl, inr, false, max, List, [], ◌∷◌, length, map, get_or, All, Some, Contains, refl, sym, ap, ◌∙◌, subst, arith}
 use Rattle.std.proofs.lemmas.Bool.{cases_lt, cases_eq, cases_Bool}
 use Rattle.std.proofs.lemmas.List.Elements.{All-head}
@@ -23,7 +23,7 @@ use Rattle.reordering.proofs.CompletionLemmas.OrderLemmas.{decide_before}
 use Rattle.reordering.proofs.CompletionLemmas.Possible.{IsSound}
 use Rattle.reordering.proofs.CompletionLemmas.TableLemmas.{one_sender, receive_at}
 
--- the first event of ranges is the first one's
+-- the first event of ranges is that of the first range
 pub first_of_ranges : (other : ℕ) (r : EventRange) (ranges : List EventRange) → All IsRange (r ∷ ranges) → first_index other (events_in (r ∷ ranges)) ≡ r.first.index
 first_of_ranges other r ranges each = go r.count refl (All-head IsRange r ranges each).some
   where
@@ -31,7 +31,7 @@ first_of_ranges other r ranges each = go r.count refl (All-head IsRange r ranges
     go zero is some = absurd (omega arith)
     go (suc n) is some = rw is refl
 
--- e is the first element of a list, or another where there is none
+-- e is the first element of a list, or `other` if there is none
 pub record IsFirstOf (other : ℕ) (xs : List ℕ) (e : ℕ) : Type 0 where
   pub least : (j : ℕ) → Contains xs j → e ≤ j
   pub one : (e ≡ other) ⊎ Contains xs e
@@ -58,7 +58,7 @@ module _ (c : Chart) (sound : IsSound c) (p k q : ℕ) (receive : IsReceiveFrom 
   its : IsReceiveAt line i
   its = (q, receive.0, receive.1, receive.2)
 
-  -- a send that handles earlier receives alone stands above
+  -- a send that handles only earlier receives is above
   stands_above : (s d : ℕ) → IsHandled line d s → ((e : ℕ) → IsHandled line e s → e < i) → s < i
   stands_above s d handled above = elim (cases_lt s i) [
     | inl less ↦ less
@@ -72,7 +72,7 @@ module _ (c : Chart) (sound : IsSound c) (p k q : ℕ) (receive : IsReceiveFrom 
   begun : (s d : ℕ) → IsHandled line d s → 1 ≤ d
   begun s d handled = let m = handled.received in (ith_within line d m.1 m.2).0
 
-  -- what is handled above the receive is outside of its coregion
+  -- a handled receive above the receive is outside of its coregion
   outside : (s d : ℕ) (m : Event) → IsHandled line d s → s < i → ith line d ≡ Some m → is_in (region_of_event (ith line i)) m ≡ false
   outside s d m handled less at_d = elim (cases_Bool (is_in (region_of_event (ith line i)) m)) [
     | inr out ↦ out
@@ -87,7 +87,7 @@ module _ (c : Chart) (sound : IsSound c) (p k q : ℕ) (receive : IsReceiveFrom 
   ]
 
   module _ (report : List ℕ) (is : IsReport c (at p i) report) (n : ℕ) (first : IsFirstOf i report (suc n)) (low : suc n ≤ i) where
-    -- a send that handles nothing but what comes before the first race is finished
+    -- a send that handles only receives before the first race is finished
     settled_above : (s : ℕ) → IsSettled (IsAmong n) line s → IsFinished c (at p s) (at p i)
     settled_above s settled =
         let d = settled.some.0 in
@@ -110,7 +110,7 @@ module _ (c : Chart) (sound : IsSound c) (p k q : ℕ) (receive : IsReceiveFrom 
               ];
         }
 
-    -- one that handles nothing but earlier receives from the sender too
+    -- a send that handles only earlier receives from the sender is finished too
     settled_from : (s : ℕ) → IsSettled (IsAmongFrom line q k) line s → IsFinished c (at p s) (at p i)
     settled_from s settled =
         let d = settled.some.0 in
@@ -122,7 +122,7 @@ module _ (c : Chart) (sound : IsSound c) (p k q : ℕ) (receive : IsReceiveFrom 
           before = λ e other. let w = settled.each e other in direct (same_sender q (record { line = refl; begun = begun s e other; less = omega (arith, w.0) }) w.1 receive);
         }
 
-    -- each that is finished is one of these
+    -- each finished send is one of these
     from_sender : (s h d : ℕ) → IsFinished c (at p s) (at p i) → IsHandled line h s → n < h → IsHandled line d s → IsAmongFrom line q k d
     from_sender s h d finished late above handled =
         let less = finished.earlier.less in
@@ -178,14 +178,14 @@ module _ (c : Chart) (sound : IsSound c) (p k q : ℕ) (receive : IsReceiveFrom 
       ];
     }
 
--- the first race stands between the first event and the receive
+-- the first race is between the first event and the receive
 pub first_begun : (c : Chart) (p i : ℕ) (report : List ℕ) (e : ℕ) → IsReport c (at p i) report → 1 ≤ i → IsFirstOf i report e → (1 ≤ e) × (e ≤ i)
 first_begun c p i report e is some first = elim first.one [
   | inl same ↦ (omega arith, omega arith)
   | inr race ↦ let w = (is.exact e).0 race in let m = w.1 in ((ith_within (c p) e m.0 m.1).0, omega (arith, w.0))
 ]
 
--- what was looked up, by the line's number and the places that were read
+-- the result of the look-up, from the line's number and the places that were read
 pub finished_query : (c : Chart) → IsSound c → (p l i q : ℕ) → IsReceiveFrom c q (at p i) → p ≡ l → (report : List ℕ) → IsReport c (at p i) report → (e : ℕ) → IsFirstOf i report e
     → (a b m : ℕ) → IsLastSettled (IsAmong (e - 1)) (c l) a → IsLastSettled (IsAmongFrom (c l) q (i - 1)) (c l) b → m ≡ max a b → IsFinishedUpTo c (at p i) m
 finished_query c sound p l zero q receive same report is e first a b m within from most = absurd (let w = (ith_within (c p) 0 receive.0 receive.1).0 in omega arith)

@@ -1,4 +1,4 @@
--- In runs in which instances finish, the order where they do is kept.
+-- Runs in which instances finish keep the order for finishing instances.
 use Rattle.std.proofs.Common.{◌≡◌, ℕ, ◌+◌, ◌<◌, ◌≤◌, ◌⊎◌, ◌==◌, inl, inr, Bool, true, false, cond, List, [], ◌∷◌, refl, sym, ◌∙◌, subst, arith}
 use Rattle.std.proofs.lemmas.Bool.{cases_lt, cases_eq, and_parts, eqb-true}
 use Rattle.chart.specs.declared.history.Occurrence.{Occurrence}
@@ -19,12 +19,12 @@ use Rattle.reordering.specs.Completion.Orders.{Completed}
 use Rattle.reordering.specs.Completion.Orders.Completed.{direct as stepped, through as chained, finished as finishing}
 use Rattle.reordering.specs.Completion.Runs.{Finishes}
 
--- a receive that has come is counted, whatever says so
+-- a receive that has come is counted, however it came
 come_count : (c : Chart) (h : List Occurrence) (q : ℕ) (r : Place) → IsReceiveFrom c q r → HasCome c h r → tally (is_receive_from q) (c r.instance) r.index ≤ received h q r.instance
 come_count c h q r from (was_sent to is le) = absurd (not_both c to q r is from)
 come_count c h q r from (was_received other is le) = let same = one_sender c other q r is from in subst (λ x. tally (is_receive_from x) (c r.instance) r.index ≤ received h x r.instance) same le
 
--- one event more is a receive of this lane, or leaves it as it is
+-- one more event is a receive of this lane, or leaves the lane as it is
 one_more : (x : Occurrence) (h : List Occurrence) (q p : ℕ) → (received (x ∷ h) q p ≡ received h q p) ⊎ ((received (x ∷ h) q p ≡ received h q p + 1) × ((a : ℕ) → (a ≡ q → ⊥) → received (x ∷ h) a p ≡ received h a p))
 one_more (Send a b m) h q p = inl refl
 one_more (Close a b) h q p = inl refl
@@ -38,7 +38,7 @@ one_more (Receive a b i) h q p = go (is_lane b a q p) refl
     go false is = inl refl
     go true is = inr (refl, λ x differs. other is x differs (is_lane b a x p) refl)
 
--- the last beginning in which a receive hasn't come, and one event later, when it has
+-- the last beginning in which a receive hasn't come, and the next event, with which it has
 pub record IsComing (c : Chart) (f : List Occurrence) (r : Place) : Type 0 where
   pub next : Occurrence
   pub past : List Occurrence
@@ -55,7 +55,7 @@ coming c q r from begun (x ∷ f) come = elim (cases_lt (received f q r.instance
       record { next = w.next; past = w.past; begins = begins_onward (w.next ∷ w.past) f (x ∷ f) w.begins (x ∷ [], refl); not_yet = w.not_yet; now = w.now }
 ]
 
--- an earlier receive of the line that has come with it had come before
+-- an earlier receive of the line that has come at that moment had come before
 pub had_come : (c : Chart) (q : ℕ) (r : Place) → IsReceiveFrom c q r → (f : List Occurrence) → (w : IsComing c f r) → (a d : ℕ) → IsReceiveFrom c a (at r.instance d) → d < r.index → HasCome c (w.next ∷ w.past) (at r.instance d) → HasCome c w.past (at r.instance d)
 had_come c q r from f w a d there less come =
     let short : received w.past q r.instance < tally (is_receive_from q) (c r.instance) r.index = elim (cases_lt (received w.past q r.instance) (tally (is_receive_from q) (c r.instance) r.index)) [ inl l ↦ l | inr le ↦ absurd (w.not_yet (was_received q from le)) ] in
@@ -73,12 +73,12 @@ had_come c q r from f w a d there less come =
           ]
     ]
 
--- the same of a line that is said otherwise
+-- the same for an equal line
 had_come_on : (c : Chart) (q : ℕ) (r : Place) → IsReceiveFrom c q r → (f : List Occurrence) → (w : IsComing c f r) → (p a d : ℕ) → p ≡ r.instance → IsReceiveFrom c a (at p d) → d < r.index → HasCome c (w.next ∷ w.past) (at p d) → HasCome c w.past (at p d)
 had_come_on c q r from f w p a d line there less come =
     subst (λ x. HasCome c w.past (at x d)) (sym line) (had_come c q r from f w a d (subst (λ x. IsReceiveFrom c a (at x d)) line there) less (subst (λ x. HasCome c (w.next ∷ w.past) (at x d)) line come))
 
--- where direct causes are kept and instances finish, the order is kept
+-- if direct causes are kept and instances finish, the order is kept
 pub completed_kept : (c : Chart) (g : List Occurrence) → KeepsCauses c g → Finishes c g → {e f : Place} → Completed c e f → (h : List Occurrence) → Begins h g → HasCome c h f → HasCome c h e
 completed_kept c g causes finishes (stepped {e = e} {f = f} step) h begins come = causes h begins e f step come
 completed_kept c g causes finishes (chained x y) h begins come = completed_kept c g causes finishes x h begins (completed_kept c g causes finishes y h begins come)

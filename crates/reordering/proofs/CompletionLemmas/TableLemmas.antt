@@ -1,4 +1,4 @@
--- The last send that handles nothing but some receives, along a line.
+-- The last send that handles only some receives, along a line.
 use Rattle.std.proofs.Common.{◌≡◌, ℕ, suc, ◌<◌, ◌≤◌, ◌↔◌, inl, inr, true, not, ◌==◌, List, length, set, replicate, Some, refl, sym, ap, ◌∙◌, subst, arith}
 use Rattle.std.specs.Prelude.{slice_index, All}
 use Rattle.std.proofs.lemmas.Bool.{cases_lt, cases_eq, false≢true, or_right, or_left, and_from, not_from_false, false_from_ne_true, eq-eqb, eqb-true}
@@ -15,16 +15,16 @@ use Rattle.reordering.specs.Completion.Handling.{is_send, may_follow, IsReceiveA
 use Rattle.reordering.specs.Completion.Tables.{IsRunEnd, IsFrom, HasOneSender, IsSettled, IsLastSettled, IsAmong, IsAmongFrom, HasPassed}
 use Rattle.reordering.proofs.CompletionLemmas.HandlingLemmas.{never_both, in_one_region, later_handled, same_region}
 
--- what has this coregion's number is in it
+-- an event with this coregion's number is in it
 in_of : (x : ℕ) (m : Event) → region_of m ≡ x → 0 < x → is_in x m ≡ true
 in_of x m is more = and_from (region_of m == x) (not (x == 0)) (eq-eqb (region_of m) x is) (not_from_false (x == 0) (false_from_ne_true (x == 0) (λ e. let z = eqb-true x 0 e in omega arith)))
 
--- what is in a coregion is a receive
+-- an event in a coregion is a receive
 in_receive : (line : List Event) (j x : ℕ) (m : Event) → ith line j ≡ Some m → is_in x m ≡ true → IsReceiveAt line j
 in_receive line j x (Send to name) at_j inside = absurd (none_in x (Send to name) refl inside)
 in_receive line j x (Receive from name region) at_j inside = (from, Receive from name region, at_j, eq-eqb from from refl)
 
--- the partner of an event of a line whose partners are so many first instances
+-- the partner of an event of a line whose partners are among the first n instances
 pub partner_short : (line : List Event) (n k : ℕ) (m : Event) → All (λ x. partner_of x ≤ n) line → ith line (suc k) ≡ Some m → partner_of m ≤ n
 partner_short line n k m short at_k = subst (λ x. partner_of x ≤ n) (get_or_from_slice_get line k m m at_k) (short k m (slice_get_within line k m at_k))
 
@@ -51,7 +51,7 @@ last_within P line k is = elim is.attained [
   | inr settled ↦ let s = settled.some.1.sent in (ith_within line k s.0 s.1).1
 ]
 
--- a last send stays one for another fact, where the sends that are settled by it are settled by the old one
+-- a last send stays the last for another fact, if the sends that are settled by it are settled by the old one
 pub still_last : (P Q : ℕ → Type 0) (line : List Event) (k : ℕ) → ((d : ℕ) → P d → Q d) → ((s : ℕ) → IsSettled Q line s → (d : ℕ) → IsHandled line d s → P d) → IsLastSettled P line k → IsLastSettled Q line k
 still_last P Q line k weaker back old = record {
   attained = elim old.attained [
@@ -61,7 +61,7 @@ still_last P Q line k weaker back old = record {
   last = λ s settled. old.last s (record { some = settled.some; each = back s settled });
 }
 
--- nothing is settled by nothing
+-- no send is settled by no events
 pub none_settled : (P : ℕ → Type 0) (line : List Event) → ((d : ℕ) → P d → d ≤ 0) → IsLastSettled P line 0
 none_settled P line none = record {
   attained = inl refl;
@@ -75,7 +75,7 @@ start_passed line n = record {
 }
 
 module _ (line : List Event) (regions : HasRegionsInOrder line) where
-  -- a send that handles the first events alone stands in the run of sends directly behind them, or above
+  -- a send that handles only first events is in the run of sends directly after them, or above
   pub in_run : (n end s : ℕ) → IsRunEnd line n end → (d : ℕ) → IsHandled line d s → ((e : ℕ) → IsHandled line e s → e ≤ n) → s ≤ end
   in_run n end s run d handled among = elim (cases_lt end s) [
     | inr le ↦ le
@@ -91,7 +91,7 @@ module _ (line : List Event) (regions : HasRegionsInOrder line) where
         ]
   ]
 
-  -- a receive with a run of sends directly behind it is handled by the last of these
+  -- a receive with a run of sends directly after it is handled by the last of these
   pub run_handled : (i end : ℕ) → IsRunEnd line i end → i < end → IsReceiveAt line i → IsHandled line i end
   run_handled i end run less receive = record {
     less = less;
@@ -102,7 +102,7 @@ module _ (line : List Event) (regions : HasRegionsInOrder line) where
         or_left (is_send m) (is_in (region_of_event (ith line i)) m) (subst (λ x. is_send x ≡ true) (same_Some s.0 m (sym s.1 ∙ at_j)) s.2);
   }
 
-  -- all that it handles are up to this receive
+  -- this send handles only receives up to this one
   pub run_among : (i end : ℕ) → IsRunEnd line i end → i < end → (d : ℕ) → IsHandled line d end → d ≤ i
   run_among i end run less d handled = elim (cases_lt i d) [
     | inr le ↦ le
@@ -133,7 +133,7 @@ module _ (line : List Event) (regions : HasRegionsInOrder line) where
       inside : (m : Event) → region_of m ≡ region_of_event (ith line d) → 0 < region_of_event (ith line d) → may_follow (region_of_event (ith line d)) m ≡ true
       inside m is more = or_right (is_send m) (is_in (region_of_event (ith line d)) m) (in_of (region_of_event (ith line d)) m is more)
 
-  -- One event more. A send handles no receive.
+  -- One more event. A send handles no receive.
   pub send_passed : (n within : ℕ) (by_sender : List ℕ) → IsSendAt line (suc n) → HasPassed line n within by_sender → HasPassed line (suc n) within by_sender
   send_passed n within by_sender sent old = record {
     all = still_last (IsAmong n) (IsAmong (suc n)) line within (λ d le. omega arith) (λ s settled d handled. not_last d handled.received (settled.each d handled)) old.all;
@@ -148,7 +148,7 @@ module _ (line : List Event) (regions : HasRegionsInOrder line) where
         | inr differs ↦ omega arith
       ]
 
-  -- A receive with no send directly behind it settles none.
+  -- A receive without a send directly after it settles none.
   pub bare_passed : (n within : ℕ) (by_sender : List ℕ) → IsRunEnd line (suc n) (suc n) → HasPassed line n within by_sender → HasPassed line (suc n) within by_sender
   bare_passed n within by_sender run old = record {
     all = still_last (IsAmong n) (IsAmong (suc n)) line within (λ d le. omega arith) (λ s settled d handled. sooner s d handled settled.each) old.all;
@@ -160,14 +160,14 @@ module _ (line : List Event) (regions : HasRegionsInOrder line) where
       sooner : (s d : ℕ) → IsHandled line d s → ((e : ℕ) → IsHandled line e s → e ≤ suc n) → d ≤ n
       sooner s d handled among = let le = in_run (suc n) (suc n) s run d handled among in let l = handled.less in omega arith
 
-  -- One with a run of sends settles them, of all.
+  -- A receive with a run of sends settles them among all events.
   run_all : (n end : ℕ) → IsRunEnd line (suc n) end → suc n < end → IsReceiveAt line (suc n) → IsLastSettled (IsAmong (suc n)) line end
   run_all n end run less receive = record {
     attained = inr (record { some = (suc n, run_handled (suc n) end run less receive); each = run_among (suc n) end run less });
     last = λ s settled. in_run (suc n) end s run settled.some.0 settled.some.1 settled.each;
   }
 
-  -- Of its sender too, where its coregion has no other.
+  -- It settles them for its sender too, if its coregion has no other sender.
   run_from : (n q end : ℕ) → IsRunEnd line (suc n) end → suc n < end → IsFrom line q (suc n) → HasOneSender line (suc n) → IsLastSettled (IsAmongFrom line q (suc n)) line end
   run_from n q end run less (b, at_b, from) one = record {
     attained = inr (record { some = (suc n, run_handled (suc n) end run less (q, b, at_b, from)); each = λ d handled. (run_among (suc n) end run less d handled, its_sender d handled) });
@@ -185,7 +185,7 @@ module _ (line : List Event) (regions : HasRegionsInOrder line) where
             (m.1, m.2, one q (b, at_b, from) d m.1 (omega arith) m.2 (in_of (region_of_event (ith line (suc n))) m.1 region (omega (arith, region, w.1))))
       ]
 
-  -- Of another sender, or where its coregion has another, it settles none.
+  -- For another sender, or if its coregion has another one, it settles none.
   kept_from : (n q k : ℕ) → (IsFrom line q (suc n) → HasOneSender line (suc n) → ⊥) → IsLastSettled (IsAmongFrom line q n) line k → IsLastSettled (IsAmongFrom line q (suc n)) line k
   kept_from n q k other old =
       still_last (IsAmongFrom line q n) (IsAmongFrom line q (suc n)) line k (λ d w. (omega (arith, w.0), w.1)) (λ s settled d handled. let w = settled.each d handled in (sooner s settled d handled w.0, w.1)) old
@@ -208,7 +208,7 @@ module _ (line : List Event) (regions : HasRegionsInOrder line) where
               let sender = one_sender line q a (suc n) (b, at_b, from) from_a in
               subst (λ x. is_receive_from x m ≡ true) sender (subst (λ x. is_receive_from q x ≡ true) (same_Some w.0 m (sym w.1 ∙ at_e)) w.2)
 
-  -- whether it has, by the starts of both runs that end with it
+  -- whether the coregion has another sender, from the starts of both runs that end with the receive
   pub one_sender_is : (i run start : ℕ) → IsReceiveAt line i → IsStartOfRun is_receive_from line i run → IsStartOfRun is_in line i start → (region_of_event (ith line i) ≡ 0 → ⊥) → (run ≤ start) ↔ HasOneSender line i
   one_sender_is i run start (q, b, at_b, from) senders coregion some = (left, right)
     where

@@ -1,4 +1,4 @@
--- What a history in two parts begins with: what its parts leave of beginnings.
+-- The beginnings of a history in two parts: the parts of its beginnings.
 use Rattle.std.proofs.Common.{◌≡◌, ◌⊎◌, inl, inr, ⊎_elim, nat_lt, Bool, true, false, cond, List, [], ◌∷◌, ◌++◌, length, refl, sym}
 use Rattle.chart.specs.declared.history.Occurrence.{Occurrence}
 use Rattle.chart.specs.declared.history.Occurrence.TheVariants.{Send, Receive, Close}
@@ -6,12 +6,12 @@ use Rattle.chart.specs.Histories.{sent, received, Begins}
 use Rattle.chart.proofs.Histories.{begins_same, begins_onward}
 use Rattle.reordering.specs.OtherRuns.Walks.{Turns, inner, outer, parted}
 
--- a history is its beginning, or one without the newest event is
+-- a beginning of a history is the history, or a beginning of it without the newest event
 begins_cases : (x : Occurrence) (g h : List Occurrence) → Begins h (x ∷ g) → (h ≡ x ∷ g) ⊎ Begins h g
 begins_cases x g h ([], e) = inl (sym e)
 begins_cases x g h (y ∷ more, e) = let same : g ≡ more ++ h = cc in inr (more, same)
 
--- the same where the newest event may be left out
+-- the same if the newest event may be missing
 kept_cases : (kept : Bool) (x : Occurrence) (g h : List Occurrence) → Begins h (cond kept (x ∷ g) g) → (h ≡ cond kept (x ∷ g) g) ⊎ Begins h g
 kept_cases true x g h begins = begins_cases x g h begins
 kept_cases false x g h begins = inr begins
@@ -20,11 +20,11 @@ dropped_cases : (dropped : Bool) (x : Occurrence) (g f h : List Occurrence) → 
 dropped_cases true x g f h begins = inr begins
 dropped_cases false x g f h begins = begins_cases x (g ++ f) h begins
 
--- one event more
+-- one more event
 further : (x : Occurrence) (f g : List Occurrence) → Begins f g → Begins f (x ∷ g)
 further x f g begins = begins_onward f g (x ∷ g) begins (x ∷ [], refl)
 
--- what the first part begins with is the first part of a beginning
+-- a beginning of the first part is the first part of a beginning
 abbrev pub IsInner : Turns → Turns → List Occurrence → List Occurrence → Type 0
 IsInner s r g h = (f : List Occurrence) × Begins f g × (h ≡ inner s r f)
 
@@ -44,7 +44,7 @@ inner_begins s r (Receive a b c ∷ g) h begins = ⊎_elim
     (kept_cases (nat_lt (received g b a) (r b a)) (Receive a b 0) (inner s r g) h begins)
 inner_begins s r (Close a b ∷ g) h begins = inner_further s r (Close a b) g h (inner_begins s r g h begins)
 
--- what both parts begin with is a beginning's second part behind the whole first one, or begins the first one
+-- a beginning of both parts is a beginning's second part after the whole first one, or begins the first one
 abbrev pub IsOuter : Turns → Turns → List Occurrence → List Occurrence → List Occurrence → Type 0
 IsOuter s r g i h = ((f : List Occurrence) × Begins f g × (h ≡ outer s r f ++ i)) ⊎ Begins h i
 

@@ -1,4 +1,4 @@
--- In each history nothing comes before its causes; in each run of a chart's events the enforced order is kept.
+-- In each history no event comes before its causes; each run of a chart's events keeps the enforced order.
 use Rattle.std.proofs.Common.{◌≡◌, ℕ, ◌≤◌, inl, inr, Bool, List, length, count_by, ap, ◌∙◌, arith, length-append}
 use Rattle.std.proofs.lemmas.Bool.{cases_lt}
 use Rattle.chart.specs.declared.history.Occurrence.{Occurrence}
@@ -19,19 +19,19 @@ use Rattle.chart.proofs.Lanes.{sent_count, received_count}
 use Rattle.reordering.specs.OtherRuns.OtherRuns.{HasCome, KeepsCauses}
 use Rattle.reordering.specs.OtherRuns.OtherRuns.HasCome.{was_sent, was_received}
 
--- where direct causes are kept, so is all that is enforced
+-- if direct causes are kept, so is the enforced order
 pub order_kept : {c : Chart} {e r : Place} → (g h : List Occurrence) → KeepsCauses c g → Begins h g → Before c e r → HasCome c h r → HasCome c h e
 order_kept {e = e} {r = r} g h causes begins (direct step) come = causes h begins e r step come
 order_kept g h causes begins (through x y) come = order_kept g h causes begins x (order_kept g h causes begins y come)
 
 module _ (n k : ℕ) (g : List Occurrence) (legal : IsLegal n k g) where
-  -- up to where a beginning's line ends there are its events
+  -- up to the end of a beginning's line there are its events
   whole_tally : (h : List Occurrence) → Begins h g → (test : Event → Bool) (p : ℕ) → tally test (chart_of g p) (length (chart_of h p)) ≡ count_by test (chart_of h p)
   whole_tally h begins test p =
       let w = grows_from_begun h g begins p in
       ap (λ l. tally test l (length (chart_of h p))) w.1 ∙ tally-append test (chart_of h p) w.0 (length (chart_of h p)) (omega arith) ∙ tally_all test (chart_of h p) (length (chart_of h p)) (omega arith)
 
-  -- a place up to which no more pass than in a beginning is one of the beginning
+  -- a place up to which no more events pass than in a beginning is one of the beginning
   old_place : (h : List Occurrence) → Begins h g → (test : Event → Bool) (e : Place) → IsEvent (chart_of g) e → tally test (chart_of g e.instance) e.index ≤ count_by test (chart_of h e.instance) → Passes test (chart_of g e.instance) e.index → IsEvent (chart_of h) e
   old_place h begins test e here le passes = (
     here.0,
@@ -41,12 +41,12 @@ module _ (n k : ℕ) (g : List Occurrence) (legal : IsLegal n k g) where
     ],
   )
 
-  -- what has come by a beginning is on its lines
+  -- an event that has come in a beginning is on its lines
   pub come_there : (h : List Occurrence) → Begins h g → (e : Place) → HasCome (chart_of g) h e → IsEvent (chart_of h) e
   come_there h begins e (was_sent q is le) = old_place h begins (is_send_to q) e (IsEvent-from_passes (chart_of g) (is_send_to q) e is) (omega (arith, le, sent_count h e.instance q)) is
   come_there h begins e (was_received q is le) = old_place h begins (is_receive_from q) e (IsEvent-from_passes (chart_of g) (is_receive_from q) e is) (omega (arith, le, received_count n k h (legal_begun n k h g begins legal) q e.instance)) is
 
-  -- and the other way round
+  -- an event on its lines has come in a beginning
   pub there_come : (h : List Occurrence) → Begins h g → (e : Place) → IsEvent (chart_of h) e → HasCome (chart_of g) h e
   there_come h begins e here =
       let w = grows_from_begun h g begins e.instance in

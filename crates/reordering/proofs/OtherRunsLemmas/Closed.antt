@@ -1,4 +1,4 @@
--- What is wanted of a receive is closed: all that is directly before it is wanted too.
+-- What is wanted for a receive is closed: all events directly before a wanted one are wanted too.
 use Rattle.std.proofs.Common.{◌≡◌, ℕ, ◌+◌, ◌-◌, ◌≤◌, ◌⊎◌, inl, inr, ⊎_elim, ◌==◌, ◌||◌, nat_lt, Bool, true, false, cond, List, [], ◌∷◌, length, refl, sym, ap, ◌∙◌, subst, subst₂, arith, eq-eqb, lt-ltb, append-nil, length-drop}
 use Rattle.std.proofs.lemmas.Bool.{false≢true}
 use Rattle.std.proofs.lemmas.List.{length_push}
@@ -25,7 +25,7 @@ use Rattle.reordering.proofs.OtherRunsLemmas.Causes.{come_there}
 use Rattle.reordering.proofs.OtherRunsLemmas.Wanted.{raise-old, raise-new, raise-cases}
 use Rattle.reordering.proofs.OtherRunsLemmas.Newest.{next_place, is_there, newest_send, newest_receive}
 
--- where the second of two tests passes, one of both does
+-- if the second of two tests passes, one of both does
 or_right : (x y : Bool) → y ≡ true → (x || y) ≡ true
 or_right true y passes = refl
 or_right false y passes = passes
@@ -38,15 +38,15 @@ module _ (n k : ℕ) (g : List Occurrence) (legal : IsLegal n k g) where
   abbrev IsWanted : Wanted → Place → Type 0
   IsWanted w e = IsWithin (chart_of g) w.sends w.receives e
 
-  -- e will be wanted: it is on a line of which all that is left is
+  -- e will be wanted: it is on a line of which all remaining events are
   abbrev WillBe : List Occurrence → Wanted → Place → Type 0
   WillBe h w e = (w.all e.instance ≡ true) × IsEvent (chart_of h) e
 
-  -- what is directly before an event that is wanted, and isn't left, is wanted or will be
+  -- an event directly before a wanted one that doesn't remain is wanted or will be
   abbrev pub IsClosed : List Occurrence → Wanted → Type 0
   IsClosed h w = (e f : Place) → IsWanted w f → (IsEvent (chart_of h) f → ⊥) → DirectWithin k (chart_of g) e f → IsWanted w e ⊎ WillBe h w e
 
-  -- What one event x makes of what is wanted.
+  -- How one event x changes what is wanted.
   record IsStep (h : List Occurrence) (x : Occurrence) (w v : Wanted) : Type 0 where
     pub grown : (e : Place) → IsWanted w e → IsWanted v e
     pub only : (e : Place) → IsWanted v e → IsWanted w e ⊎ HasCome (chart_of g) (x ∷ h) e
@@ -54,7 +54,7 @@ module _ (n k : ℕ) (g : List Occurrence) (legal : IsLegal n k g) where
     pub newest : w.all (by x) ≡ true → IsWanted v (next_place h (by x))
     pub causes : (e : Place) → IsWanted v (next_place h (by x)) → DirectWithin k (chart_of g) e (next_place h (by x)) → IsWanted v e ⊎ WillBe h v e
 
-  -- then what is wanted stays closed
+  -- what is wanted stays closed
   closed-step : (h : List Occurrence) (x : Occurrence) (w v : Wanted) → Begins (x ∷ h) g → IsStep h x w v → IsClosed (x ∷ h) w → IsClosed h v
   closed-step h x w v begins step closed e f wants gone d =
       elim (is_there (x ∷ h) f (index_of wants)) [
@@ -87,7 +87,7 @@ module _ (n k : ℕ) (g : List Occurrence) (legal : IsLegal n k g) where
       place_is : (y : Place) → (by x ≡ y.instance) × (y.index ≡ length (chart_of h y.instance) + 1) → y ≡ next_place h (by x)
       place_is y (its, last) = same_place y (next_place h (by x)) (sym its) (last ∙ ap (λ p. length (chart_of h p) + 1) (sym its))
 
-  -- a send that is wanted
+  -- a wanted send
   step-send : (h : List Occurrence) (a b : ℕ) (m : Content) (w : Wanted) → Begins (Send a b m ∷ h) g → IsStep h (Send a b m) w (with_send k h a b w)
   step-send h a b m w begins = record {
     grown = λ e is. within_weaker (chart_of g) w.sends w.receives (with_send k h a b w).sends (with_send k h a b w).receives (raise-old w.sends a b (length (sent h a b) + 1)) (raise-old w.receives a b (length (sent h a b) + 1 - k)) e is;
@@ -133,7 +133,7 @@ module _ (n k : ℕ) (g : List Occurrence) (legal : IsLegal n k g) where
           let enough = subst (λ x. length (sent h a b) + 1 - k ≤ raise w.receives a b (length (sent h a b) + 1 - k) a x) line (raise-new w.receives a b (length (sent h a b) + 1 - k)) in
           inl (receive a is (omega (arith, le, its_turn, enough)))
 
-  -- a send that isn't
+  -- a send that isn't wanted
   skip-send : (h : List Occurrence) (a b : ℕ) (m : Content) (w : Wanted) → Begins (Send a b m ∷ h) g → wants_send h a b w ≡ false → IsStep h (Send a b m) w w
   skip-send h a b m w begins never = record {
     grown = λ e is. is;
@@ -165,7 +165,7 @@ module _ (n k : ℕ) (g : List Occurrence) (legal : IsLegal n k g) where
     its_turn : tally (is_receive_from b) (chart_of g a) (length (chart_of h a) + 1) ≡ received h b a + 1
     its_turn = subst (λ x. tally (is_receive_from x) (chart_of g a) (length (chart_of h a) + 1) ≡ received h b a + 1) new_one.2 (sym new_one.1.turn ∙ its_sends)
 
-    -- a receive that is wanted
+    -- a wanted receive
     step-receive : (w : Wanted) → IsStep h (Receive a b c) w (with_receive h a b w)
     step-receive w = record {
       grown = λ e is. within_weaker (chart_of g) w.sends w.receives (with_receive h a b w).sends (with_receive h a b w).receives (raise-old w.sends b a (received h b a + 1)) (raise-old w.receives b a (received h b a + 1)) e is;
@@ -208,7 +208,7 @@ module _ (n k : ℕ) (g : List Occurrence) (legal : IsLegal n k g) where
             inl (receive b from (omega (arith, fewer, turn, enough)))
         causes e wants (freed is to le) = absurd (not_both (chart_of g) e.instance b (next_place h a) to its_receive)
 
-    -- a receive that isn't
+    -- a receive that isn't wanted
     skip-receive : (w : Wanted) → wants_receive h a b w ≡ false → IsStep h (Receive a b c) w w
     skip-receive w never = record {
       grown = λ e is. is;
@@ -246,7 +246,7 @@ module _ (n k : ℕ) (g : List Occurrence) (legal : IsLegal n k g) where
   closed-wanted [] w begins closed = closed
   closed-wanted (x ∷ h) w begins closed = closed-wanted h (step k h x w) (begins_onward h (x ∷ h) g (x ∷ [], refl) begins) (closed-next h x w begins closed)
 
-  -- in the end, whatever was wanted at first
+  -- at the end, whatever was wanted at first
   pub closed-end : (w : Wanted) (e f : Place) → DirectWithin k (chart_of g) e f → IsWithin (chart_of g) (wanted k g w).sends (wanted k g w).receives f → IsWithin (chart_of g) (wanted k g w).sends (wanted k g w).receives e
   closed-end w e f d wants =
       ⊎_elim (λ is. is) (λ will. absurd (omega (arith, will.1.0, will.1.1)))

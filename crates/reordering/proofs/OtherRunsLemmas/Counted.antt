@@ -1,4 +1,4 @@
--- What a history of a chart has on its lanes, against the chart's lines; how many events an instance has.
+-- What a history of a chart has on its lanes, compared with the chart's lines; how many events an instance has.
 use Rattle.std.proofs.Common.{◌≡◌, ℕ, suc, ◌+◌, ◌<◌, ◌≤◌, ◌==◌, ◌&&◌, Bool, true, false, cond, List, [], ◌∷◌, ◌++◌, length, map, refl, sym, ap, ◌∙◌, subst, arith, append-nil, eqb-true}
 use Rattle.std.specs.Prelude.{if◌then◌else◌}
 use Rattle.std.proofs.lemmas.List.{length_push, map-append}
@@ -50,7 +50,7 @@ acts (Send a b m ∷ h) p = if a == p then acts h p + 1 else acts h p
 acts (Receive a b c ∷ h) p = if a == p then acts h p + 1 else acts h p
 acts (Close a b ∷ h) p = acts h p
 
--- its line has no more
+-- its line has no more events
 pub line_short : (h : List Occurrence) (p : ℕ) → length (chart_of h p) ≤ acts h p
 line_short [] p = omega arith
 line_short (Send a b m ∷ h) p = go (a == p) (line_short h p)
@@ -66,7 +66,7 @@ line_short (Receive a b c ∷ h) p = go (a == p) (waiting h b a) (line_short h p
     go false ms before = omega (arith, before, ap length (append-nil (chart_of h p)))
 line_short (Close a b ∷ h) p = omega (arith, line_short h p, ap length (append-nil (chart_of h p)))
 
--- in a legal history just as many, and so no more than a line holds
+-- in a legal history its line has exactly as many, and no more than a line may have
 pub acts_legal : (n k : ℕ) (h : List Occurrence) → IsLegal n k h → (p : ℕ) → (acts h p ≡ length (chart_of h p)) × (acts h p ≤ MAX_EVENTS)
 acts_legal n k [] legal p = (refl, omega arith)
 acts_legal n k (Send a b m ∷ h) legal p = go (a == p) refl (acts_legal n k h legal.1 p)

@@ -1,4 +1,4 @@
--- A legal history in two parts is legal, where no receive is wanted without its send, nor more sends than slots.
+-- A legal history in two parts is legal, if no receive is wanted without its send, and no more sends than slots.
 use Rattle.std.proofs.Common.{◌≡◌, ℕ, ◌+◌, ◌<◌, ◌≤◌, eq-eqb, ◌==◌, nat_lt, Bool, true, false, cond, List, [], ◌∷◌, ◌++◌, length, inl, refl, arith, length-drop}
 use Rattle.std.proofs.lemmas.Bool.{ltb-true, ltb-false}
 use Rattle.chart.specs.declared.history.Occurrence.{Occurrence}
@@ -35,7 +35,7 @@ acts_less a p more h le = go (a == p) le
 acts_own : (a more : ℕ) (h : ℕ → ℕ) → cond (a == a) (h a + 1) (h a) ≤ more → h a < more
 acts_own a more h le = let e = eq-eqb a a refl in omega (arith, rw e at le)
 
--- they are legal, where no line gets too long
+-- they are legal, if no line gets too long
 legal_plain : (n k : ℕ) (h : List Occurrence) → IsPlain n k h → ((p : ℕ) → acts h p ≤ MAX_EVENTS) → IsLegal n k h
 legal_plain n k [] plain short = tt
 legal_plain n k (Send a b m ∷ h) plain short =
@@ -78,7 +78,7 @@ module _ (n k l : ℕ) (s r : Turns) (no_more : k ≤ l) (has_sends : (q p : ℕ
       go false few before = before
   plain_inner (Close a b ∷ h) legal = plain_inner h legal.1
 
-  -- and the second part behind it, of a history that begins the whole
+  -- the second part after it, of a history that begins the whole
   plain_parted : (g h : List Occurrence) → IsLegal n k g → IsLegal n k h → Begins h g → IsPlain n l (parted s r h g)
   plain_parted g [] whole legal begins = plain_inner g whole
   plain_parted g (Send a b m ∷ h) whole legal begins =

@@ -13,7 +13,7 @@ use Rattle.chart.proofs.Begun.{legal_begun, grows_from_begun, send_begun, belong
 use Rattle.chart.proofs.Lanes.{newest_is_send, send_of_first}
 use Rattle.chart.proofs.Sends.{newest_belongs}
 
--- where the next event of a line stands
+-- the place of the next event of a line
 abbrev pub next_place : List Occurrence → ℕ → Place
 next_place h p = at p (length (chart_of h p) + 1)
 
@@ -21,7 +21,7 @@ next_place h p = at p (length (chart_of h p) + 1)
 pub event_begun : (h g : List Occurrence) → Begins h g → (e : Place) → IsEvent (chart_of h) e → IsEvent (chart_of g) e
 event_begun h g begins e here = let w = grows_from_begun h g begins e.instance in (here.0, omega (arith, here.1, ap length w.1, length-append (chart_of h e.instance) w.0))
 
--- there is an event of the history, or none
+-- there is an event of the history at the place, or none
 pub is_there : (h : List Occurrence) (e : Place) → 1 ≤ e.index → IsEvent (chart_of h) e ⊎ (IsEvent (chart_of h) e → ⊥)
 is_there h e low = elim (cases_lt (length (chart_of h e.instance)) e.index) [
   | inl past ↦ inr (λ here. omega (arith, past, here.1))

@@ -1,5 +1,5 @@
--- A history in two parts: of each lane the first so many sends and so many receives, and the rest. Neither has closes or
--- coregions.
+-- A history in two parts: for each lane a number of first sends and of first receives, and the rest. Neither has closes
+-- or coregions.
 use Rattle.std.proofs.Common.{◌≡◌, ℕ, ◌+◌, ◌-◌, ◌==◌, min, nat_lt, Bool, true, false, cond, List, [], ◌∷◌, ◌++◌, length, take, drop, refl, sym, ap, ap₂, ◌∙◌, subst₂, arith, append-nil, append_assoc, take_all}
 use Rattle.std.proofs.lemmas.Bool.{ltb-true, ltb-false, eqb-true, and_parts}
 use Rattle.std.proofs.lemmas.List.{length_push, drop_all, take-append-le, drop-append-le, length-take, length-drop, length-append}
@@ -9,13 +9,13 @@ use Rattle.chart.specs.Messages.{Content}
 use Rattle.chart.specs.Histories.{is_lane, sent, received}
 use Rattle.reordering.specs.OtherRuns.Walks.{Turns, inner, outer, parted, sends_in}
 
--- a test of one lane's number is that of the lane which it is
+-- a test of one lane's number is that of the same lane
 few_on : (f : Turns) (s : Turns) (a b q p : ℕ) (few : Bool) → nat_lt (f a b) (s a b) ≡ few → is_lane a b q p ≡ true → nat_lt (f q p) (s q p) ≡ few
 few_on f s a b q p few e lane =
     let ends = and_parts (a == q) (b == p) lane in
     subst₂ (λ x y. nat_lt (f x y) (s x y) ≡ few) (eqb-true a q ends.0) (eqb-true b p ends.1) e
 
--- the first so many messages
+-- the first messages
 pub inner_sent : (s r : Turns) (h : List Occurrence) (q p : ℕ) → sent (inner s r h) q p ≡ take (s q p) (sent h q p)
 inner_sent s r [] q p = sym (take_all (s q p) [] (omega arith))
 inner_sent s r (Send a b m ∷ h) q p = go (nat_lt (length (sent h a b)) (s a b)) refl (is_lane a b q p) refl (inner_sent s r h q p)
@@ -39,7 +39,7 @@ inner_sent s r (Receive a b c ∷ h) q p = go (nat_lt (received h b a) (r b a)) 
     go false before = before
 inner_sent s r (Close a b ∷ h) q p = inner_sent s r h q p
 
--- the first so many receives
+-- the first receives
 pub inner_received : (s r : Turns) (h : List Occurrence) (q p : ℕ) → received (inner s r h) q p ≡ min (r q p) (received h q p)
 inner_received s r [] q p = omega arith
 inner_received s r (Send a b m ∷ h) q p = go (nat_lt (length (sent h a b)) (s a b)) (inner_received s r h q p)
@@ -60,7 +60,7 @@ inner_received s r (Receive a b c ∷ h) q p = go (nat_lt (received h b a) (r b 
     go false few false lane before = before
 inner_received s r (Close a b ∷ h) q p = inner_received s r h q p
 
--- behind a history: the messages that it lacks
+-- after a history: the messages that it lacks
 pub outer_sent : (s r : Turns) (h g : List Occurrence) (q p : ℕ) → sent (outer s r h ++ g) q p ≡ sent g q p ++ drop (s q p) (sent h q p)
 outer_sent s r [] g q p = sym (ap (λ ms. sent g q p ++ ms) (drop_all (s q p) [] (omega arith)) ∙ append-nil (sent g q p))
 outer_sent s r (Send a b m ∷ h) g q p = go (nat_lt (length (sent h a b)) (s a b)) refl (is_lane a b q p) refl (outer_sent s r h g q p)
@@ -104,7 +104,7 @@ outer_received s r (Receive a b c ∷ h) g q p = go (nat_lt (received h b a) (r 
     go false few false lane before = rw lane before
 outer_received s r (Close a b ∷ h) g q p = outer_received s r h g q p
 
--- How many, in numbers.
+-- The numbers of messages and receives.
 
 pub inner_sends : (s r : Turns) (h : List Occurrence) (q p : ℕ) → length (sent (inner s r h) q p) ≡ min (s q p) (length (sent h q p))
 inner_sends s r h q p = ap length (inner_sent s r h q p) ∙ length-take (s q p) (sent h q p)

@@ -1,5 +1,5 @@
--- What is up to a receive, as so many sends and receives of each lane: on each line all that its send knows, and on its own
--- the receives from the same sender.
+-- The events up to a receive, as numbers of sends and receives of each lane: on each line all that its send knows, and
+-- on its own the receives from the same sender.
 use Rattle.std.proofs.Common.{◌≡◌, ℕ, ◌≤◌, ◌⊎◌, inl, inr, ◌==◌, max, Bool, true, false, cond, List, refl, sym, ap, subst, arith, eqb-true}
 use Rattle.std.specs.Prelude.{if◌then◌else◌}
 use Rattle.std.proofs.lemmas.Bool.{cases_lt, cases_eq, and_parts}
@@ -23,7 +23,7 @@ use Rattle.reordering.specs.OtherRuns.Walks.{Turns}
 use Rattle.reordering.proofs.OtherRunsLemmas.Turns.{IsWithin}
 use Rattle.reordering.proofs.OtherRunsLemmas.Turns.IsWithin.{send, receive}
 
--- up to an event that passes there are no more than up to a place just where it isn't past the place
+-- if there are no more events up to one that passes than up to a place, the event isn't past the place
 pub turn_from_place : (test : Event → Bool) (line : List Event) (i j : ℕ) → Passes test line i → tally test line i ≤ tally test line j → i ≤ j
 turn_from_place test line i j passes le = elim (cases_lt j i) [
   | inl past ↦ absurd (omega (arith, le, tally-lt test line j i past passes))
@@ -31,11 +31,11 @@ turn_from_place test line i j passes le = elim (cases_lt j i) [
 ]
 
 module _ (n k : ℕ) (h : List Occurrence) (legal : IsLegal n k h) (s r : Place) (belongs : BelongsTo (chart_of h) s r) where
-  -- how many events of a line the send knows
+  -- the number of events of a line that the send knows
   abbrev pub known : ℕ → ℕ
   known p = (known_exists n k h legal r.instance s belongs.sent p).0
 
-  -- of a lane's receives also those up to r, where it is its own
+  -- the receives of a lane, also those up to r if it is its own
   abbrev pub bound : ℕ → ℕ → ℕ
   bound q p = if is_lane q p s.instance r.instance then max (known p) r.index else known p
 
@@ -45,7 +45,7 @@ module _ (n k : ℕ) (h : List Occurrence) (legal : IsLegal n k h) (s r : Place)
   abbrev pub past_receives : Turns
   past_receives q p = tally (is_receive_from q) (chart_of h p) (bound q p)
 
-  -- an event is up to the send just where it is known
+  -- an event is the send or before it exactly if it is known
   front : (e : Place) → 1 ≤ e.index → (IsUpTo (chart_of h) s e → e.index ≤ known e.instance) × (e.index ≤ known e.instance → IsUpTo (chart_of h) s e)
   front e low = known_front (chart_of h) r.instance s e.instance (known e.instance) belongs.sent (known_exists n k h legal r.instance s belongs.sent e.instance).1 e.index low
 
@@ -84,7 +84,7 @@ module _ (n k : ℕ) (h : List Occurrence) (legal : IsLegal n k h) (s r : Place)
       let own : e.index ≤ bound s.instance e.instance = subst (λ p. e.index ≤ bound s.instance p) (sym line) (omega (arith, le, bound-own)) in
       receive s.instance from (tally-le (is_receive_from s.instance) (chart_of h e.instance) e.index (bound s.instance e.instance) own)
 
-  -- what is up to r is within
+  -- an event that is r or before it is within
   pub within_up : (e : Place) → IsUpTo (chart_of h) r e → IsWithin (chart_of h) past_sends past_receives e
   within_up e (inl same) = within_own e (ap (λ x. x.instance) same) (omega (arith, ap (λ x. x.index) same)) (subst (λ x. IsReceiveFrom (chart_of h) s.instance x) (sym same) belongs.received)
   within_up e (inr before) = elim (before_receive (chain_of before) s belongs) [
@@ -94,11 +94,11 @@ module _ (n k : ℕ) (h : List Occurrence) (legal : IsLegal n k h) (s r : Place)
         within_known e here ((front e here.0).0 up)
   ]
 
-  -- a known event is up to r
+  -- a known event is before r
   up_known : (e : Place) → 1 ≤ e.index → e.index ≤ known e.instance → IsUpTo (chart_of h) r e
   up_known e low le = inr (before_its_receive (chart_of h) e s r ((front e low).1 le) belongs)
 
-  -- what is within is up to r
+  -- an event that is within is r or before it
   pub up_within : (e : Place) → IsWithin (chart_of h) past_sends past_receives e → IsUpTo (chart_of h) r e
   up_within e (send q is le) = up_known e (IsEvent-from_passes (chart_of h) (is_send_to q) e is).0 (turn_from_place (is_send_to q) (chart_of h e.instance) e.index (known e.instance) is le)
   up_within e (receive q is le) =
@@ -112,7 +112,7 @@ module _ (n k : ℕ) (h : List Occurrence) (legal : IsLegal n k h) (s r : Place)
             ]
       ]
 
-  -- what is directly before an event within is within
+  -- an event directly before one within is within
   pub closed : (e f : Place) → Direct (chart_of h) e f → IsWithin (chart_of h) past_sends past_receives f → IsWithin (chart_of h) past_sends past_receives e
   closed e f step within = elim (up_within f within) [
     | inl same ↦ within_up e (inr (direct (subst (λ x. Direct (chart_of h) e x) same step)))

@@ -1,4 +1,4 @@
--- Runs whose lanes have so many slots: what they keep, and one in which a receive comes first.
+-- Runs whose lanes have a given number of slots: what they keep, and one in which a receive comes first.
 use Rattle.std.proofs.Common.{◌≡◌, ◌≢◌, ℕ, ◌+◌, ◌<◌, ◌≤◌, ◌==◌, ◌↔◌, Bool, true, false, cond, [], ◌∷◌, ◌++◌, subst₂, eqb-true, ◌⊎◌, inl, inr, ⊎_elim, List, length, refl, sym, subst, arith, length-drop}
 use Rattle.std.proofs.Math.Path.{fun_ext}
 use Rattle.std.proofs.lemmas.Bool.{and_parts}
@@ -28,7 +28,7 @@ use Rattle.reordering.proofs.OtherRunsLemmas.Sound.{wanted_first, sound}
 use Rattle.reordering.proofs.OtherRunsLemmas.Closed.{closed-end}
 use Rattle.reordering.proofs.OtherRunsLemmas.Witnesses.{inner_come, come_inner, parted_causes, parted_events}
 
--- in a legal history no more messages were sent than were received and lanes have slots
+-- in a legal history the sent messages of a lane are at most as many as the received ones and the slots
 slots_kept : (n k : ℕ) (h : List Occurrence) → IsLegal n k h → (q p : ℕ) → length (sent h q p) ≤ received h q p + k
 slots_kept n k [] legal q p = omega arith
 slots_kept n k (Send a b m ∷ h) legal q p = go (is_lane a b q p) refl (slots_kept n k h legal.1 q p)
@@ -46,7 +46,7 @@ slots_kept n k (Receive a b c ∷ h) legal q p = go (is_lane b a q p) (slots_kep
     go false before = before
 slots_kept n k (Close a b ∷ h) legal q p = slots_kept n k h legal.1 q p
 
--- in each run what is enforced before an event has come when this event has
+-- in each run the events that are enforced before an event have come when it has
 module _ (n k : ℕ) (c : Chart) (g : List Occurrence) (run : IsRunWithin n k c g) (h : List Occurrence) (begins : Begins h g) where
   direct_within : (e r : Place) → DirectWithin k c e r → HasCome c h r → HasCome c h e
   direct_within e r (enforced d) come = run.causes h begins e r d come
@@ -60,7 +60,7 @@ module _ (n k : ℕ) (c : Chart) (g : List Occurrence) (run : IsRunWithin n k c 
   order_within {e = e} {r = r} (direct d) come = direct_within e r d come
   order_within (through x y) come = order_within x (order_within y come)
 
--- Of a receive in a history that is legal with k slots.
+-- A receive in a history that is legal with k slots.
 module _ (n k : ℕ) (g : List Occurrence) (legal : IsLegal n k g) (s r : Place) (belongs : BelongsTo (chart_of g) s r) where
   abbrev pub first : Wanted
   first = wanted_first n k g legal s r belongs
@@ -77,7 +77,7 @@ module _ (n k : ℕ) (g : List Occurrence) (legal : IsLegal n k g) (s r : Place)
   closed_direct : (e f : Place) → Direct (chart_of g) e f → IsWithin (chart_of g) sends receives f → IsWithin (chart_of g) sends receives e
   closed_direct e f d = closed-end n k g legal first e f (enforced d)
 
-  -- r is wanted, and all that is before it
+  -- r is wanted, with all events before it
   wants_it : IsWithin (chart_of g) sends receives r
   wants_it =
       let turn : ℕ = tally (is_receive_from s.instance) (chart_of g r.instance) r.index in
@@ -121,7 +121,7 @@ witness_within n k c (h, legal, same) q r =
     subst (λ d. IsReceiveFrom d q r → (g : List Occurrence) × IsRunWithin n k d g × ComesFirstWithin k d g r) (fun_ext same)
     (λ from. let s = sends_of n k h legal q r from in first_within n k h legal s.0 r s.1)
 
--- an event isn't before the receive just where the receive can overtake it
+-- an event isn't before the receive exactly if the receive can overtake it
 pub reordered_within : (n k : ℕ) (c : Chart) → IsPossibleWithin n k c → (q : ℕ) (r : Place) → IsReceiveFrom c q r → (e : Place) → IsEvent c e → e ≢ r → (BeforeWithin k c e r → ⊥) ↔ CanBeOvertakenWithin n k c e r
 reordered_within n k c possible q r from e here differs = (
   λ apart.

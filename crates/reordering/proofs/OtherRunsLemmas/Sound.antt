@@ -1,4 +1,4 @@
--- What is wanted of a receive is the receive, or before it.
+-- The events that are wanted for a receive are the receive, or before it.
 use Rattle.std.proofs.Common.{◌≡◌, ℕ, ◌+◌, ◌-◌, ◌<◌, ◌≤◌, ◌⊎◌, inl, inr, ◌==◌, ◌||◌, nat_lt, Bool, true, false, cond, List, [], ◌∷◌, length, refl, sym, ◌∙◌, subst, arith, eqb-true}
 use Rattle.std.proofs.lemmas.Bool.{cases_eq, or_cases, ltb-true, false≢true}
 use Rattle.chart.specs.declared.history.Occurrence.{Occurrence}
@@ -31,7 +31,7 @@ module _ (n k : ℕ) (g : List Occurrence) (legal : IsLegal n k g) (s r : Place)
   up_before e f d (inl same) = inr (direct (subst (λ x. DirectWithin k (chart_of g) e x) same d))
   up_before e f d (inr before) = inr (through (direct d) before)
 
-  -- so is a send with no later turn than a send of its lane, or a receive
+  -- so is a send with no later turn than a send of its lane, and a receive likewise
   up_send : (q : ℕ) (e f : Place) → IsSendTo (chart_of g) q e → IsSendTo (chart_of g) q f → e.instance ≡ f.instance → tally (is_send_to q) (chart_of g e.instance) e.index ≤ tally (is_send_to q) (chart_of g f.instance) f.index → IsUp f → IsUp e
   up_send q e f is last line le up =
       let low = IsEvent-from_passes (chart_of g) (is_send_to q) e is in
@@ -50,16 +50,16 @@ module _ (n k : ℕ) (g : List Occurrence) (legal : IsLegal n k g) (s r : Place)
         | inr differs ↦ up_before e f (enforced (same_sender q (record { line = line; begun = low.0; less = omega (arith, place, differs) }) is last)) up
       ]
 
-  -- all that is wanted is up to r, where of the history h is left
+  -- all wanted events are r or before it, when the history h remains
   pub record IsSound (h : List Occurrence) (w : Wanted) : Type 0 where
     pub within : (e : Place) → IsWithin (chart_of g) w.sends w.receives e → IsUp e
     pub all : (e : Place) → w.all e.instance ≡ true → IsEvent (chart_of h) e → IsUp e
 
-  -- what is left gets less
+  -- less of the history remains
   sound-less : (h : List Occurrence) (x : Occurrence) (w : Wanted) → IsSound (x ∷ h) w → IsSound h w
   sound-less h x w sound = record { within = sound.within; all = λ e all here. sound.all e all (event_begun h (x ∷ h) (x ∷ [], refl) e here) }
 
-  -- a send that is up to r is wanted with what is directly before it
+  -- a send that is before r is wanted with the events directly before it
   sound-send : (h : List Occurrence) (a b : ℕ) (m : Content) (w : Wanted) → Begins (Send a b m ∷ h) g → IsSound h w → IsUp (next_place h a) → IsSound h (with_send k h a b w)
   sound-send h a b m w begins sound up = record { within = within; all = all }
     where
@@ -194,6 +194,6 @@ module _ (n k : ℕ) (g : List Occurrence) (legal : IsLegal n k g) (s r : Place)
                 up_receive s.instance e r mine belongs.received (sym new.1) (subst (λ x. tally (is_receive_from x) (chart_of g e.instance) e.index ≤ tally (is_receive_from s.instance) (chart_of g r.instance) r.index) (sym new.0) (omega (arith, new.2))) (inl refl)
           ]
 
-  -- in the end
+  -- at the end
   pub sound : (e : Place) → IsWithin (chart_of g) (wanted k g wanted_first).sends (wanted k g wanted_first).receives e → IsUp e
   sound = (sound-wanted g wanted_first ([], refl) sound-first).within

@@ -1,5 +1,5 @@
--- What has to come when a receive comes first, found from a history's newest event to its oldest: so many sends and receives
--- of each lane, and lines of which all that is older.
+-- The events that have to come when a receive comes first, found from a history's newest event to its oldest: numbers
+-- of sends and receives of each lane, and lines with all their older events.
 use Rattle.std.proofs.Common.{◌≡◌, ℕ, ◌+◌, ◌-◌, ◌≤◌, ◌⊎◌, inl, inr, ◌==◌, max, Bool, true, false, cond, List, [], ◌∷◌, length, refl, arith}
 use Rattle.std.proofs.lemmas.Bool.{and_parts, cases_lt, eqb-true}
 use Rattle.chart.specs.declared.history.Occurrence.{Occurrence}
@@ -61,7 +61,7 @@ balanced k (x ∷ h) w was = balanced k h (step k h x w) (balanced-step k h x w 
 pub balanced-first : (k q p t : ℕ) → IsBalanced k (first_wanted q p t)
 balanced-first k q p t a b = balanced-raise k (λ x y. 0) (λ x y. 0) q p t t (omega arith) (omega arith) a b (omega arith, omega arith)
 
--- what is wanted stays so
+-- what is wanted stays wanted
 abbrev pub IsMore : Wanted → Wanted → Type 0
 IsMore w v = ((q p : ℕ) → w.sends q p ≤ v.sends q p) × ((q p : ℕ) → w.receives q p ≤ v.receives q p)
 

@@ -1,4 +1,4 @@
--- A run in which a receive comes first: the recorded one, with all that is up to the receive put before the rest.
+-- A run in which a receive comes first: the recorded one, with the receive and all events before it put first.
 use Rattle.std.proofs.Common.{◌≡◌, ◌≢◌, ℕ, ◌+◌, ◌<◌, ◌≤◌, ◌↔◌, ◌⊎◌, inl, inr, ⊎_elim, List, ◌++◌, length, drop, get_or, refl, sym, ap, ◌∙◌, subst, subst₂, arith}
 use Rattle.std.specs.Prelude.{All}
 use Rattle.std.proofs.Math.Path.{fun_ext}
@@ -29,9 +29,9 @@ use Rattle.reordering.proofs.OtherRunsLemmas.Legality.{legal_parted}
 use Rattle.reordering.proofs.OtherRunsLemmas.Causes.{order_kept, all_come, keeps_causes}
 use Rattle.reordering.proofs.OtherRunsLemmas.Past.{known, bound, past_sends, past_receives, within_up, up_within, closed}
 
--- What has come in one part, or in both, of which chart ever.
+-- What has come in one part, or in both, for any chart.
 module _ (c : Chart) (s r : Turns) (h : List Occurrence) where
-  -- in the first part: what is within, and had come
+  -- in the first part: the events within, which had come
   pub inner_come : (f : List Occurrence) (e : Place) → HasCome c (inner s r f) e → IsWithin c s r e × HasCome c f e
   inner_come f e come = (
     within_weaker c (sends_in (inner s r f)) (received (inner s r f)) s r (λ q p. omega (arith, inner_sends s r f q p)) (λ q p. omega (arith, inner_received s r f q p)) e (within_come c (inner s r f) e come),
@@ -42,7 +42,7 @@ module _ (c : Chart) (s r : Turns) (h : List Occurrence) where
   come_inner f e within come =
       come_within c (inner s r f) e (within_both c s r (sends_in f) (received f) (sends_in (inner s r f)) (received (inner s r f)) (λ q p. omega (arith, inner_sends s r f q p)) (λ q p. omega (arith, inner_received s r f q p)) e within (within_come c f e come))
 
-  -- behind the whole first part: what is within, and what had come
+  -- after the whole first part: the events within, and those that had come
   outer_come : (f : List Occurrence) (e : Place) → HasCome c (parted s r f h) e → IsWithin c s r e ⊎ HasCome c f e
   outer_come f e come = go (within_come c (parted s r f h) e come)
     where
@@ -64,7 +64,7 @@ module _ (c : Chart) (s r : Turns) (h : List Occurrence) where
   come_outer f begins e come =
       come_within c (parted s r f h) e (within_weaker c (sends_in f) (received f) (sends_in (parted s r f h)) (received (parted s r f h)) (λ q p. omega (arith, parted_sends s r f h q p, sent_begins-le f h begins q p)) (λ q p. omega (arith, parted_receives s r f h q p, received_begins f h begins q p)) e (within_come c f e come))
 
--- Of a legal history, and a part of its events that is closed under direct causes.
+-- A legal history, and a part of its events that is closed under direct causes.
 module _ (n k : ℕ) (h : List Occurrence) (legal : IsLegal n k h) (s r : Turns) (closed_there : (e f : Place) → Direct (chart_of h) e f → IsWithin (chart_of h) s r f → IsWithin (chart_of h) s r e) where
   -- the parts keep the causes
   pub parted_causes : KeepsCauses (chart_of h) (parted s r h h)
@@ -96,7 +96,7 @@ module _ (n k : ℕ) (h : List Occurrence) (legal : IsLegal n k h) (s r : Turns)
   send_within q p t line sends (send to is le) = subst₂ (λ x y. tally (is_send_to x) (chart_of h y) t.index ≤ s y x) (one_receiver (chart_of h) to p t is sends) line le
   send_within q p t line sends (receive from is le) = absurd (not_both (chart_of h) p from t sends is)
 
--- Of a receive in a legal history.
+-- A receive in a legal history.
 module _ (n k : ℕ) (h : List Occurrence) (legal : IsLegal n k h) (s r : Place) (belongs : BelongsTo (chart_of h) s r) where
   abbrev sends : Turns
   sends = past_sends n k h legal s r belongs
@@ -104,7 +104,7 @@ module _ (n k : ℕ) (h : List Occurrence) (legal : IsLegal n k h) (s r : Place)
   abbrev receives : Turns
   receives = past_receives n k h legal s r belongs
 
-  -- each receive up to it has its send there
+  -- each receive before it has its send there
   has_sends : (q p : ℕ) → receives q p ≤ sends q p
   has_sends q p = elim (cases_lt 0 (receives q p)) [
     | inr none ↦ omega (arith, none)
@@ -123,7 +123,7 @@ module _ (n k : ℕ) (h : List Occurrence) (legal : IsLegal n k h) (s r : Place)
       past_bound : ℕ → ℕ → ℕ
       past_bound q p = bound n k h legal s r belongs q p
 
-  -- and with a slot for each event of the history there are slots enough
+  -- with a slot for each event of the history there are enough slots
   has_slots : (q p : ℕ) → sends q p ≤ receives q p + (k + length h)
   has_slots q p = omega (arith, tally-le-count_by (is_send_to p) (chart_of h q) (known n k h legal s r belongs q), sent_count h q p, sends_short h q p)
 
@@ -156,11 +156,11 @@ witness n c (h, k, legal, same) q r =
     (λ from. let s = sends_of n k h legal q r from in comes_first n k h legal s.0 r s.1)
 
 module _ (n : ℕ) (c : Chart) (possible : IsPossible n c) (q : ℕ) (r : Place) (from : IsReceiveFrom c q r) where
-  -- where r comes first it overtakes what isn't before it
+  -- if r comes first, it overtakes each event that isn't before it
   overtaken : (g : List Occurrence) → ComesFirst c g r → (e : Place) → e ≢ r → (Before c e r → ⊥) → IsOvertaken c g e r
   overtaken g (h, begins, exactly) e differs apart = (h, begins, (exactly r).1 (inl refl), λ come. ⊎_elim (λ same. differs same) (λ before. apart before) ((exactly e).0 come))
 
-  -- an event isn't before r just where r can overtake it
+  -- an event isn't before r exactly if r can overtake it
   pub reordered : (e : Place) → IsEvent c e → e ≢ r → (Before c e r → ⊥) ↔ CanBeOvertaken n c e r
   reordered e here differs = (
     λ apart. let w = witness n c possible q r from in (w.0, w.1, overtaken w.0 w.2 e differs apart),
@@ -192,7 +192,7 @@ module _ (n : ℕ) (c : Chart) (possible : IsPossible n c) (q : ℕ) (r : Place)
       turns : (j : ℕ) → j < r.index → IsEvent c (at r.instance j) → (Before c (at r.instance j) r → ⊥) ↔ CanBeOvertaken n c (at r.instance j) r
       turns j less here = reordered (at r.instance j) here (earlier_differs j less)
 
-  -- in one run r overtakes all that its report lists
+  -- in one run r overtakes all events that its report lists
   pub one_run : (report : List ℕ) → IsReport c r report → (g : List Occurrence) × IsRunOf n c g × All (λ j. IsOvertaken c g (at r.instance j) r) report
   one_run report is =
       let w = witness n c possible q r from in (

@@ -26,12 +26,12 @@ use Rattle.chart.specs.RunSteps.Steps.{occurrence_of, after, history_of, turn_of
 use Rattle.reordering.proofs.WitnessLemmas.PickLemmas.{comes-is}
 use Rattle.chart.proofs.RunStepsLemmas.StepLemmas.{after-append, history-next}
 
--- a history goes on by steps
+-- a history is continued by steps
 pub begins-after : (h : List Occurrence) (ys : List Step) → Begins h (after h ys)
 begins-after h [] = begins_same h
 begins-after h (y ∷ ys) = begins_onward h (occurrence_of y ∷ h) (after (occurrence_of y ∷ h) ys) (occurrence_of y ∷ [], refl) (begins-after (occurrence_of y ∷ h) ys)
 
--- a run begins with what it made up to a step
+-- a run begins with the history that it made up to a step
 pub begins-at : (steps : List Step) (i : ℕ) (x : Step) → slice_get steps i ≡ Some x → Begins (occurrence_of x ∷ history_of (take i steps)) (history_of steps)
 begins-at steps i x is =
     subst₂ (λ h g. Begins h g) (history-next steps i x is) (sym (after-append [] (take (i + 1) steps) (drop (i + 1) steps)) ∙ ap history_of (take-append-drop (i + 1) steps))
@@ -45,7 +45,7 @@ module _ (n k : ℕ) (steps : List Step) (legal : IsLegal n k (history_of steps)
   from_it : (i a b c : ℕ) → slice_get steps i ≡ Some (Receive a b c) → IsReceiveFrom (chart_of (history_of steps)) b (next_place (history_of (take i steps)) a)
   from_it i a b c is = let w = its_send i a b c is in subst (λ x. IsReceiveFrom (chart_of (history_of steps)) x (next_place (history_of (take i steps)) a)) w.2 w.1.received
 
-  -- its turn, by its sender
+  -- its turn, from its sender
   turn_by : (i a b c : ℕ) (is : slice_get steps i ≡ Some (Receive a b c)) → tally (is_receive_from (its_send i a b c is).0.instance) (chart_of (history_of steps) a) (length (chart_of (history_of (take i steps)) a) + 1) ≡ received (history_of (take i steps)) b a + 1
   turn_by i a b c is =
       let w = its_send i a b c is in
@@ -54,14 +54,14 @@ module _ (n k : ℕ) (steps : List Step) (legal : IsLegal n k (history_of steps)
   turn_it : (i a b c : ℕ) → slice_get steps i ≡ Some (Receive a b c) → tally (is_receive_from b) (chart_of (history_of steps) a) (length (chart_of (history_of (take i steps)) a) + 1) ≡ received (history_of (take i steps)) b a + 1
   turn_it i a b c is = subst (λ x. tally (is_receive_from x) (chart_of (history_of steps) a) (length (chart_of (history_of (take i steps)) a) + 1) ≡ received (history_of (take i steps)) b a + 1) (its_send i a b c is).2 (turn_by i a b c is)
 
-  -- a step that is within makes an event that is
+  -- a step that is within makes an event that is within
   within-at : (w : Wanted) (j : ℕ) (x : Step) → slice_get steps j ≡ Some x → is_within w x (turn_of (history_of (take j steps)) x) ≡ true → IsWithin (chart_of (history_of steps)) w.sends w.receives (place_after steps j x)
   within-at w j (Send a b name) is few =
       let its = newest_send (history_of (take j steps)) (history_of steps) a b (record { name = name; body = [] }) (begins-at steps j (Send a b name) is) in
       send b its.0 (omega (arith, its.1, leb-true (length (sent (history_of (take j steps)) a b) + 1) (w.sends a b) few))
   within-at w j (Receive a b c) is few = receive b (from_it j a b c is) (omega (arith, turn_it j a b c is, leb-true (received (history_of (take j steps)) b a + 1) (w.receives b a) few))
 
-  -- and the other way round
+  -- an event that is within is made by a step that is within
   at-within : (w : Wanted) (j : ℕ) (x : Step) → slice_get steps j ≡ Some x → IsWithin (chart_of (history_of steps)) w.sends w.receives (place_after steps j x) → is_within w x (turn_of (history_of (take j steps)) x) ≡ true
   at-within w j (Send a b name) is (send q to le) =
       let its = newest_send (history_of (take j steps)) (history_of steps) a b (record { name = name; body = [] }) (begins-at steps j (Send a b name) is) in
@@ -76,7 +76,7 @@ module _ (n k : ℕ) (steps : List Step) (legal : IsLegal n k (history_of steps)
       le-leb (received (history_of (take j steps)) b a + 1) (w.receives b a) (omega (arith, turn_it j a b c is, few))
 
   module _ (i a b c : ℕ) (is : slice_get steps i ≡ Some (Receive a b c)) (j : ℕ) (x : Step) (at_j : slice_get steps j ≡ Some x) where
-    -- what is wanted of the receive, as it is found
+    -- what is wanted for the receive, as it is found
     abbrev pub all_wanted : Wanted
     all_wanted = wanted k (history_of steps) (with_step k nothing (Receive a b c) (turn_of (history_of (take i steps)) (Receive a b c)))
 
@@ -91,7 +91,7 @@ module _ (n k : ℕ) (steps : List Step) (legal : IsLegal n k (history_of steps)
         let s = its_send i a b c is in
         sound n k (history_of steps) legal s.0 (next_place (history_of (take i steps)) a) s.1 (place_after steps j x) (within-at its_wanted j x at_j (subst (λ w. is_within w x (turn_of (history_of (take j steps)) x) ≡ true) same_wanted within))
 
-    -- the other way round: the receive, and what is before it, are wanted
+    -- conversely, the receive and the events before it are wanted
     pub wanted_up : (place_after steps j x ≡ place_after steps i (Receive a b c)) ⊎ BeforeWithin k (chart_of (history_of steps)) (place_after steps j x) (place_after steps i (Receive a b c)) → is_within all_wanted x (turn_of (history_of (take j steps)) x) ≡ true
     wanted_up up =
         let s = its_send i a b c is in
@@ -132,7 +132,7 @@ with_step-at k x y t u same turn = ap₂ (λ a b. with_step k nothing a b) same 
 pub is_within-at : (w v : Wanted) (x y : Step) (t u : ℕ) → w ≡ v → x ≡ y → t ≡ u → is_within w x t ≡ is_within v y u
 is_within-at w v x y t u wants same turn = ap₂ (λ a b. is_within w a b) same turn ∙ ap (λ a. is_within a y u) wants
 
--- the run has what is wanted first, so its steps are in that order
+-- the run has the wanted steps first, so its steps are in that order
 pub in_order : (n k : ℕ) (steps : List Step) → IsLegal n k (history_of steps) → (i a b c : ℕ) → slice_get steps i ≡ Some (Receive a b c) → (w : Wanted) → w ≡ wanted k (history_of steps) (with_step k nothing (Receive a b c) (turn_of (history_of (take i steps)) (Receive a b c))) → (run : List Step)
     → run ≡ picked (comes w steps) steps (length steps) ++ picked (λ j. not (comes w steps j)) steps (length steps) → IsInOrder k steps (place_after steps i (Receive a b c)) run
 in_order n k steps legal i a b c is w wants run made = record {

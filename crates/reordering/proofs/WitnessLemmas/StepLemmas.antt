@@ -1,4 +1,4 @@
--- What one step more makes of the lanes' counts.
+-- How one more step changes the lanes' counts.
 use Rattle.std.proofs.Common.{◌≡◌, ℕ, ◌+◌, ◌==◌, max, Bool, true, false, cond, List, [], ◌∷◌, ◌++◌, length, take, Some, refl, sym, ap, ◌∙◌, subst, arith, eqb-true}
 use Rattle.std.proofs.lemmas.Bool.{and_parts}
 use Rattle.std.proofs.lemmas.List.{length_push}
@@ -27,7 +27,7 @@ sends-raised h a b m q p = go (is_lane a b q p) refl
         omega (arith, same, length_push (sent h q p) m)
     go false lane = refl
 
--- and a receive that of its lane
+-- a receive raises the number of its lane
 pub receives-raised : (h : List Occurrence) (a b c : ℕ) (q p : ℕ) → raise (received h) b a (received h b a + 1) q p ≡ received (occurrences.Receive a b c ∷ h) q p
 receives-raised h a b c q p = go (is_lane b a q p) refl
   where
@@ -42,7 +42,7 @@ receives-raised h a b c q p = go (is_lane b a q p) refl
 pub numbered-none : (steps : List Step) → AreNumbered steps 0 []
 numbered-none steps = record { whole = refl; each = λ i t is. absurd (omega (arith, slice_get_within [] i t is)) }
 
--- one step more, with its turn
+-- one more step, with its turn
 pub numbered-push : (steps : List Step) (many : ℕ) (numbered : List NumberedStep) (t : NumberedStep) → AreNumbered steps many numbered → slice_get steps many ≡ Some t.step → t.turn ≡ turn_of (history_of (take many steps)) t.step → AreNumbered steps (many + 1) (numbered ++ t ∷ [])
 numbered-push steps many numbered t are is turn = record {
   whole = length_push numbered t ∙ ap (λ x. x + 1) are.whole;

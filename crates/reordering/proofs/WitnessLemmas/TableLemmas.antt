@@ -9,11 +9,11 @@ use Rattle.chart.proofs.Histories.{is_lane-same}
 use Rattle.reordering.specs.OtherRuns.Walks.{Turns, raise}
 use Rattle.reordering.specs.Witness.Tables.{slot_of, IsInstance, AreCounts}
 
--- a lane's place is within
+-- a lane's place is within the table
 pub slot-within : (q p : ℕ) → IsInstance q → IsInstance p → slot_of q p < MAX_INSTANCES * MAX_INSTANCES
 slot-within q p is_q is_p = omega (arith, is_q.0, is_q.1, is_p.0, is_p.1)
 
--- two lanes with one place are one
+-- two lanes with the same place are the same
 slot-same : (q p a b : ℕ) → IsInstance q → IsInstance p → IsInstance a → IsInstance b → slot_of q p ≡ slot_of a b → (q ≡ a) × (p ≡ b)
 slot-same q p a b is_q is_p is_a is_b same =
     (omega (arith, is_q.0, is_q.1, is_p.0, is_p.1, is_a.0, is_a.1, is_b.0, is_b.1, same), omega (arith, is_q.0, is_q.1, is_p.0, is_p.1, is_a.0, is_a.1, is_b.0, is_b.1, same))

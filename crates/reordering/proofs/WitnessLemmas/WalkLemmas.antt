@@ -1,4 +1,4 @@
--- One step of the walks, told by its turn.
+-- One step of the walks, in terms of its turn.
 use Rattle.std.proofs.Common.{◌≡◌, ℕ, ◌+◌, ◌||◌, inl, inr, nat_lt, Bool, cond, List, ◌∷◌, length, take, Some, sym, ap, ◌∙◌, subst, arith, lt-ltb}
 use Rattle.std.specs.Prelude.{slice_get, nat_le}
 use Rattle.std.proofs.lemmas.Bool.{cases_lt, le-leb, lt-leb, le-ltb}
@@ -11,7 +11,7 @@ use Rattle.reordering.specs.Witness.Steps.{is_within, is_wanted, with_step}
 use Rattle.chart.specs.RunSteps.Steps.{occurrence_of, history_of, turn_of, outside_regions}
 use Rattle.chart.proofs.RunStepsLemmas.StepLemmas.{history-next}
 
--- fewer than n came before the turn n at most
+-- fewer than n came before a turn that is at most n
 lt-is : (i n : ℕ) → nat_lt i n ≡ nat_le (i + 1) n
 lt-is i n = elim (cases_lt i n) [
   | inl less ↦ lt-ltb i n less ∙ sym (le-leb (i + 1) n (omega (arith, less)))
@@ -22,7 +22,7 @@ walk-step : (k : ℕ) (h : List Occurrence) (x : Step) (w : Wanted) → step k h
 walk-step k h (Send a b name) w = ap (λ few. cond (w.all a || few) (with_send k h a b w) w) (lt-is (length (sent h a b)) (w.sends a b))
 walk-step k h (Receive a b region) w = ap (λ few. cond (w.all a || few) (with_receive h a b w) w) (lt-is (received h b a) (w.receives b a))
 
--- the walk over one step more
+-- the walk over one more step
 pub walk-next : (k : ℕ) (steps : List Step) (j : ℕ) (x : Step) (t : ℕ) (v : Wanted) → slice_get steps j ≡ Some x → t ≡ turn_of (history_of (take j steps)) x → (wants : Bool) → wants ≡ is_wanted v x t → wanted k (history_of (take (j + 1) steps)) v ≡ wanted k (history_of (take j steps)) (cond wants (with_step k v x t) v)
 walk-next k steps j x t v is turn wants answer =
     let h : List Occurrence = history_of (take j steps) in
@@ -37,14 +37,14 @@ outer-step : (w : Wanted) (h : List Occurrence) (x : Step) → outer w.sends w.r
 outer-step w h (Send a b name) = ap (λ few. cond few (outer w.sends w.receives h) (occurrence_of (Send a b name) ∷ outer w.sends w.receives h)) (lt-is (length (sent h a b)) (w.sends a b))
 outer-step w h (Receive a b region) = ap (λ few. cond few (outer w.sends w.receives h) (occurrence_of (Receive a b 0) ∷ outer w.sends w.receives h)) (lt-is (received h b a) (w.receives b a))
 
--- what is put first, by one step more
+-- the steps that are put first, with one more step
 pub inner-next : (w : Wanted) (steps : List Step) (j : ℕ) (x : Step) (t : ℕ) → slice_get steps j ≡ Some x → t ≡ turn_of (history_of (take j steps)) x → (has : Bool) → has ≡ is_within w x t
     → inner w.sends w.receives (history_of (take (j + 1) steps)) ≡ cond has (occurrence_of (outside_regions x) ∷ inner w.sends w.receives (history_of (take j steps))) (inner w.sends w.receives (history_of (take j steps)))
 inner-next w steps j x t is turn has answer =
     let h : List Occurrence = history_of (take j steps) in
     ap (inner w.sends w.receives) (history-next steps j x is) ∙ inner-step w h x ∙ ap (λ b. cond b (occurrence_of (outside_regions x) ∷ inner w.sends w.receives h) (inner w.sends w.receives h)) (ap (is_within w x) (sym turn) ∙ sym answer)
 
--- and what comes then
+-- the other steps, with one more step
 pub outer-next : (w : Wanted) (steps : List Step) (j : ℕ) (x : Step) (t : ℕ) → slice_get steps j ≡ Some x → t ≡ turn_of (history_of (take j steps)) x → (has : Bool) → has ≡ is_within w x t
     → outer w.sends w.receives (history_of (take (j + 1) steps)) ≡ cond has (outer w.sends w.receives (history_of (take j steps))) (occurrence_of (outside_regions x) ∷ outer w.sends w.receives (history_of (take j steps)))
 outer-next w steps j x t is turn has answer =

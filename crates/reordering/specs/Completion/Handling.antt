@@ -1,6 +1,6 @@
--- Which sends of a line a receive is handled by, where an instance finishes what a message makes it do before it receives
--- again (run to completion, as the state machines of UML have it; that this is told by where sends stand is this
--- project's profile).
+-- Which sends of a line handle a receive, if an instance finishes what a message makes it do before it receives again.
+-- This is run to completion, as the state machines of UML have it. That the places of sends decide it is this project's
+-- profile.
 use Rattle.std.specs.Prelude.{◌≡◌, ℕ, ◌<◌, Bool, true, false, ◌||◌, List, Some}
 use Rattle.chart.specs.declared.event.Event.{Event}
 use Rattle.chart.specs.declared.event.Event.TheVariants.{Send, Receive}
@@ -12,21 +12,21 @@ abbrev pub is_send : Event → Bool
 is_send (Send to name) = true
 is_send (Receive from name region) = false
 
--- it may stand between a receive of this coregion and the sends that this receive is handled by: it is a send, or another
--- receive of the coregion
+-- it may be between a receive of this coregion and the sends that handle this receive: it is a send, or another receive
+-- of the coregion
 abbrev pub may_follow : ℕ → Event → Bool
 may_follow region m = is_send m || is_in region m
 
--- at d of the line is a receive
+-- the event at d of the line is a receive
 abbrev pub IsReceiveAt : List Event → ℕ → Type 0
 IsReceiveAt line d = (q : ℕ) × (m : Event) × (ith line d ≡ Some m) × (is_receive_from q m ≡ true)
 
--- at s of the line is a send
+-- the event at s of the line is a send
 abbrev pub IsSendAt : List Event → ℕ → Type 0
 IsSendAt line s = (m : Event) × (ith line s ≡ Some m) × (is_send m ≡ true)
 
--- the receive at d of the line is handled by the send at s, with others maybe: between them, or between what is left of
--- the receive's coregion and the send, stand sends alone
+-- the send at s handles the receive at d of the line, maybe with others: there are only sends between the two, or
+-- between the rest of the receive's coregion and the send
 pub record IsHandled (line : List Event) (d s : ℕ) : Type 0 where
   pub less : d < s
   pub received : IsReceiveAt line d

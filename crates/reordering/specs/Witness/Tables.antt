@@ -1,13 +1,13 @@
--- Tables with a number for each lane, and what they stand for (this project's own).
+-- Tables with a number for each lane, and their meaning (this project's own).
 use Rattle.std.specs.Prelude.{◌≡◌, ℕ, ◌+◌, ◌-◌, ◌*◌, ◌≤◌, false, Bool, List, slice_index, slice_index_or}
 use Rattle.chart.specs.Words.{Counts}
 use Rattle.chart.specs.declared.instance.TheConstants.{MAX_INSTANCES}
 
--- where a table has the lane from q to p
+-- the place of the lane from q to p in a table
 abbrev pub slot_of : ℕ → ℕ → ℕ
 slot_of q p = (q - 1) * MAX_INSTANCES + (p - 1)
 
--- one of the instances that there may be
+-- p is the number of a possible instance
 abbrev pub IsInstance : ℕ → Type 0
 IsInstance p = (1 ≤ p) × (p ≤ MAX_INSTANCES)
 

@@ -24,7 +24,7 @@ fn line_at(lines: &[Line], line: usize) -> &GrowingLine
     lines[line].as_growing()
 }
 
-/// The index of the first event of these ranges, or another where there is none.
+/// The index of the first event of these ranges, or `other` if there is none.
 #[tactic(auto, using(crate::proofs::CompletionLemmas::QueryLemmas::first_of_ranges))]
 fn first_index(other: u32, earlier: &[EventRange]) -> u32
     requires { All IsRange earlier.now }
@@ -36,8 +36,8 @@ fn first_index(other: u32, earlier: &[EventRange]) -> u32
     range.first.index
 }
 
-/// A possible chart whose instances finish what a message makes them do before they receive again: it answers how far
-/// that puts the events of a receive's line before it. A contract sees the chart's lines.
+/// A possible chart whose instances finish what a message makes them do before they receive again. It answers up to
+/// which event this puts the line of a receive before it. A contract sees the chart's lines.
 #[derive(Drop)]
 pub struct Completion<'a> {
     closure: &'a Closure<'a>,
@@ -58,9 +58,9 @@ impl<'a> Model for Completion<'a> {
 }
 
 impl<'a> Completion<'a> {
-    /// That of a chart, by one look at each line. It keeps two numbers an event.
+    /// The completion of a chart, made in one pass over each line. It keeps two numbers for each event.
     ///
-    /// F6: it fails only where there is no memory.
+    /// F6: it fails only if there is no memory.
     pub fn of(alloc: Global, closure: &'a Closure<'a>) -> Result<Completion<'a>, AllocError>
         ensures { IfOk result (λ completion. completion ≡ closure.now) }
     {
@@ -84,7 +84,7 @@ impl<'a> Completion<'a> {
         self.rows[line].at(place)
     }
 
-    /// The last send of a line that handles nothing but so many first events.
+    /// The last send of a line that handles only receives among this number of first events, or 0.
     fn last_within(&self, line: usize, events: usize) -> u32
         requires line { line < length self.now }
         requires events { events ≤ length (chart_lines self.now (suc line)) }
@@ -96,7 +96,7 @@ impl<'a> Completion<'a> {
         self.at(line, events - 1).within
     }
 
-    /// The same as [`Completion::finished_before`] of a receive.
+    /// The same as [`Completion::finished_before`], for a receive.
     fn before_receive(&self, receive: &EventNo, earlier: &[EventRange]) -> u32
         requires receive { (q : ℕ)
             × IsReceiveFrom (chart_lines self.now) q (at receive.now.instance receive.now.index) }
@@ -112,12 +112,12 @@ impl<'a> Completion<'a> {
         within.max(same_sender)
     }
 
-    /// The number of the last send of a receive's line that is finished before it, 0 where there is none. Where
-    /// instances finish, all events of the line up to that one come before the receive, and of the later ones those
-    /// alone that the chart puts before it anyhow. Nothing is finished before another event, so the answer is 0 there.
-    /// The ranges are the races of the receive's report.
+    /// The number of the last send of a receive's line that is finished before it, or 0 if there is none. If instances
+    /// finish, all events of the line up to this send come before the receive. Of the later ones, only those do that
+    /// the chart puts before it anyway. Nothing is finished before an event that is no receive, so the answer for it is
+    /// 0. The ranges are the races of the receive's report.
     ///
-    /// It takes two looks, however long the line is.
+    /// It takes two look-ups, however long the line is.
     pub fn finished_before(&self, receive: &EventNo, earlier: &[EventRange]) -> u32
         requires report { IsReportIn (chart_lines self.now)
             (record { receive = receive.now; earlier = events_in earlier.now }) }

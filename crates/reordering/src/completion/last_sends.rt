@@ -1,4 +1,4 @@
-//! Of each event of a line the last sends that handle nothing but certain receives up to it.
+//! For each event of a line, the last sends that handle only certain receives up to it.
 ghost use Rattle.std.specs.Prelude.{◌≡◌, ◌<◌, ◌≤◌, ℕ, suc, length, All, Some, IfOk, IsTrue, ◌↔◌};
 ghost use Rattle.chart.specs.Charts.{IsLine};
 ghost use Rattle.chart.specs.Events.{ith, partner_of};
@@ -10,21 +10,21 @@ use chart::{Event, GrowingLine, InstanceNo};
 use closure::Numbers;
 use std::alloc::{AllocError, Global};
 
-/// Of an event of a line, each 0 where there is none.
+/// The last sends of an event of a line, each 0 if there is none.
 #[derive(Clone, Copy, Debug)]
 pub struct LastSends {
-    /// The line's last send that handles nothing but events up to this one.
+    /// The line's last send that handles only receives up to this event.
     pub within: u32,
-    /// The last one that handles nothing but earlier receives from this one's sender.
+    /// The line's last send that handles only earlier receives from this event's sender.
     pub same_sender: u32,
 }
 
-/// The last sends of the events of a line that were passed.
+/// The last sends of the passed events of a line.
 #[derive(Drop)]
 pub struct Passed {
-    /// The line's last send that handles nothing but these.
+    /// The line's last send that handles only passed receives.
     all: usize,
-    /// For each sender the last one that handles nothing but receives from it.
+    /// For each sender, the last send that handles only passed receives from it.
     by_sender: Numbers,
 }
 
@@ -37,7 +37,7 @@ fn event_at(line: &GrowingLine, place: usize) -> Event
     line.event(place)
 }
 
-/// Whether there is a send at a place.
+/// Whether the event at a place is a send.
 fn sends_at(line: &GrowingLine, place: usize) -> bool
     requires { place < length line.now.line.events }
     ensures { IsTrue result ↔ IsSendAt line.now.line.events (suc place) }
@@ -48,7 +48,8 @@ fn sends_at(line: &GrowingLine, place: usize) -> bool
     }
 }
 
-/// The last of the sends that stand directly behind so many first events of a line, or this number where there is none.
+/// The index of the last send in the run of sends directly after this number of first events of a line. It is this
+/// number if there are no such sends.
 fn run_end(line: &GrowingLine, first: usize) -> usize
     requires { first ≤ length line.now.line.events }
     ensures { IsRunEnd line.now.line.events first result }
@@ -70,7 +71,7 @@ fn has_one_sender(line: &GrowingLine, index: usize) -> bool
     line.event(index - 1).region() == 0 || line.run_start(index) <= line.region_start(index)
 }
 
-/// Passes the receive at a place, which is from this sender.
+/// Passes the receive at a place, which comes from this sender.
 fn pass_receive(line: &GrowingLine, place: usize, from: InstanceNo, passed: &mut Passed)
     requires place { place < length line.now.line.events }
     requires line { IsLine line.now.line }
@@ -92,7 +93,7 @@ fn pass_receive(line: &GrowingLine, place: usize, from: InstanceNo, passed: &mut
     passed.by_sender.set(from.place(), end);
 }
 
-/// Passes the event at a place.
+/// Passes the event at a place, and returns its last sends.
 fn pass(line: &GrowingLine, place: usize, passed: &mut Passed) -> LastSends
     requires place { place < length line.now.line.events }
     requires senders { All (λ m. partner_of m ≤ length passed.old.by_sender) line.now.line.events }
@@ -117,7 +118,7 @@ fn pass(line: &GrowingLine, place: usize, passed: &mut Passed) -> LastSends
     }
 }
 
-/// The last sends of each event of a line, whose partners are so many first instances.
+/// The last sends of each event of a line, whose partners are among the first `instances` instances.
 pub fn last_sends_of(alloc: Global, line: &GrowingLine, instances: usize) -> Result<Row, AllocError>
     requires { All (λ m. partner_of m ≤ instances) line.now.line.events }
     ensures { IfOk result (IsRowOf line.now.line.events) }

@@ -1,14 +1,14 @@
-//! The laws of the order where instances finish, each the contract of a function that does nothing.
+//! The laws of the order if instances finish. Each is the contract of a function that does nothing.
 ghost use Rattle.reordering.specs.Completion.Laws.{PartLaw, ClosedFormLaw, OwnLineLaw, OneNumberLaw, NoCycleLaw, OthersLaw};
 ghost use Rattle.reordering.specs.Completion.Laws.{CompletedReportLaw, RunLaw, OwnRunLaw};
 
-/// What is enforced is a part of it.
+/// The enforced order is part of it.
 pub fn part_law()
     ensures { PartLaw }
 {}
 
-/// Of a possible chart: what is before what, in the closed form, over all events and along a receive's own line. There
-/// is one number of first events there, and nothing is before itself.
+/// For a possible chart: the order in its closed form, over all events and along a receive's own line. On this line
+/// there is only one number of first events, and no event is before itself.
 pub fn closed_form_law()
     ensures events { ClosedFormLaw }
     ensures line { OwnLineLaw }
@@ -16,18 +16,19 @@ pub fn closed_form_law()
     ensures acyclic { NoCycleLaw }
 {}
 
-/// The races that are left are among the others.
+/// The remaining races are among the chart's races.
 pub fn others_law()
     ensures { OthersLaw }
 {}
 
-/// They are the others that are later than the last send that is finished before the receive.
+/// The remaining races are those of the chart's races that are later than the last send that is finished before the
+/// receive.
 pub fn completed_report_law()
     ensures { CompletedReportLaw }
 {}
 
-/// In each run of a chart's events in which instances finish, what is before an event has come when this event has. A
-/// legal history is such a run of its own chart's events, so there is one of each possible chart.
+/// In each run of a chart's events in which instances finish, the events before an event have come when it has. A legal
+/// history is such a run of its own chart's events, so each possible chart has one.
 pub fn run_law()
     ensures order { RunLaw }
     ensures own { OwnRunLaw }

@@ -21,7 +21,7 @@ impl Model for Row {
 }
 
 impl Row {
-    /// Those of no event. It takes no memory.
+    /// The row of no event. It takes no memory.
     pub fn new(alloc: Global) -> Row
         ensures { result ≡ [] }
     {
@@ -30,7 +30,7 @@ impl Row {
         }
     }
 
-    /// Adds those of the next event.
+    /// Adds the last sends of the next event.
     pub fn push(&mut self, value: LastSends) -> Result<(), AllocError>
         ensures { OnOk result (self.new ≡ self.old ++ value ∷ []) }
     {
@@ -38,7 +38,7 @@ impl Row {
         Ok(())
     }
 
-    /// Those of the event at a place.
+    /// The last sends of the event at a place.
     pub fn at(&self, place: usize) -> LastSends
         requires { place < length self.now }
         ensures { slice_get self.now place ≡ Some result }

@@ -8,7 +8,7 @@ use chart::{InstanceNo, MAX_INSTANCES};
 use std::alloc::{AllocError, Global};
 use std::marker::Model;
 
-/// How many lanes there may be, with those from an instance to itself, which nothing goes over.
+/// The number of possible lanes, including those from an instance to itself, which are never used.
 const LANES: usize = MAX_INSTANCES * MAX_INSTANCES;
 
 /// A number for each lane, by sender and receiver. A contract sees the list.
@@ -28,7 +28,7 @@ impl Model for Counts {
     ghost invariant = { λ c. length c.numbers.items ≡ MAX_INSTANCES * MAX_INSTANCES };
 }
 
-/// Where a lane's number stands.
+/// The place of a lane's number in the list.
 fn slot(from: InstanceNo, to: InstanceNo) -> usize
     ensures value { result ≡ slot_of from to }
     ensures lane { IsInstance from × IsInstance to }
@@ -40,7 +40,7 @@ fn slot(from: InstanceNo, to: InstanceNo) -> usize
 impl Counts {
     /// 0 for each lane.
     ///
-    /// F6: it fails only where there is no memory.
+    /// F6: it fails only if there is no memory.
     pub fn zeros(alloc: Global) -> Result<Counts, AllocError>
         ensures { IfOk result (λ zeros. AreCounts zeros (λ q p. 0)) }
     {
@@ -56,7 +56,7 @@ impl Counts {
         self.numbers[slot(from, to)]
     }
 
-    /// Makes the number of a lane at least so great.
+    /// Raises the number of a lane to at least this number.
     pub fn raise(&mut self, from: InstanceNo, to: InstanceNo, number: usize)
         ensures { (numbers : Turns) → AreCounts self.old numbers
             → AreCounts self.new (raise numbers from to number) }

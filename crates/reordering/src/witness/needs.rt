@@ -1,4 +1,4 @@
-//! What has to come with a receive.
+//! The steps that have to come with a receive.
 ghost use Rattle.std.specs.Prelude.{◌≡◌, List, length, IfOk};
 ghost use Rattle.reordering.specs.OtherRuns.Walks.{Wanted, wanted};
 ghost use Rattle.reordering.specs.Witness.Steps.{AreNumbered, is_within, is_wanted, with_step, nothing, StandFor};
@@ -10,7 +10,7 @@ use chart::MAX_INSTANCES;
 use chart::run_steps::Step;
 use std::alloc::{AllocError, Global};
 
-/// So many sends and receives of each lane, and all that is left of some lines.
+/// A number of sends and of receives of each lane, and the lines of which all remaining steps have to come.
 #[derive(Drop)]
 pub struct Needs {
     sends: Counts,
@@ -21,7 +21,7 @@ pub struct Needs {
 impl Needs {
     /// Nothing has to come.
     ///
-    /// F6: it fails only where there is no memory.
+    /// F6: it fails only if there is no memory.
     pub fn nothing(alloc: Global) -> Result<Needs, AllocError>
         ensures { IfOk result (λ needs. StandFor needs.sends needs.receives needs.lines nothing) }
     {
@@ -43,7 +43,7 @@ impl Needs {
         }
     }
 
-    /// Whether the newest step that is left has to come.
+    /// Whether the newest remaining step has to come.
     fn wants(&self, numbered: &NumberedStep) -> bool
         ensures { (w : Wanted) → StandFor self.now.sends self.now.receives self.now.lines w
             → result ≡ is_wanted w numbered.now.step numbered.now.turn }
@@ -55,8 +55,8 @@ impl Needs {
         line || self.has(numbered)
     }
 
-    /// The step has to come, where lanes have so many slots: with a send all that is left of its line, and the receive
-    /// that frees its slot; with a receive its send.
+    /// The step has to come, over lanes with this number of slots. With a send come all remaining steps of its line,
+    /// and the receive that frees its slot. With a receive comes its send.
     pub fn want(&mut self, numbered: &NumberedStep, slots: usize)
         ensures { (w : Wanted) → StandFor self.old.sends self.old.receives self.old.lines w
             → StandFor self.new.sends self.new.receives self.new.lines
@@ -76,7 +76,7 @@ impl Needs {
         }
     }
 
-    /// All that has to come with what has to come, from the last step to the first.
+    /// Adds all steps that have to come with those that have to come, from the last step to the first.
     pub fn complete(&mut self, steps: &[Step], numbered: &[NumberedStep], slots: usize)
         requires { AreNumbered steps.now (length steps.now) numbered.now }
         ensures { (w : Wanted) → StandFor self.old.sends self.old.receives self.old.lines w

@@ -10,14 +10,14 @@ use chart::InstanceNo;
 use chart::run_steps::Step;
 use std::alloc::{AllocError, Global};
 
-/// A step with its turn: the how-many-th send or receive of its lane it is, from 1.
+/// A step with its turn: its number among the sends, or the receives, of its lane, from 1.
 #[derive(Clone, Copy)]
 pub struct NumberedStep {
     pub step: Step,
     pub turn: usize,
 }
 
-/// How many sends and receives each lane had.
+/// The number of sends and of receives that each lane has had.
 #[derive(Drop)]
 pub struct Passed {
     pub sends: Counts,
@@ -27,7 +27,7 @@ pub struct Passed {
 impl Passed {
     /// Nothing has passed.
     ///
-    /// F6: it fails only where there is no memory.
+    /// F6: it fails only if there is no memory.
     pub fn none(alloc: Global) -> Result<Passed, AllocError>
         ensures { IfOk result (λ passed. HavePassed passed.sends passed.receives []) }
     {
@@ -37,7 +37,7 @@ impl Passed {
         })
     }
 
-    /// How many messages wait on a lane.
+    /// The number of messages that wait on a lane.
     pub fn waiting(&self, from: InstanceNo, to: InstanceNo) -> usize
         ensures { (h : List Occurrence) → HavePassed self.now.sends self.now.receives h
             → result ≡ length (waiting h from to) }
@@ -47,7 +47,7 @@ impl Passed {
             .saturating_sub(self.receives.at(from, to))
     }
 
-    /// The turn of the next step, which is made.
+    /// Makes the next step, and returns its turn.
     pub fn next(&mut self, step: &Step) -> usize
         requires { HavePassedSome self.old.sends self.old.receives }
         ensures { (h : List Occurrence) → HavePassed self.old.sends self.old.receives h
@@ -71,7 +71,7 @@ impl Passed {
 
 /// The steps of a run with their turns.
 ///
-/// F6: it fails only where there is no memory.
+/// F6: it fails only if there is no memory.
 pub fn with_turns(alloc: Global, steps: &[Step]) -> Result<Vec<NumberedStep>, AllocError>
     ensures { IfOk result (λ numbered. AreNumbered steps.now (length steps.now) numbered.items) }
 {

@@ -12,13 +12,13 @@ use crate::witness::parting::part;
 use chart::run_steps::Step;
 use std::alloc::{AllocError, Global};
 
-/// Of a run whose lanes have so many slots, a receive in it and another step, both by their numbers from 0: a run with
-/// the same events and causes, and with as many slots, in which the receive overtakes the event of the other step.
-/// There is none exactly where the answer is `None`: then the event is the receive, or before it where lanes have so
-/// many slots. The run has first the receive and what is before it there, and then the other steps, each in the order
-/// that they had, and outside of coregions.
+/// For a run whose lanes have this number of slots, and a receive and another step in it, both by their numbers from 0:
+/// a run in which the receive overtakes the event of the other step. It has the same events, causes and slots. The
+/// answer is `None` exactly if there is no such run: then the event is the receive, or before it over lanes with this
+/// number of slots. The new run has first the receive and the events before it in this sense, and then the other steps.
+/// Both are in their earlier order, and outside of coregions.
 ///
-/// F6: it fails only where there is no memory.
+/// F6: it fails only if there is no memory.
 pub fn overtake(
     alloc: Global,
     steps: &[Step],

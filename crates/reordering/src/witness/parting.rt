@@ -1,4 +1,4 @@
-//! A run with what has to come put first.
+//! A run in which the steps that have to come are put first.
 ghost use Rattle.std.specs.Prelude.{◌≡◌, ◌++◌, length, not, IfOk, All};
 ghost use Rattle.reordering.specs.OtherRuns.Walks.{Wanted, parted};
 ghost use Rattle.reordering.specs.Witness.Orders.{picked};
@@ -10,9 +10,9 @@ use crate::witness::numbered::NumberedStep;
 use chart::run_steps::Step;
 use std::alloc::{AllocError, Global};
 
-/// The steps that have to come, and then the others, each in their order and outside of coregions.
+/// The steps that have to come, and then the others, each in its earlier order and outside of coregions.
 ///
-/// F6: it fails only where there is no memory.
+/// F6: it fails only if there is no memory.
 pub fn part(
     alloc: Global,
     steps: &[Step],

@@ -1,4 +1,4 @@
--- Each instance's commands, when one makes its next.
+-- Each instance's commands, when one instance makes its next.
 use Rattle.std.proofs.Common.{◌≡◌, ◌≢◌, ℕ, ◌+◌, Bool, true, false, cond, eqb, List, [], ◌∷◌, ◌++◌, length, take, drop, refl, sym, ap, ◌∙◌, arith}
 use Rattle.std.specs.Prelude.{All}
 use Rattle.std.proofs.lemmas.Bool.{eqb-true, ne_eqb}
@@ -12,7 +12,7 @@ own-next-cons : (c : Command) (cs : List Command) (p : ℕ) (b : Bool) → eqb c
 own-next-cons c cs p true e rest = rw e refl
 own-next-cons c cs p false e rest = rw (e, e) rest
 
--- p's are left without the first
+-- p's commands lose their first
 pub own-next : (left : List Command) (p : ℕ) → own (without_next left p) p ≡ drop 1 (own left p)
 own-next [] p = refl
 own-next (c ∷ cs) p = own-next-cons c cs p (eqb c.actor p) refl (own-next cs p)
@@ -24,7 +24,7 @@ own-other-cons : (c : Command) (cs : List Command) (p q : ℕ) (b : Bool) → eq
 own-other-cons c cs p q true e other rest = rw (e, other-actor c.actor p q e other) refl
 own-other-cons c cs p q false e other rest = rw e (ap (λ (r : List Command). cond (eqb c.actor q) (c ∷ r) r) rest)
 
--- the others' stay
+-- the commands of the others stay
 pub own-other : (left : List Command) (p q : ℕ) → p ≢ q → own (without_next left p) q ≡ own left q
 own-other [] p q other = refl
 own-other (c ∷ cs) p q other = own-other-cons c cs p q (eqb c.actor p) refl other (own-other cs p q other)
@@ -36,7 +36,7 @@ length-next-cons c cs p false e rest some =
     let fewer = rest there in
     rw e (omega arith)
 
--- one is gone
+-- one command is gone
 pub length-next : (left : List Command) (p : ℕ) → are_some (own left p) ≡ true → length (without_next left p) + 1 ≡ length left
 length-next [] p some = absurd cc
 length-next (c ∷ cs) p some = length-next-cons c cs p (eqb c.actor p) refl (length-next cs p) some
@@ -45,12 +45,12 @@ All-next-cons : (P : Command → Type 0) (c : Command) (cs : List Command) (p : 
 All-next-cons P c cs p true e first rest fewer = rw e rest
 All-next-cons P c cs p false e first rest fewer = rw e (All-cons P c (without_next cs p) first fewer)
 
--- what holds of each holds of those that are left
+-- a fact that holds of each command holds of the remaining ones
 pub All-next : (P : Command → Type 0) (left : List Command) (p : ℕ) → All P left → All P (without_next left p)
 All-next P [] p all = all
 All-next P (c ∷ cs) p all = All-next-cons P c cs p (eqb c.actor p) refl (All-head P c cs all) (All-tail P c cs all) (All-next P cs p (All-tail P c cs all))
 
--- ---- the one that is made
+-- ---- the command that is made
 
 pub own-first : (p : ℕ) (cs : List Command) → All (λ c. eqb c.actor p ≡ true) cs → own (take 1 cs) p ≡ take 1 cs
 own-first p [] all = refl
@@ -60,7 +60,7 @@ pub own-first-other : (p q : ℕ) (cs : List Command) → p ≢ q → All (λ c.
 own-first-other p q [] other all = refl
 own-first-other p q (c ∷ cs) other all = rw (other-actor c.actor p q (All-head (λ c. eqb c.actor p ≡ true) c cs all) other) refl
 
--- a first and the others are all
+-- the first command and the others are all
 pub first-and-rest : (cs : List Command) → take 1 cs ++ drop 1 cs ≡ cs
 first-and-rest [] = refl
 first-and-rest (c ∷ cs) = refl

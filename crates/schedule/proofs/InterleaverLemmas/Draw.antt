@@ -27,19 +27,19 @@ some-there : (f : ℕ → List Command) (k a p : ℕ) → a ≤ p → p < a + k 
 some-there f zero a p above below some = absurd (omega arith)
 some-there f (suc k) a p above below some = there-cons f k a p above some (λ higher. some-there f k (a + 1) p higher (omega arith) some) (are_some (f a)) refl
 
--- where commands are left some instance has some
+-- if commands are left, some instance has some
 pub with_some-there : (n : ℕ) (c : Command) (cs : List Command) → AreOf n (c ∷ cs) → 0 < length (with_some n (c ∷ cs))
 with_some-there n c cs of =
     let head = All-head (λ x. (1 ≤ x.actor) × (x.actor ≤ n)) c cs of in
     let some : are_some (own (c ∷ cs) c.actor) ≡ true = rw (eq-eqb c.actor c.actor refl) refl in
     some-there (own (c ∷ cs)) n 1 c.actor head.0 (omega (arith, head.1)) some
 
--- no queues, no commands
+-- without queues there are no commands
 pub nothing_left : (n : ℕ) (left : List Command) → AreOf n left → length (queues_of n left) ≡ 0 → left ≡ []
 nothing_left n [] of none = refl
 nothing_left n (c ∷ cs) of none = absurd (omega (arith, with_some-there n c cs of, length-map (with_some n (c ∷ cs)) (own (c ∷ cs))))
 
--- whose turn it is has some
+-- the instance whose turn it is has some
 pub turn-some : (n : ℕ) (left : List Command) (w : ℕ) → 0 < length (with_some n left) → are_some (own left (turn n left w)) ≡ true
 turn-some n left w there =
     let P : ℕ → Type 0 = λ p. are_some (own left p) ≡ true in
@@ -60,7 +60,7 @@ pub changed_at-some : (qs : List (List Command)) (i : ℕ) (r : List Command) �
 changed_at-some qs i [] some = absurd cc
 changed_at-some qs i (c ∷ r) some = refl
 
--- what is changed first doesn't matter where it goes
+-- a change of a queue doesn't matter if the queue is then removed
 pub remove-set : (qs : List (List Command)) (i : ℕ) (r : List Command) → remove (set qs i r) i ≡ remove qs i
 remove-set qs i r = rw (take-set qs i r, drop-set-lt (suc i) qs i r (omega arith)) refl
 

@@ -1,4 +1,4 @@
--- How far a drawing has come, and what is drawn in the end.
+-- How far a draw has come, and what is drawn in the end.
 use Rattle.std.proofs.Common.{◌≡◌, ◌≢◌, ℕ, zero, suc, ◌+◌, ◌<◌, Bool, true, false, eqb, List, [], ◌∷◌, ◌++◌, length, take, Some, refl, sym, ap, ◌∙◌, arith}
 use Rattle.std.specs.Prelude.{All}
 use Rattle.std.proofs.lemmas.Bool.{eqb-true, eqb-false}
@@ -13,7 +13,7 @@ use Rattle.schedule.specs.Interleaver.Draws.{IsOf, AreOf, queues_of, Draws}
 use Rattle.schedule.proofs.InterleaverLemmas.Commands.{own-next, own-other, length-next, All-next, own-first, own-first-other, first-and-rest}
 use Rattle.schedule.proofs.InterleaverLemmas.Draw.{with_some-there, turn-some}
 
--- the commands that are left are in the queues, and what they will give comes behind what was drawn
+-- the remaining commands are in the queues, and will come after the drawn ones
 pub record HasCome (n many : ℕ) (whole drawn : List Command) (queues : List (List Command)) (g : Lcg) : Type 0 where
   pub left : List Command
   pub are_of : AreOf n left
@@ -41,7 +41,7 @@ next-order : (n k : ℕ) (drawn left : List Command) (c : Command) (g : Lcg) →
 unfolding interleaved first_words
 next-order n k drawn left c g first = rw first (append_assoc drawn (c ∷ []) (interleaved n (first_words pcg32 k (pcg32 g).1) (without_next left (turn n left (pcg32 g).0))))
 
--- one command more
+-- one more command
 pub HasCome-more : (n many : ℕ) (whole drawn : List Command) (queues after : List (List Command)) (g next : Lcg) (c : Command) → (came : HasCome n many whole drawn queues g) → Draws n came.left g (Some c) after next
     → HasCome n many whole (drawn ++ c ∷ []) after next
 HasCome-more n many whole drawn queues after g next c came draw =
@@ -73,7 +73,7 @@ HasCome-end n many whole drawn queues g came none = sym (drawn-all n drawn came.
 
 -- ---- laws of what is drawn
 
--- what holds of each command holds of each that is drawn
+-- a fact that holds of each command holds of each drawn one
 pub All-interleaved : (P : Command → Type 0) (n : ℕ) (words : List ℕ) (left : List Command) → All P left → All P (interleaved n words left)
 unfolding interleaved
 All-interleaved P n [] left all = λ k d within. absurd (omega arith)
@@ -90,7 +90,7 @@ own-draw-by left p q false other =
     let differ : p ≢ q = eqb-false p q other in
     rw (own-first-other p q (own left p) differ (filter_passes (λ c. eqb c.actor p) left)) (own-other left p q differ)
 
--- each instance makes its commands in their order
+-- each instance makes its commands in order
 pub own-interleaved : (n : ℕ) (words : List ℕ) (left : List Command) (q : ℕ) → length words ≡ length left → AreOf n left → own (interleaved n words left) q ≡ own left q
 unfolding interleaved
 own-interleaved n [] [] q size of = refl
@@ -103,7 +103,7 @@ own-interleaved n (w ∷ words) (c ∷ cs) q size of =
     let rest = own-interleaved n words (without_next left p) q (omega arith) (All-next (IsOf n) left p of) in
     filter-append (λ x. eqb x.actor q) (take 1 (own left p)) (interleaved n words (without_next left p)) ∙ ap (λ r. own (take 1 (own left p)) q ++ r) rest ∙ own-draw-by left p q (eqb p q) refl
 
--- as many words as are asked for
+-- there are as many words as asked for
 pub length-first_words : (k : ℕ) (g : Lcg) → length (first_words pcg32 k g) ≡ k
 unfolding first_words
 length-first_words zero g = refl

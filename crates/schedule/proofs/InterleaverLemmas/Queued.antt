@@ -1,4 +1,4 @@
--- The queues of all instances, when a command comes behind the others of its instance.
+-- The queues of all instances, when a command is added after the others of its instance.
 use Rattle.std.proofs.Common.{◌≡◌, ◌≢◌, ℕ, zero, suc, ◌+◌, ◌<◌, Bool, true, false, cond, eqb, List, [], ◌∷◌, ◌++◌, map, get_or, set, refl, sym, ap, ◌∙◌, arith}
 use Rattle.std.specs.Prelude.{filter}
 use Rattle.std.specs.List.{range_with_len}
@@ -13,7 +13,7 @@ own-push-by : (xs : List Command) (command : Command) (q : ℕ) (b : Bool) → e
 own-push-by xs command q true e = filter-append (λ c. eqb c.actor q) xs (command ∷ []) ∙ rw e refl
 own-push-by xs command q false e = filter-append (λ c. eqb c.actor q) xs (command ∷ []) ∙ rw e (append-nil (own xs q))
 
--- its own instance has it behind the others
+-- its own instance has it after the others
 own-push : (xs : List Command) (command : Command) → own (xs ++ command ∷ []) command.actor ≡ own xs command.actor ++ command ∷ []
 own-push xs command = own-push-by xs command command.actor true (eq-eqb command.actor command.actor refl)
 
@@ -44,7 +44,7 @@ kept-cons : (f : ℕ → List Command) (p : ℕ) (ps : List ℕ) (b : Bool) → 
 kept-cons f p ps true e rest = rw e (ap (λ (r : List (List Command)). f p ∷ r) rest)
 kept-cons f p ps false e rest = rw e rest
 
--- the queues that have some
+-- the queues that aren't empty
 pub kept-map : (f : ℕ → List Command) (ps : List ℕ) → filter are_some (map f ps) ≡ map f (filter (λ q. are_some (f q)) ps)
 kept-map f [] = refl
 kept-map f (p ∷ ps) = kept-cons f p ps (are_some (f p)) refl (kept-map f ps)

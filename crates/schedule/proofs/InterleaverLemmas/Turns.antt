@@ -7,11 +7,11 @@ use Rattle.std.proofs.lemmas.List.FromFn.{length-range_with_len, get_or-range_wi
 use Rattle.schedule.specs.declared.command.Command.{Command}
 use Rattle.schedule.specs.Interleaver.Interleavings.{are_some}
 
--- those of k numbers from a at which f has some
+-- those of k numbers, from a on, at which f has some commands
 abbrev pub some_of : (ℕ → List Command) → ℕ → ℕ → List ℕ
 some_of f a k = filter (λ p. are_some (f p)) (range_with_len a k)
 
--- the list at a place becomes r, or goes where r is empty
+-- the list at a place becomes r, or is removed if r is empty
 abbrev pub changed_at : List (List Command) → ℕ → List Command → List (List Command)
 changed_at qs i [] = remove qs i
 changed_at qs i (c ∷ r) = set qs i (c ∷ r)
@@ -20,7 +20,7 @@ changed_at-suc : (q : List Command) (qs : List (List Command)) (i : ℕ) (r : Li
 changed_at-suc q qs i [] = refl
 changed_at-suc q qs i (c ∷ r) = refl
 
--- the numbers are a at least
+-- the numbers are at least a
 pub at_least : (f : ℕ → List Command) (a k i : ℕ) → i < length (some_of f a k) → a ≤ get_or (some_of f a k) i 0
 at_least f a k i within =
     let P : ℕ → Type 0 = λ x. a ≤ x in
@@ -39,7 +39,7 @@ same-above : (f h : ℕ → List Command) (p : ℕ) → ((q : ℕ) → p ≢ q �
 same-above f h p same zero a above = refl
 same-above f h p same (suc k) a above = same-cons f h a k (are_some (f a)) refl (same a (λ e. absurd (omega (arith, e)))) (same-above f h p same k (a + 1) (omega arith))
 
--- p is the first of them
+-- p is the first number
 here-cons : (f h : ℕ → List Command) (a k : ℕ) (r : List Command) → are_some (f a) ≡ true → h a ≡ r → map f (some_of f (a + 1) k) ≡ map h (some_of h (a + 1) k) → changed_at (f a ∷ map f (some_of f (a + 1) k)) zero r ≡ map h (some_of h a (suc k))
 here-cons f h a k [] some is rest = rw is rest
 here-cons f h a k (c ∷ r) some is rest = rw (is, is) (ap (λ (x : List (List Command)). (c ∷ r) ∷ x) rest)
@@ -65,7 +65,7 @@ turns-by f h p same k a rest true e (suc i) within is =
     let here : h a ≡ f a = same a (λ e'. absurd (omega (arith, e', is', above))) in
     rw e (changed_at-suc (f a) (map f (some_of f (a + 1) k)) i (h p) ∙ ap (λ (x : List (List Command)). f a ∷ x) (rest i below is') ∙ rw (here, e, here) refl)
 
--- the queues with p's changed are the queues where p has what it then has
+-- the queues with p's queue changed are the queues of the changed commands
 pub turns : (f h : ℕ → List Command) (p : ℕ) → ((q : ℕ) → p ≢ q → h q ≡ f q) → (k a i : ℕ) → i < length (some_of f a k) → p ≡ get_or (some_of f a k) i 0
     → changed_at (map f (some_of f a k)) i (h p) ≡ map h (some_of h a k)
 turns f h p same zero a i within is = absurd (omega arith)

@@ -1,4 +1,4 @@
--- What a plan comes to is one.
+-- A plan has only one outcome.
 use Rattle.std.proofs.Common.{◌≡◌, ℕ, List, length, sym, ap, ◌∙◌, subst}
 use Rattle.chart.specs.Charts.{Chart, LineView, IsPossible, chart_lines}
 use Rattle.chart.specs.Histories.{chart_of}

@@ -1,4 +1,4 @@
--- Whether a line is noted, by the first note that isn't of an earlier one.
+-- Whether a line is noted, decided by the first note that isn't of an earlier line.
 use Rattle.std.proofs.Common.{◌≡◌, ℕ, ◌<◌, ◌≤◌, ◌⊎◌, inl, inr, true, false, List, length, get_or, sym, ap, ◌∙◌, subst, arith, ltb}
 use Rattle.std.specs.Prelude.{AllPairs, nat_eq}
 use Rattle.std.specs.List.Sorted.{IsNonDecreasingBy, IsPartitionPoint}

@@ -5,19 +5,19 @@ use Rattle.rand_pcg.specs.Pcg.{pcg32}
 use Rattle.schedule.specs.declared.command.Command.{Command}
 use Rattle.schedule.specs.Interleaver.Interleavings.{own, with_some, turn, without_next}
 
--- the command is one of the instances 1 to n
+-- the command's actor is one of the instances 1 to n
 abbrev pub IsOf : ℕ → Command → Type 0
 IsOf n command = (1 ≤ command.actor) × (command.actor ≤ n)
 
--- each is
+-- each command's actor is
 abbrev pub AreOf : ℕ → List Command → Type 0
 AreOf n commands = All (IsOf n) commands
 
--- the commands of each instance, of n, that has some, in rising order of the instances
+-- for each of n instances that has commands, its commands, in rising order of the instances
 abbrev pub queues_of : ℕ → List Command → List (List Command)
 queues_of n commands = map (own commands) (with_some n commands)
 
--- a draw where these commands are left: nothing where there are none; or else the first command of the instance whose
+-- a draw when these commands are left: nothing if there are none; otherwise the first command of the instance whose
 -- turn the generator's next word draws, and the queues and the generator after it
 abbrev pub Draws : ℕ → List Command → Lcg → Option Command → List (List Command) → Lcg → Type 0
 Draws n left g None queues next = left ≡ []

@@ -10,7 +10,7 @@ use Rattle.schedule.specs.declared.command.Note.{Note}
 abbrev pub is_noted : List Note → ℕ → Bool
 is_noted notes line = list_any (λ note. note.line == line) notes
 
--- what isn't noted of it makes an event
+-- without a note, the action makes an event
 abbrev pub makes_event : Action → Bool
 makes_event (Send q name) = true
 makes_event (Receive q) = true
@@ -23,6 +23,6 @@ makes_event Shut = false
 abbrev pub has_turn : List Note → Command → Bool
 has_turn notes command = makes_event command.action && not (is_noted notes command.line)
 
--- who made the events of the run, in their order
+-- the instances that made the events of the run, in order
 abbrev pub turns_of : List Command → List Note → List ℕ
 turns_of commands notes = map (λ command. command.actor) (filter (has_turn notes) commands)

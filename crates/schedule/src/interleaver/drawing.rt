@@ -1,4 +1,4 @@
-//! Draws whose turn it is.
+//! Draws the instance whose turn it is.
 ghost use Rattle.std.specs.Prelude.{ℕ, ◌≡◌, ◌∷◌, [], List, length, map, All, IfOk};
 ghost use Rattle.std.specs.List.{range_with_len};
 ghost use Rattle.rand_core.specs.Steps.{first_words};
@@ -16,7 +16,7 @@ use rand_core::utils::NextWord;
 use rand_pcg::Lcg64Xsh32;
 use std::alloc::Global;
 
-/// A queue for each instance, with nothing in it.
+/// An empty queue for each instance.
 fn empty_queues(alloc: Global, instances: usize) -> Result<Vec<Queue>, Memory>
     ensures { IfOk result (λ queues. queues.items ≡ map (own []) (range_with_len 1 instances)) }
 {
@@ -27,7 +27,7 @@ fn empty_queues(alloc: Global, instances: usize) -> Result<Vec<Queue>, Memory>
     Ok(queues)
 }
 
-/// The queues of the instances that have commands, in rising order of their numbers.
+/// The queues of the instances that have commands, in rising order of the instances' numbers.
 fn queues_of(alloc: Global, instances: usize, commands: &[Command]) -> Result<Vec<Queue>, Memory>
     requires { All (IsAmong instances) commands.now }
     ensures queues { IfOk result (λ queues. queues.items ≡ queues_of instances commands.now) }
@@ -41,8 +41,8 @@ fn queues_of(alloc: Global, instances: usize, commands: &[Command]) -> Result<Ve
     Ok(queues)
 }
 
-/// The next command of the instance whose turn the generator's next word draws, or nothing where no commands are
-/// left. A queue with nothing left in it goes.
+/// The next command of the instance whose turn the generator's next word draws, or nothing if no commands are left. A
+/// queue that becomes empty is removed.
 fn next_command(queues: &mut Vec<Queue>, generator: &mut Lcg64Xsh32) -> Option<Command>
     ensures { (n : ℕ) (left : List Command) → AreOf n left → queues.old.items ≡ queues_of n left
         → Draws n left generator.old result queues.new.items generator.new }
@@ -58,7 +58,7 @@ fn next_command(queues: &mut Vec<Queue>, generator: &mut Lcg64Xsh32) -> Option<C
     command
 }
 
-/// The commands in the order that the seed draws.
+/// The commands, in the order that the seed draws.
 fn drawn_commands(
     alloc: Global,
     instances: usize,
@@ -81,11 +81,11 @@ fn drawn_commands(
 
 /// The schedule with its commands in the order that the seed draws, each with its line of the text.
 ///
-/// The seed makes a generator, [`Lcg64Xsh32`]. While commands are left, m instances have some left, in rising order of
-/// their numbers: with the generator's next word w, the instance with number w mod m among them, from 0, makes its next
-/// command. It takes time in proportion to the commands.
+/// The seed makes a generator, [`Lcg64Xsh32`]. Each command is drawn by the generator's next word, w. If m instances
+/// have commands left, w draws the one with number w mod m among them, from 0, in rising order of their numbers. This
+/// instance makes its next command. The call takes time in proportion to the commands.
 ///
-/// F6: it fails only where there is no memory.
+/// F6: it fails only if there is no memory.
 pub fn drawn(alloc: Global, schedule: &Schedule, seed: u64) -> Result<Schedule, Memory>
     ensures value { IfOk result (λ s. s ≡ drawn_of schedule.now seed) }
     ensures own { IfOk result (λ s. (p : ℕ) → own s.commands p ≡ own schedule.now.commands p) }

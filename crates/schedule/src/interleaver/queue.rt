@@ -1,4 +1,4 @@
-//! An instance's commands that are left.
+//! The remaining commands of an instance.
 ghost use Rattle.std.specs.Prelude.{◌≡◌, ◌++◌, ◌∷◌, [], not, take, drop, OnOk};
 ghost use Rattle.std.specs.Option.{option_to_list};
 ghost use Rattle.schedule.specs.Interleaver.Interleavings.{are_some};
@@ -9,7 +9,7 @@ use std::alloc::Global;
 use std::collections::VecDeque;
 use std::marker::Model;
 
-/// The commands of one instance that are left, the next first. A contract sees the list.
+/// The remaining commands of one instance, in order. A contract sees the list.
 #[derive(Debug, Drop)]
 pub struct Queue {
     commands: VecDeque<Command>,
@@ -40,11 +40,11 @@ impl Queue {
         self.commands.is_empty()
     }
 
-    /// Adds a command behind those that are left.
+    /// Adds a command at the end.
     pub fn push(&mut self, command: Command) -> Result<(), Memory>
         ensures { OnOk result (self.new ≡ self.old ++ command ∷ []) }
     {
-        // Field by field: the borrow checker must be shown the types that a type of another crate is made of.
+        // Field by field: the borrow checker has to see the types of which a type of another crate consists.
         let Command {
             line,
             actor,

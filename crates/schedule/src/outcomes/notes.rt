@@ -5,8 +5,8 @@ ghost use Rattle.schedule.specs.Outcomes.Outcomes.{AreByLine};
 use crate::Note;
 use std::alloc::AllocError;
 
-/// Puts the notes in the order of their lines, and leaves those of one line in the order in which they came. It fails
-/// only where there is no memory.
+/// Sorts the notes by line, and keeps those of one line in the order in which they came. It fails only if there is no
+/// memory.
 pub fn put_by_line(notes: &mut Vec<Note>) -> Result<(), AllocError>
     ensures { OnOk result (AreByLine notes.old.items notes.new.items) }
 {

@@ -1,4 +1,4 @@
-//! What a replay gives.
+//! The outcome of a schedule.
 ghost use Rattle.std.specs.Prelude.{◌≡◌, length};
 ghost use Rattle.chart.specs.Reports.{AreReports, has_races};
 ghost use Rattle.schedule.specs.Outcomes.Outcomes.{FitTogether, OneOutcomeLaw, PossibleOutcomeLaw};
@@ -7,9 +7,9 @@ use crate::Note;
 use chart::{Chart, Names, Report, has_races};
 use std::marker::Model;
 
-/// What a schedule comes to: its instances' names, the chart of what happened, the report of each receive by instance
-/// and index, and a note for each command that was refused or found nothing, by line. A contract sees a record of
-/// these. There are as many names as lines, and the reports are those of the chart's receives.
+/// The outcome of a schedule: its instances' names, the chart of what happened, and the report of each receive by
+/// instance and index. Further, a note for each command that was refused or found nothing, by line. A contract sees a
+/// record of these. There are as many names as lines, and the reports are those of the chart's receives.
 #[derive(Debug)]
 pub struct Outcome<'a> {
     names: &'a Names,
@@ -18,7 +18,7 @@ pub struct Outcome<'a> {
     notes: Vec<Note>,
 }
 
-// (by hand, as that of a chart)
+// Written by hand, as that of a chart is.
 impl<'a> Drop for Outcome<'a> {
     #[inline(never)]
     fn drop(self) {
@@ -88,7 +88,7 @@ impl<'a> Outcome<'a> {
         self.reports.as_slice()
     }
 
-    /// Whether some receive has a race.
+    /// Whether a receive has a race.
     pub fn has_races(&self) -> bool
         ensures { result ≡ has_races self.now.reports }
     {
@@ -103,12 +103,12 @@ impl<'a> Outcome<'a> {
     }
 }
 
-/// A schedule comes to one outcome, and no other: a receive has one report.
+/// A schedule has one outcome and no other: each receive has only one report.
 pub fn one_outcome_law()
     ensures { OneOutcomeLaw }
 {}
 
-/// What a schedule comes to has a possible chart: one that some run has.
+/// The chart of a schedule's outcome is possible: some run has it.
 pub fn possible_outcome_law()
     ensures { PossibleOutcomeLaw }
 {}

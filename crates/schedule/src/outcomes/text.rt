@@ -63,8 +63,8 @@ pub fn add_outcome<W: Out>(
 }
 
 impl Outcome<'_> {
-    /// Writes the outcome's text: the chart's, and then a line for each race and for each note. It takes no memory.
-    /// Where a put fails (F24), a beginning of the text was written, and no other put is tried.
+    /// Writes the outcome's text: the chart's, and then a line for each race and for each note. It takes no memory. If
+    /// a put fails (F24), a beginning of the text was written, and no further put is tried.
     #[tactic(auto, using(texts::proofs::Writes::joining))]
     pub fn write<W: Out>(&self, out: &mut W) -> Result<(), WriteError>
         ensures { Wrote W.sink out.old out.new result (outcome_text self.now) }

@@ -6,7 +6,7 @@ use crate::{Action, Command, Note};
 use chart::InstanceNo;
 use std::alloc::{AllocError, Global};
 
-/// Whether the command of this line left a note, of those that stand in the order of their lines.
+/// Whether the command of this line left one of these notes, which are in the order of their lines.
 pub fn is_noted(notes: &[Note], line: u64) -> bool
     requires { AllPairs (λ a b. a.line ≤ b.line) notes.now }
     ensures { result ≡ is_noted notes.now line }
@@ -18,7 +18,7 @@ pub fn is_noted(notes: &[Note], line: u64) -> bool
     }
 }
 
-/// Whether the action makes an event, where it isn't refused and finds something.
+/// Whether the action makes an event, if it isn't refused and finds a message.
 fn makes_event(action: &Action) -> bool
     ensures { result ≡ makes_event action.now }
 {
@@ -36,7 +36,7 @@ fn has_turn(notes: &[Note], command: &Command) -> bool
     makes_event(&command.action) && !is_noted(notes, command.line)
 }
 
-/// The turns of the run of these commands, which left these notes, by line. F6: it fails only where there is no memory.
+/// The turns of the run of these commands, which left these notes, by line. F6: it fails only if there is no memory.
 pub fn turns_of(
     alloc: Global,
     commands: &[Command],

@@ -30,7 +30,7 @@ are-among n k line h (x ∷ steps) legal = All-cons (IsAmong n) (command_of line
     one (Send a b name) may = (may.0.1, (may.0.3, may.0.4))
     one (Receive a b region) may = (may.0.1, (may.0.3, may.0.4))
 
--- where no coregion is open, the command of a step does what the step does
+-- if no coregion is open, the command of a step does what the step does
 acted : (n k line : ℕ) (h : List Occurrence) (last region : ℕ → ℕ) → ((p : ℕ) → region p ≡ 0) → (x : Step) → IsOutside x → MayFollow n k h (occurrence_of x)
     → (f : ℕ → ℕ) × (acts n k (record { history = h; last = last; region = region }) (command_of line x).actor (command_of line x).action ≡ Ok (record { history = occurrence_of x ∷ h; last = f; region = region }))
 acted n k line h last region none (Send a b name) outside may =

@@ -13,7 +13,7 @@ use Rattle.chart.proofs.Belongs.{IsEvent-from_event}
 use Rattle.chart.proofs.Tally.{ith_at}
 use Rattle.schedule_replay.specs.ReorderedRuns.Reorderings.{receives}
 
--- there is an event where the read finds one
+-- there is an event exactly if the read finds one
 pub event_there : (c : Chart) (e : Place) (b : Bool) → b ≡ is_some (chart_event c e) → IsTrue b ↔ IsEvent c e
 event_there c e b is = subst (λ x. IsTrue x ↔ IsEvent c e) (sym is) (go (chart_event c e) refl)
   where
@@ -21,7 +21,7 @@ event_there c e b is = subst (λ x. IsTrue x ↔ IsEvent c e) (sym is) (go (char
     go None none = (λ t. absurd (false≢true t), λ here. let w = ith_at (c e.instance) e.index here.0 here.1 in absurd (none-some w.0 (sym none ∙ w.1)))
     go (Some m) some = (λ t. IsEvent-from_event c e m some, λ here. refl)
 
--- and a receive where it finds a receive
+-- there is a receive exactly if the read finds a receive
 pub receive_there : (c : Chart) (e : Place) (b : Bool) → b ≡ receives (chart_event c e) → IsTrue b ↔ ((q : ℕ) × IsReceiveFrom c q e)
 receive_there c e b is = subst (λ x. IsTrue x ↔ ((q : ℕ) × IsReceiveFrom c q e)) (sym is) (go (chart_event c e) refl)
   where

@@ -26,14 +26,14 @@ use Rattle.chart.specs.RunSteps.Steps.{occurrence_of, history_of, maker_of, step
 use Rattle.schedule_replay.specs.ReorderedRuns.Runs.{IsChartRun, IsInTurn, IsNext, IsStopped, IsHeld, MayCome}
 use Rattle.schedule_replay.proofs.ReorderedRunsLemmas.Partners.{partner-begun, first_named}
 
--- a legal history with no close has made so many events of each line of the chart, and no others
+-- a legal history without closes made these numbers of events of each line of the chart, and no others
 pub record IsGoing (n k : ℕ) (c : Chart) (h : List Occurrence) (made : List ℕ) : Type 0 where
   pub legal : IsLegal n k h
   pub never_closed : (p q : ℕ) → is_closed h p q ≡ false
   pub grows : GrowsTo (chart_of h) c
   pub many : (p : ℕ) → length (chart_of h p) ≡ entry made p
 
--- at first none
+-- at first no events were made
 pub IsGoing-start : (n k m : ℕ) (c : Chart) → IsGoing n k c [] (replicate m 0)
 IsGoing-start n k m c = record {
   legal = tt;
@@ -50,7 +50,7 @@ IsGoing-start n k m c = record {
           | inr past ↦ get_or_past (replicate m 0) p 0 (rw length-replicate past)
         ]
 
--- a line that begins so begins with its next event too
+-- a line that begins with these events also begins with the next one
 begins-more : (xs more ys : List Event) (m : Event) → ys ≡ xs ++ more → slice_get ys (length xs) ≡ Some m → (rest : List Event) × (ys ≡ (xs ++ m ∷ []) ++ rest)
 begins-more xs [] ys m e is =
     let within = slice_get_within ys (length xs) m is in
@@ -147,7 +147,7 @@ module _ (lines : List LineView) (k : ℕ) (h : List Occurrence) (made : List �
       go (Send q name) is may = next-send q name is may
       go (Receive q name region) is may = next-receive q name region is may
 
--- where all were made, the chart is the history's
+-- if all events were made, the chart is the history's
 pub IsChartRun-done : (lines : List LineView) (k : ℕ) (steps : List Step) (made : List ℕ) → IsGoing (length lines) k (chart_lines lines) (history_of steps) made → ((p : ℕ) → p < length lines → length (chart_lines lines (suc p)) ≤ slice_index made p) → IsInTurn (chart_lines lines) (length lines) k (history_of steps) → IsChartRun (length lines) k (chart_lines lines) steps
 IsChartRun-done lines k steps made old all turn = record {
   legal = old.legal;
@@ -183,7 +183,7 @@ room-next lines k h made p x chart inside next line its =
     let same : p ≡ line = omega (arith, maker-next (chart_lines lines) k h made p x next, its) in
     subst (λ j. slice_index made j < MAX_EVENTS) same (omega (arith, line_short lines p chart inside, left-next (chart_lines lines) k h made p x next))
 
--- what a line's next event says of it, by whether its lane lets it come
+-- whether a line can go on, decided by whether its lane lets the next event come
 pub next_from : (c : Chart) (k : ℕ) (h : List Occurrence) (made : List ℕ) (p : ℕ) (m : Event) (actor : ℕ) → slice_get (c (suc p)) (slice_index made p) ≡ Some m → actor ≡ suc p → (found : Option Step) → MatchOption found (IsHeld k h actor m) (λ x. (x ≡ step_made actor m) × MayCome k h actor m)
     → MatchOption found (IsStopped c k h made p) (IsNext c k h made p)
 next_from c k h made p m actor is its None held = λ x at_x. subst (IsHeld k h (suc p)) (same_Some m x (sym is ∙ at_x)) (subst (λ a. IsHeld k h a m) its held)

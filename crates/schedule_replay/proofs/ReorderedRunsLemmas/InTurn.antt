@@ -1,4 +1,4 @@
--- That each line goes on as long as it can, and then the first that can.
+-- Each line goes on as long as it can, and then the first line that can.
 use Rattle.std.proofs.Common.{◌≡◌, ℕ, suc, ◌<◌, inl, inr, List, Some, refl, sym, ap, subst}
 use Rattle.std.specs.Prelude.{slice_get}
 use Rattle.chart.specs.declared.history.Occurrence.{Occurrence}
@@ -26,7 +26,7 @@ module _ (n k : ℕ) (c : Chart) (h : List Occurrence) (made : List ℕ) (going 
   stops-from : (p : ℕ) → IsStopped c k h made p → CannotGoOn c k h p
   stops-from p stopped = λ m is. stopped m (subst (λ j. slice_get (c (suc p)) j ≡ Some m) (going.many (suc p)) is)
 
-  -- told by what was made, and told by the history
+  -- in terms of the made numbers, and in terms of the history
   pub goes-from : (p : ℕ) (x : Step) → p ≡ last_line h → GoesOnFirst c n k h made p x → GoesOn c n k h (occurrence_of x)
   goes-from p x last (inl next) = inl (subst (λ l. ComesNext c k h l (occurrence_of x)) last (comes-from p x next))
   goes-from p x last (inr (stopped, (q, less, before, next))) =

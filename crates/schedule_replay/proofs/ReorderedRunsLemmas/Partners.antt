@@ -17,7 +17,7 @@ use Rattle.chart.proofs.Lanes.{received_count, send_of_first}
 use Rattle.chart.proofs.Sends.{HasItsSend, has_its_send}
 use Rattle.closure.proofs.LinkLemmas.{tally_pass}
 
--- in a legal history partners are numbered from 1 on
+-- in a legal history the numbers of partners are at least 1
 partner-first : (n k : ℕ) (h : List Occurrence) → IsLegal n k h → (p i : ℕ) (m : Event) → ith (chart_of h p) i ≡ Some m → 1 ≤ partner_of m
 partner-first n k [] legal p i m is = absurd (ith_nil i m is)
 partner-first n k (e ∷ h) legal p i m is =
@@ -40,7 +40,7 @@ partner-first n k (e ∷ h) legal p i m is =
         go ms false it = absurd (ith_nil j m it)
     gets (occurrences.Close a b) may j found = absurd (ith_nil j m found)
 
--- up to where a history has come a line has as many events of a kind as its own line
+-- up to the end of a history's line, the chart's line has as many events of a kind as the history's own line
 pub tally_come : {c : Chart} (h : List Occurrence) → GrowsTo (chart_of h) c → (test : Event → Bool) (p : ℕ) → tally test (c p) (length (chart_of h p)) ≡ count_by test (chart_of h p)
 tally_come h grows test p =
     let w = grows p in
@@ -48,17 +48,17 @@ tally_come h grows test p =
     ap (λ l. tally test l (length (chart_of h p))) w.1 ∙ tally-append test (chart_of h p) w.0 (length (chart_of h p)) all ∙ tally_all test (chart_of h p) (length (chart_of h p)) all
 
 module _ (n : ℕ) (c : Chart) (possible : IsPossible n c) where
-  -- and in a possible chart
+  -- in a possible chart too
   pub partner-begun : (p i : ℕ) (m : Event) → ith (c p) i ≡ Some m → 1 ≤ partner_of m
   partner-begun p i m is = partner-first n possible.1 possible.0 possible.2 p i m (ap (λ l. ith l i) (possible.3 p) ∙ is)
 
-  -- there each receive has its send
+  -- in a possible chart each receive has its send
   its_send : (q : ℕ) (r : Place) → IsReceiveFrom c q r → HasItsSend c q r
   its_send q r from =
       subst (λ d. HasItsSend d q r) (fun_ext possible.3)
       (has_its_send n possible.1 possible.0 possible.2 q r (subst (λ d. IsReceiveFrom d q r) (sym (fun_ext possible.3)) from))
 
-  -- what the first message that waits is called, where the next event of the line receives it
+  -- the name of the first message that waits, if the next event of the line receives it
   pub first_named : (h : List Occurrence) (k : ℕ) → IsLegal n k h → GrowsTo (chart_of h) c → (q p : ℕ) (name : List ℕ) (region : ℕ) → ith (c p) (suc (length (chart_of h p))) ≡ Some (Receive q name region) → (x : Content) (rest : List Content) → waiting h q p ≡ x ∷ rest → x.name ≡ name
   first_named h k legal grows q p name region is x rest first =
       let r : Place = at p (suc (length (chart_of h p))) in

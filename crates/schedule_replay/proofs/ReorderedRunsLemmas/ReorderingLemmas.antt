@@ -1,4 +1,4 @@
--- What is found of a run, for a chart that it is a run of.
+-- What is found for a run also holds for its chart.
 use Rattle.std.proofs.Common.{ℕ, ◌≤◌, inl, inr, List, [], ◌≡◌, length, map, sym, ap, ◌∙◌, subst, subst₂, arith}
 use Rattle.std.specs.Prelude.{None, All}
 use Rattle.std.proofs.Math.Path.{fun_ext}
@@ -24,19 +24,19 @@ use Rattle.schedule_replay.specs.ReorderedRuns.Showing.{ShowsTurn}
 use Rattle.schedule_replay.specs.ReorderedRuns.Reorderings.{TurnsRound, IsReordered}
 use Rattle.schedule_replay.proofs.ReorderedRunsLemmas.Slots.{never_overtaken, overtaken-more, overtaken-most}
 
--- a run that was found turns the pair round
+-- a run that was found reverses the pair
 pub turns_round : (n k : ℕ) (c : Chart) (e r : Place) (steps : List Step) → IsRunWithin n k c (history_of steps) × IsOvertaken c (history_of steps) e r → All IsOutside steps → TurnsRound n k c e r steps
 turns_round n k c e r steps (run, over) outside = record { run = run; overtaken = over; outside = outside }
 
--- where none was found with k slots, there is none with fewer
+-- if no run was found with k slots, there is none with fewer
 pub none_with_fewer : (n k : ℕ) (h : List Occurrence) (e r : Place) → IsFound n k h e r None → (l : ℕ) → l ≤ k → CanBeOvertakenWithin n l (chart_of h) e r → ⊥
 none_with_fewer n k h e r found l le over = never_overtaken n k (chart_of h) e r found (overtaken-more n l k (chart_of h) e r le over)
 
--- and where none was found with the most that a line has events, there is none at all
+-- if none was found with as many slots as a line may have events, there is none at all
 pub none_at_all : (n : ℕ) (h : List Occurrence) (e r : Place) → IsFound n MAX_EVENTS h e r None → CanBeOvertaken n (chart_of h) e r → ⊥
 none_at_all n h e r found over = never_overtaken n MAX_EVENTS (chart_of h) e r found (overtaken-most n (chart_of h) e r over)
 
--- what is found of the run with the fewest slots is found of the chart
+-- what is found for the run with the fewest slots holds for the chart
 pub reordered_of_run : (n k : ℕ) (c : Chart) (e r : Place) (steps : List Step) (reordered : Reordered) → IsLeastRun n k c steps → IsReordered n k (chart_of (history_of steps)) e r reordered → IsReordered n 1 c e r reordered
 reordered_of_run n k c e r steps reordered least found = go reordered (subst (λ d. IsReordered n k d e r reordered) (fun_ext least.chart_run.chart) found)
   where

@@ -1,4 +1,4 @@
--- More slots allow what fewer do, and none are needed beyond the most events of a line.
+-- More slots allow what fewer do, and no more are needed than the most events of a line.
 use Rattle.std.proofs.Common.{◌≡◌, ℕ, ◌+◌, ◌<◌, ◌≤◌, ◌^◌, List, [], ◌∷◌, length, ◌⊎◌, inl, inr, subst, sym, arith, length-drop}
 use Rattle.std.proofs.lemmas.List.Sums.{count_by-le-length}
 use Rattle.chart.specs.declared.history.Occurrence.{Occurrence}
@@ -12,7 +12,7 @@ use Rattle.reordering.specs.OtherRuns.OtherRuns.{HasCome, IsRunWithin, BeforeWit
 use Rattle.reordering.proofs.OtherRunsLemmas.Counted.{acts_legal}
 use Rattle.reordering.proofs.OtherRunsLemmas.Slots.{order_within}
 
--- what is legal over lanes of k slots is over lanes of more
+-- a history that is legal over lanes of k slots is legal over lanes of more
 pub legal-more : (n k l : ℕ) → k ≤ l → (h : List Occurrence) → IsLegal n k h → IsLegal n l h
 legal-more n k l le [] legal = tt
 legal-more n k l le (Send a b m ∷ h) legal =
@@ -32,7 +32,7 @@ legal-most n k (Send a b m ∷ h) legal =
 legal-most n k (Receive a b c ∷ h) legal = (legal.0, legal-most n k h legal.1)
 legal-most n k (Close a b ∷ h) legal = (legal.0, legal-most n k h legal.1)
 
--- so few messages are sent and received on each lane
+-- the numbers of messages sent and received on each lane are within 64 bits
 pub lanes-short : (n k : ℕ) (h : List Occurrence) → IsLegal n k h → (q p : ℕ) → (length (sent h q p) + 1 < 2 ^ 64) × (received h q p + 1 < 2 ^ 64)
 lanes-short n k h legal q p =
     let from = acts_legal n k h legal q in
@@ -41,26 +41,26 @@ lanes-short n k h legal q p =
     let receives = count_by-le-length (is_receive_from q) (chart_of h p) in
     (omega (arith, from.0, from.1, sends, sent_count h q p), omega (arith, to.0, to.1, receives, received_count n k h legal q p))
 
--- a chart that is possible is so within the most events of a line
+-- a possible chart is possible with as many slots as the most events of a line
 pub possible-most : (n : ℕ) (c : Chart) → IsPossible n c → IsPossibleWithin n MAX_EVENTS c
 possible-most n c (h, k, legal, same) = (h, legal-most n k h legal, same)
 
 pub possible-more : (n k l : ℕ) (c : Chart) → k ≤ l → IsPossibleWithin n k c → IsPossibleWithin n l c
 possible-more n k l c le (h, legal, same) = (h, legal-more n k l le h legal, same)
 
--- a run within k slots is one within more
+-- a run over k slots is a run over more
 pub run-more : (n k l : ℕ) (c : Chart) (g : List Occurrence) → k ≤ l → IsRunWithin n k c g → IsRunWithin n l c g
 run-more n k l c g le run = record { legal = legal-more n k l le g run.legal; events = run.events; causes = run.causes }
 
 pub overtaken-more : (n k l : ℕ) (c : Chart) (e r : Place) → k ≤ l → CanBeOvertakenWithin n k c e r → CanBeOvertakenWithin n l c e r
 overtaken-more n k l c e r le (g, run, over) = (g, run-more n k l c g le run, over)
 
--- where no run within the most events of a line turns the pair, none does
+-- if no run with as many slots as the most events of a line reverses the pair, none does
 pub overtaken-most : (n : ℕ) (c : Chart) (e r : Place) → CanBeOvertaken n c e r → CanBeOvertakenWithin n MAX_EVENTS c e r
 overtaken-most n c e r (g, (k, run), over) =
     (g, record { legal = legal-most n k g run.legal; events = run.events; causes = run.causes }, over)
 
--- what is before r, or r, is overtaken by r in no run
+-- r, and an event before r, are overtaken by r in no run
 pub never_overtaken : (n k : ℕ) (c : Chart) (e r : Place) → (e ≡ r) ⊎ BeforeWithin k c e r → CanBeOvertakenWithin n k c e r → ⊥
 never_overtaken n k c e r (inl same) (g, run, (h, begins, come, not)) = not (subst (HasCome c h) (sym same) come)
 never_overtaken n k c e r (inr before) (g, run, (h, begins, come, not)) = not (order_within n k c g run h begins before come)

@@ -19,7 +19,7 @@ use Rattle.chart.specs.RunSteps.Steps.{occurrence_of, history_of, maker_of, plac
 use Rattle.chart.proofs.RunStepsLemmas.StepLemmas.{history-next}
 use Rattle.reordering.proofs.WitnessLemmas.FoundLemmas.{begins-at}
 
--- who makes a step does what it does
+-- the maker of a step is the instance of its occurrence
 pub by-step : (x : Step) → by (occurrence_of x) ≡ maker_of x
 by-step (Send a b name) = refl
 by-step (Receive a b region) = refl
@@ -43,7 +43,7 @@ module _ (n k : ℕ) (steps : List Step) (legal : IsLegal n k (history_of steps)
   pub made-other : (p : ℕ) → maker_of x ≢ p → length (chart_of (history_of (take (i + 1) steps)) p) ≡ length (chart_of (history_of (take i steps)) p)
   made-other p other = ap (λ h. length (chart_of h p)) (history-next steps i x is) ∙ ap length (line_of_other (history_of (take i steps)) (occurrence_of x) p (λ same. other (sym (by-step x) ∙ same)))
 
--- a step that makes a receive is one
+-- a step that makes a receive is a receive
 pub receive-by : (steps : List Step) (i q : ℕ) (x : Step) → slice_get steps i ≡ Some x → IsReceiveFrom (chart_of (history_of steps)) q (place_after steps i x) → IsReceive steps i
 receive-by steps i q (Send a b name) is from =
     let m : Content = record { name = name; body = [] } in

@@ -1,4 +1,4 @@
--- A run that stops early is of a chart that isn't possible over such lanes.
+-- If a run stops early, its chart isn't possible over such lanes.
 use Rattle.std.proofs.Common.{◌≡◌, ℕ, zero, suc, ◌<◌, ◌≤◌, inl, inr, List, [], ◌∷◌, ◌++◌, length, Some, refl, sym, ap, ◌∙◌, subst, arith, append_assoc, length-drop}
 use Rattle.std.specs.Prelude.{slice_get, slice_index}
 use Rattle.std.proofs.lemmas.Bool.{cases_lt, cases_eq}
@@ -26,7 +26,7 @@ use Rattle.schedule_replay.proofs.ReorderedRunsLemmas.Partners.{tally_come}
 event-next : (xs more ys : List Event) (m : Event) → ys ≡ (xs ++ m ∷ []) ++ more → slice_get ys (length xs) ≡ Some m
 event-next xs more ys m e = ap (λ l. slice_get l (length xs)) (e ∙ append_assoc xs (m ∷ []) more) ∙ ith-append_next xs more m
 
--- what a history sent and received, by where the chart's lines have come
+-- how many messages a history sent and received, from the places that it reached on the chart's lines
 sent_come : {c : Chart} (h : List Occurrence) → GrowsTo (chart_of h) c → (q p : ℕ) → length (sent h q p) ≡ tally (is_send_to p) (c q) (length (chart_of h q))
 sent_come h grows q p = sym (tally_come h grows (is_send_to p) q ∙ sent_count h q p)
 
@@ -42,7 +42,7 @@ module _ (n k : ℕ) (c : Chart) (h : List Occurrence) (made : List ℕ) (old : 
   held zero low high m is = absurd (omega arith)
   held (suc p) low high m is = stopped p (omega arith) m (subst (λ i. slice_get (c (suc p)) i ≡ Some m) (old.many (suc p)) is)
 
-  -- an event that comes in g was made, where all before it were
+  -- an event that comes in g was made, if all events before it were
   own : (x : Occurrence) (f : List Occurrence) → Begins (x ∷ f) g → Begins f g → IsLegal n k (x ∷ f) → ((p : ℕ) → length (chart_of f p) ≤ length (chart_of h p)) → length (chart_of (x ∷ f) (by x)) ≤ length (chart_of h (by x))
   own (Send a b m) f begins onward ok before =
       let line = line_after_send f a b m in
@@ -86,7 +86,7 @@ module _ (n k : ℕ) (c : Chart) (h : List Occurrence) (made : List ℕ) (old : 
           ]
   own (Close a b) f begins onward ok before = let e = ap length (line_after_close f a b a) in omega (arith, e, before a)
 
-  -- so all that comes in g was made
+  -- so all events of g were made
   all_made : (f : List Occurrence) → Begins f g → (p : ℕ) → length (chart_of f p) ≤ length (chart_of h p)
   all_made [] begins p = omega arith
   all_made (x ∷ f) begins p =

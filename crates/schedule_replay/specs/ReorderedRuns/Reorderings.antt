@@ -22,7 +22,8 @@ pub record TurnsRound (n k : ℕ) (c : Chart) (e r : Place) (steps : List Step) 
   pub overtaken : IsOvertaken c (history_of steps) e r
   pub outside : All IsOutside steps
 
--- k is the least number of slots, of those from `first` on over which the chart is possible, with which r overtakes e
+-- k is the least number of slots with which r overtakes e, among the numbers from `first` on over which the chart is
+-- possible
 pub record IsLeastTurn (n first k : ℕ) (c : Chart) (e r : Place) : Type 0 where
   pub begun : first ≤ k
   pub least : (l : ℕ) → first ≤ l → l < k → IsPossibleWithin n l c → CanBeOvertakenWithin n l c e r → ⊥
@@ -32,8 +33,8 @@ abbrev pub IsReordered : ℕ → ℕ → Chart → Place → Place → Reordered
 IsReordered n first c e r (Run slots steps) = TurnsRound n slots c e r steps.items × IsLeastTurn n first slots c e r
 IsReordered n first c e r Enforced = CanBeOvertaken n c e r → ⊥
 
--- of these steps the run that is found has those first that have to come with r, and then the others, each in the order
--- that they had
+-- the run that is found begins with those of these steps that have to come with r; then it has the others, each in
+-- their earlier order
 abbrev pub IsKept : List Step → Place → Reordered → Type 0
 IsKept steps r (Run slots run) = IsInOrder slots steps r run.items
 IsKept steps r Enforced = Unit {0}

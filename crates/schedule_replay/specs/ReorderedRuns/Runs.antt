@@ -10,17 +10,17 @@ use Rattle.reordering.specs.OtherRuns.OtherRuns.{IsPossibleWithin}
 use Rattle.chart.specs.declared.run_steps.step.Step.{Step}
 use Rattle.chart.specs.RunSteps.Steps.{history_of, occurrence_of, step_made}
 
--- after h the lane lets p make the event: it has a free slot, or a message that waits
+-- after h the lane lets p make the event: it has a free slot, or a message waits
 abbrev pub MayCome : ℕ → List Occurrence → ℕ → Event → Type 0
 MayCome k h p (events.Send q name) = length (waiting h p q) < k
 MayCome k h p (events.Receive q name region) = 0 < length (waiting h q p)
 
--- it doesn't
+-- after h the lane doesn't let p make the event
 abbrev pub IsHeld : ℕ → List Occurrence → ℕ → Event → Type 0
 IsHeld k h p (events.Send q name) = k ≤ length (waiting h p q)
 IsHeld k h p (events.Receive q name region) = length (waiting h q p) ≡ 0
 
--- after h this makes the next event of the line at p, and may
+-- after h the occurrence x is the next event of the line at p, and may come
 abbrev pub ComesNext : Chart → ℕ → List Occurrence → ℕ → Occurrence → Type 0
 ComesNext c k h p x = (m : Event) × (slice_get (c (suc p)) (length (chart_of h (suc p))) ≡ Some m)
     × (x ≡ occurrence_of (step_made (suc p) m)) × MayCome k h (suc p) m
@@ -29,24 +29,24 @@ ComesNext c k h p x = (m : Event) × (slice_get (c (suc p)) (length (chart_of h 
 abbrev pub CannotGoOn : Chart → ℕ → List Occurrence → ℕ → Type 0
 CannotGoOn c k h p = (m : Event) → slice_get (c (suc p)) (length (chart_of h (suc p))) ≡ Some m → IsHeld k h (suc p) m
 
--- the line, from 0, of which the last event is, and at first that of instance 1
+-- the line of the last event, from 0; at first that of instance 1
 abbrev pub last_line : List Occurrence → ℕ
 last_line [] = 0
 last_line (x ∷ h) = by x - 1
 
--- after h this line goes on where it can, and else the first that can
+-- after h the line of the last event goes on if it can, and otherwise the first line that can
 abbrev pub GoesOn : Chart → ℕ → ℕ → List Occurrence → Occurrence → Type 0
 GoesOn c n k h x = ComesNext c k h (last_line h) x
     ⊎ (CannotGoOn c k h (last_line h)
     × ((p : ℕ) × (p < n) × ((l : ℕ) → l < p → CannotGoOn c k h l) × ComesNext c k h p x))
 
--- so it was from the first event to the last
+-- each event from the first to the last came in this way
 abbrev pub IsInTurn : Chart → ℕ → ℕ → List Occurrence → Type 0
 IsInTurn c n k [] = Unit {0}
 IsInTurn c n k (x ∷ h) = GoesOn c n k h x × IsInTurn c n k h
 
--- The steps are a run of the chart, each of its lines as drawn, over lanes of k slots: each line goes on as long as it
--- can, and then the first that can.
+-- The steps are a run of the chart, with its lines as drawn, over lanes of k slots: each line goes on as long as it
+-- can, and then the first line that can.
 pub record IsChartRun (n k : ℕ) (c : Chart) (steps : List Step) : Type 0 where
   pub legal : IsLegal n k (history_of steps)
   pub chart : (p : ℕ) → chart_of (history_of steps) p ≡ c p
@@ -64,7 +64,7 @@ pub record IsLeastRun (n k : ℕ) (c : Chart) (steps : List Step) : Type 0 where
   pub chart_run : IsChartRun n k c steps
   pub least : (l : ℕ) → 1 ≤ l → l < k → IsPossibleWithin n l c → ⊥
 
--- so many events of the line at p were made: the step makes the next one, and may
+-- this many events of the line at p were made: the step makes the next one, and may
 abbrev pub IsNext : Chart → ℕ → List Occurrence → List ℕ → ℕ → Step → Type 0
 IsNext c k h made p x = (m : Event) × (slice_get (c (suc p)) (slice_index made p) ≡ Some m) × (x ≡ step_made (suc p) m)
     × MayCome k h (suc p) m

@@ -7,7 +7,7 @@ use chart::{InstanceNo, MAX_INSTANCES};
 use std::alloc::{AllocError, Global};
 use std::marker::Model;
 
-/// How many lanes there may be, with those from an instance to itself, which nothing goes over.
+/// The number of possible lanes, including those from an instance to itself, which are never used.
 const LANES: usize = MAX_INSTANCES * MAX_INSTANCES;
 
 /// For each lane the line of a send, if there is one. A contract sees the list.
@@ -27,7 +27,7 @@ impl Model for LaneTable {
     ghost invariant = { λ c. length c.lines.items ≡ MAX_INSTANCES * MAX_INSTANCES };
 }
 
-/// Where a lane's send stands.
+/// The place of a lane's send in the table.
 fn slot(from: InstanceNo, to: InstanceNo) -> usize
     ensures value { result ≡ slot_of from to }
     ensures lane { IsInstance from × IsInstance to }
@@ -37,7 +37,7 @@ fn slot(from: InstanceNo, to: InstanceNo) -> usize
 }
 
 impl LaneTable {
-    /// None for each lane. It fails only where there is no memory.
+    /// No send for any lane. It fails only if there is no memory.
     pub(crate) fn none(alloc: Global) -> Result<LaneTable, AllocError>
         ensures { IfOk result (λ table. AreLanes table (λ q p. None)) }
     {

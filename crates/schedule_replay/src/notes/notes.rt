@@ -16,7 +16,7 @@ pub struct Noted {
     pub later: Option<u64>,
 }
 
-/// The line of the send that comes too late for a command that left this word: by the next send of each lane.
+/// The line of the send that comes too late for a command that left this word, from the next send of each lane.
 fn later_for(next: &LaneTable, word: Word, command: &Command) -> Option<u64>
     ensures { (commands : List Command) (left : List (Option Word)) → AreNext next.now commands left
         → result ≡ later_for word command.now.actor command.now.action commands left }
@@ -30,7 +30,7 @@ fn later_for(next: &LaneTable, word: Word, command: &Command) -> Option<u64>
     }
 }
 
-/// Puts down the command as the next send of its lane, if it sends.
+/// Enters the command as the next send of its lane, if it sends.
 fn put_send(next: &mut LaneTable, command: &Command)
     ensures { (commands : List Command) (left : List (Option Word)) → AreNext next.old commands left
         → AreNext next.new (command.now ∷ commands) (None ∷ left) }
@@ -48,7 +48,7 @@ fn word_at(words: &[Option<Word>], place: usize) -> Option<Word>
     words[place]
 }
 
-/// Goes on to the command above: adds its note, if it leaves one, or puts down its send.
+/// Goes on to the command above: adds its note, if it leaves one, or enters its send.
 fn pass(
     notes: &mut Vec<Noted>,
     next: &mut LaneTable,
@@ -74,7 +74,8 @@ fn pass(
     Ok(())
 }
 
-/// The notes of these commands, each of which left this: from the last command on, which knows all sends behind it.
+/// The notes of these commands, each of which left this word. It begins with the last command, so all later sends are
+/// known.
 fn noted_all(
     alloc: Global,
     commands: &[Command],
@@ -95,7 +96,7 @@ fn noted_all(
     Ok(notes)
 }
 
-/// The notes that the schedule's commands leave, in their order. F6: it fails only where there is no memory.
+/// The notes that the schedule's commands leave, in order. F6: it fails only if there is no memory.
 pub fn notes_of(alloc: Global, schedule: &Schedule) -> Result<Vec<Noted>, AllocError>
     ensures { IfOk result (λ v. AreNotesOf schedule.now v.items) }
 {

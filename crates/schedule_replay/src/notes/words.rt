@@ -1,4 +1,4 @@
-//! What each command of a schedule leaves: the word of its note, or nothing, where it is done.
+//! What each command of a schedule leaves: the word of its note, or nothing if it is done.
 ghost use Rattle.std.specs.Prelude.{◌≡◌, length, All, IfOk};
 ghost use Rattle.board.specs.Views.{BoardView};
 ghost use Rattle.schedule.specs.Meaning.{start};
@@ -14,7 +14,8 @@ use schedule::outcomes::ReplayError;
 use schedule::{Command, Schedule, Word};
 use std::alloc::Global;
 
-/// Makes the commands one after the other, by posts that have met, which meet again after each: what each leaves.
+/// Makes the commands one after another, by posts that have met and that meet again after each command. It returns what
+/// each command leaves.
 fn perform(
     alloc: Global,
     posts: &mut [Post<'_>],
@@ -33,7 +34,7 @@ fn perform(
     Ok(words)
 }
 
-/// The same by new posts of a board, which meet first.
+/// The same, by new posts of a board, which meet first.
 fn perform_all(
     alloc: Global,
     posts: &mut [Post<'_>],
@@ -48,7 +49,7 @@ fn perform_all(
     perform(alloc, posts, &mut last, commands)
 }
 
-/// What each command of the schedule leaves. F6: it fails only where there is no memory.
+/// What each command of the schedule leaves. F6: it fails only if there is no memory.
 pub(crate) fn words_of(alloc: Global, schedule: &Schedule) -> Result<Vec<Option<Word>>, ReplayError>
     ensures { IfOk result (λ words. words.items ≡ words_of schedule.now) }
 {

@@ -14,7 +14,7 @@ use chart::{Event, InstanceNo, Line, MAX_INSTANCES};
 use reordering::witness::Passed;
 use std::alloc::{AllocError, Global};
 
-/// The event of a line that comes after so many.
+/// The event of a line after the first `made` ones.
 fn next_event(lines: &[Line], line: usize, made: usize) -> Option<Event>
     requires { line < length lines.now }
     ensures { result ≡ slice_get (chart_lines lines.now (suc line)) made }
@@ -22,7 +22,7 @@ fn next_event(lines: &[Line], line: usize, made: usize) -> Option<Event>
     lines[line].events().get(made).copied()
 }
 
-/// The step that makes an instance's event, where its lane lets it come.
+/// The step that makes an instance's event, if its lane lets the event come.
 fn step_for(passed: &Passed, slots: usize, actor: InstanceNo, event: &Event) -> Option<Step>
     ensures { (h : List Occurrence) → HavePassed passed.now.sends passed.now.receives h
         → MatchOption result (IsHeld slots h actor event.now)
@@ -42,14 +42,14 @@ fn step_for(passed: &Passed, slots: usize, actor: InstanceNo, event: &Event) -> 
 #[derive(Drop)]
 pub struct Going {
     pub passed: Passed,
-    /// How many events of each line were made.
+    /// The number of events of each line that were made.
     pub made: [usize; MAX_INSTANCES],
 }
 
 impl Going {
     /// Nothing was made.
     ///
-    /// F6: it fails only where there is no memory.
+    /// F6: it fails only if there is no memory.
     pub fn start(alloc: Global) -> Result<Going, AllocError>
         ensures { IfOk result (λ going. HavePassed going.passed.sends going.passed.receives []
             × (going.made ≡ replicate MAX_INSTANCES 0)) }
@@ -60,7 +60,7 @@ impl Going {
         })
     }
 
-    /// The next step of a line, where its lane lets it come.
+    /// The next step of a line, if its lane lets the step come.
     fn next_of(&self, lines: &[Line], slots: usize, line: usize) -> Option<Step>
         requires limit { length lines.now ≤ MAX_INSTANCES }
         requires line { line < length lines.now }
@@ -74,7 +74,7 @@ impl Going {
         }
     }
 
-    /// The next step of the line of the hint, or else of the first line that has one.
+    /// The next step of the line that the hint names, or else of the first line that has one.
     pub fn ready(&self, lines: &[Line], slots: usize, hint: usize) -> Option<Step>
         requires limit { length lines.now ≤ MAX_INSTANCES }
         requires hint { hint < length lines.now }

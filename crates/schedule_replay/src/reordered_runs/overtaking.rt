@@ -1,4 +1,4 @@
-//! Runs in which a receive overtakes an event, with as few slots as may be.
+//! Runs in which a receive overtakes an event, with as few slots as possible.
 ghost use Rattle.std.specs.Prelude.{ℕ, ◌≡◌, ◌<◌, ◌≤◌, length, slice_get, Some, IfOk, List};
 ghost use Rattle.chart.specs.declared.line.TheConstants.{MAX_EVENTS};
 ghost use Rattle.chart.specs.Charts.{chart_lines, IsReceiveFrom, IsPossible};
@@ -34,13 +34,13 @@ pub enum Reordered {
     Enforced,
 }
 
-/// Of a run whose lanes have so many slots, a receive in it and another step, both by their numbers from 0: the least
-/// number of slots, from these on, with which some run of the same events and causes has the receive before the event
-/// of the other step, and such a run; or that none has.
+/// For a run over lanes of this number of slots, and a receive and another step in it, both by their numbers from 0: a
+/// run of the same events and causes in which the receive comes before the event of the other step. It has the least
+/// number of slots, from these on, for which there is such a run. Or the answer is that there is none.
 ///
-/// Only what has to come with the receive is moved: it comes first, and then the other steps, each in the order that
-/// they had. It takes two walks over the steps where these slots are enough, and some twenty at most. F6: it fails only
-/// where there is no memory.
+/// Only the steps that have to come with the receive are moved: they come first, and then the other steps, each in
+/// their earlier order. It takes two walks over the steps if these slots suffice, and about twenty at most. F6: it
+/// fails only if there is no memory.
 pub fn overtake_of_run(
     alloc: Global,
     steps: &[Step],
@@ -92,7 +92,7 @@ fn number_of(steps: &[Step], event: EventNo) -> usize
     }
 }
 
-/// The same of a receive and another event of the run by their own numbers.
+/// The same for a receive and another event of the run, by their event numbers.
 fn overtake_in_run(
     alloc: Global,
     steps: &[Step],
@@ -114,12 +114,13 @@ fn overtake_in_run(
     overtake_of_run(alloc, steps, slots, receive, earlier)
 }
 
-/// Of a possible chart, a receive and another event of it: the least number of slots, of those over which the chart's
-/// lines can be run as drawn, with which some run of the same events and causes has the receive before the event, and
-/// such a run; or that none has, whatever the slots. It has first what has to come with the receive, and then the other
-/// steps, each in the order of a run of the lines as drawn.
+/// For a possible chart, and a receive and another event of it: a run of the same events and causes in which the
+/// receive comes before the event. It has the least number of slots for which there is such a run. The search begins
+/// with the fewest slots over which the chart's lines can be run as drawn. Or the answer is that there is none,
+/// whatever the slots. The steps that have to come with the receive come first, and then the others. Both are in the
+/// order of a run of the lines as drawn.
 ///
-/// F6: it fails only where there is no memory.
+/// F6: it fails only if there is no memory.
 pub fn overtake_of_chart(
     alloc: Global,
     chart: &Chart,
@@ -138,12 +139,12 @@ pub fn overtake_of_chart(
     overtake_in_run(alloc, base.steps.as_slice(), base.slots, receive, earlier)
 }
 
-/// Of a schedule, a receive and another event of the chart that it comes to: the least number of slots, from the
-/// schedule's capacity on, with which some run of the same events and causes has the receive before the event, and
-/// such a run; or that none has, whatever the slots. It has first what has to come with the receive, and then the other
-/// accepted sends and receives, each in the recorded order.
+/// For a schedule, and a receive and another event of its chart: a run of the same events and causes in which the
+/// receive comes before the event. It has the least number of slots for which there is such a run, beginning with the
+/// schedule's capacity. Or the answer is that there is none, whatever the slots. The steps that have to come with the
+/// receive come first, and then the other accepted sends and receives, each in the recorded order.
 ///
-/// F6: it fails only where there is no memory.
+/// F6: it fails only if there is no memory.
 pub fn overtake_of_schedule(
     alloc: Global,
     schedule: &Schedule,

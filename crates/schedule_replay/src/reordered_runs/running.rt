@@ -9,11 +9,11 @@ use chart::run_steps::Step;
 use chart::{Chart, MAX_EVENTS};
 use std::alloc::{AllocError, Global};
 
-/// A run of a possible chart, its lines as drawn, over lanes of so many slots. There is none exactly where the answer
-/// is `None`: no history with this chart is legal over such lanes.
+/// A run of a possible chart, with its lines as drawn, over lanes of this number of slots. The answer is `None` exactly
+/// if there is no such run: no history with this chart is legal over such lanes.
 ///
-/// Each line goes on as far as it can, and then the first that can: so it is one run. It makes each step once, and
-/// looks at each line once for each time that one stops. F6: it fails only where there is no memory.
+/// Each line goes on as far as it can, and then the first line that can. So the run is unique. The function makes each
+/// step once, and looks at each line once for each time that a line stops. F6: it fails only if there is no memory.
 pub fn run_within(
     alloc: Global,
     chart: &Chart,
@@ -47,7 +47,7 @@ pub struct LeastRun {
 
 /// The least number of slots, from 1 on, over which a possible chart's lines can be run as drawn, and such a run.
 ///
-/// It makes two runs where one slot is enough, and some twenty at most. F6: it fails only where there is no memory.
+/// It makes two runs if one slot suffices, and about twenty at most. F6: it fails only if there is no memory.
 pub fn least_run(alloc: Global, chart: &Chart) -> Result<LeastRun, AllocError>
     requires { IsPossible (length chart.now) (chart_lines chart.now) }
     ensures { IfOk result (λ run. IsLeastRun (length chart.now) run.slots (chart_lines chart.now) run.steps.items) }

@@ -41,7 +41,7 @@ fn commands_of(alloc: Global, steps: &[Step]) -> Result<Vec<Command>, AllocError
 {
     let mut commands = Vec::with_capacity(alloc, steps.len())?;
     for place in 0..steps.len() {
-        // Field by field: the borrow checker must be shown the types that a type of another crate is made of.
+        // Field by field: the borrow checker has to see the types of which a type of another crate consists.
         let Command {
             line,
             actor,
@@ -56,10 +56,10 @@ fn commands_of(alloc: Global, steps: &[Step]) -> Result<Vec<Command>, AllocError
     Ok(commands)
 }
 
-/// The schedule of a run over lanes of so many slots: a command for each step, in their order and on the lines of its
-/// text. Of steps outside of coregions it means just this run, and refuses no command.
+/// The schedule of a run over lanes of this number of slots: a command for each step, in order and on the lines of its
+/// text. If the steps are outside of coregions, it means exactly this run and refuses no command.
 ///
-/// F6: it fails only where there is no memory.
+/// F6: it fails only if there is no memory.
 pub fn schedule_of(
     alloc: Global,
     names: &Names,

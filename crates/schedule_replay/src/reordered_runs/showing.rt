@@ -1,4 +1,4 @@
-//! What there is to show of a receive and an event that it may overtake.
+//! What can be shown for a receive and an event that it may overtake.
 ghost use Rattle.std.specs.Prelude.{ℕ, ◌≤◌, length, IfOk};
 ghost use Rattle.chart.specs.Charts.{Chart, Place};
 ghost use Rattle.schedule_replay.specs.ReorderedRuns.Reorderings.{IsReordered};
@@ -10,21 +10,21 @@ use chart::Names;
 use schedule::{Capacity, Schedule};
 use std::alloc::{AllocError, Global};
 
-/// What there is to show.
+/// What can be shown.
 #[derive(Debug, Drop)]
 pub enum Shown {
     /// A schedule that means a run in which the receive overtakes the event.
     Replay(Schedule),
     /// No run of the same events and causes has the receive first, whatever the slots.
     Enforced,
-    /// Such a run needs so many slots, and the lanes of a schedule have fewer.
+    /// Such a run needs this number of slots, which is more than the lanes of a schedule have.
     TooManySlots(usize),
 }
 
-/// What there is to show of instances with these names, by what was found: a schedule with the least number of slots,
-/// which has a command for each step of the run, in their order.
+/// What can be shown for instances with these names, given a found run: a schedule with the least number of slots. It
+/// has a command for each step of the run, in order.
 ///
-/// F6: it fails only where there is no memory.
+/// F6: it fails only if there is no memory.
 pub fn show(alloc: Global, names: &Names, reordered: &Reordered) -> Result<Shown, AllocError>
     requires several { 2 ≤ length names.now }
     requires reordered { (first : ℕ) × (c : Chart) × (e : Place) × (r : Place)

@@ -11,7 +11,7 @@ ghost use Rattle.closure.specs.Faults.{place_of};
 use chart::run_steps::Step;
 use chart::{Chart, Event, EventNo};
 
-/// The event of this number, `None` where the chart has none.
+/// The event of this number, or `None` if the chart has none.
 pub fn event_of(chart: &Chart, event: EventNo) -> Option<Event>
     ensures { result ≡ chart_event (chart_lines chart.now) (place_of event) }
 {
@@ -30,7 +30,7 @@ pub fn has_event(chart: &Chart, event: EventNo) -> bool
     event_of(chart, event).is_some()
 }
 
-/// Whether it is a receive.
+/// Whether there is an event, and it is a receive.
 fn receives(event: &Option<Event>) -> bool
     ensures { result ≡ receives event.now }
 {
@@ -47,7 +47,7 @@ pub fn is_receive(chart: &Chart, event: EventNo) -> bool
     receives(&event_of(chart, event))
 }
 
-/// The number of the step, from 0, that makes the event. There is none exactly where the answer is `None`.
+/// The number of the step, from 0, that makes the event. The answer is `None` exactly if there is no such step.
 pub fn step_of(steps: &[Step], event: EventNo) -> Option<usize>
     ensures { (n k : ℕ) → IsLegal n k (history_of steps.now)
         → MatchOption result (IsEvent (chart_of (history_of steps.now)) (place_of event) → ⊥)

@@ -1,9 +1,9 @@
-//! Which numbers of slots are tried.
+//! The numbers of slots that are tried.
 ghost use Rattle.std.specs.Prelude.{◌<◌, ◌≤◌};
 
-/// Of the numbers from `least` on that are less than `most`, which is enough, the one to be tried next, where those
-/// from `first` to `least` are too few. Mostly few more than the first are enough, so the first ones are tried first,
-/// then each time twice as far from them, and at most the one in the middle.
+/// The next number of slots to try, from `least` up to but not including `most`. `most` slots suffice, and the numbers
+/// from `first` up to but not including `least` don't. Mostly a few more than the first number suffice. So the first
+/// numbers are tried first, and then each time a number twice as far from them. No try is beyond the middle.
 pub(crate) fn next_try(first: usize, least: usize, most: usize) -> usize
     requires begun { first ≤ least }
     requires some { least < most }

@@ -18,7 +18,7 @@ act_of (action.Close to) = Close to
 act_of action.Open = Open
 act_of action.Shut = Shut
 
--- the acts of the instance p: those of its commands, in their order
+-- the acts of the instance p: those of its commands, in order
 abbrev pub acts_of : List Command → ℕ → List BareAct
 acts_of commands p = map (λ c. act_of c.action) (filter (λ c. c.actor == p) commands)
 

@@ -1,4 +1,4 @@
-//! Makes scripts of a schedule's commands.
+//! Makes scripts from a schedule's commands.
 ghost use Rattle.std.specs.Prelude.{◌≡◌, IfOk};
 ghost use Rattle.schedule_threads.specs.Scripts.InstanceScripts.{act_of, acts_of, scripts_of};
 
@@ -21,7 +21,7 @@ fn act_of(action: &Action) -> BareAct
     }
 }
 
-/// The acts of an instance's commands, in their order.
+/// The acts of an instance's commands, in order.
 fn acts_of(
     alloc: Global,
     commands: &[Command],
@@ -38,10 +38,10 @@ fn acts_of(
     Ok(acts)
 }
 
-/// A script for each instance, in rising order of their numbers: it does the instance's commands in the order in which
-/// the schedule has them, with messages whose bodies are empty.
+/// A script for each instance, in rising order of their numbers. It does the instance's commands in the order of the
+/// schedule, with messages whose bodies are empty.
 ///
-/// It goes over the commands once for each instance. F6: it fails only where there is no memory.
+/// It passes over the commands once for each instance. F6: it fails only if there is no memory.
 pub fn scripts(alloc: Global, schedule: &Schedule) -> Result<Vec<Script>, AllocError>
     ensures { IfOk result (λ scripts. scripts.items ≡ scripts_of schedule.now) }
 {

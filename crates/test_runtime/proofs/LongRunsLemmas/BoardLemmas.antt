@@ -1,4 +1,4 @@
--- Posts of a board, gathered, and new ones that take over what was left.
+-- Posts of a board, gathered, and new posts that take over what was left.
 use Rattle.std.proofs.Common.{◌≡◌, ℕ, zero, suc, ◌<◌, ◌≤◌, ◌⊎◌, inl, inr, List, [], ◌∷◌, length, ◌++◌, map, take, drop, set, get_or, refl, sym, ap, ◌∙◌, subst, subst₂, arith}
 use Rattle.std.specs.Prelude.{slice_get, None, Some, Result, Ok, IfOk}
 use Rattle.std.proofs.lemmas.Option.{slice_get-get_or}
@@ -39,7 +39,7 @@ carried_at board left closed old new fresh carried i y at_y =
     let at_x : slice_get old i ≡ Some x = slice_get-get_or old i y within in
     (carried.each i x y at_x at_y).same.board ∙ at_new board old fresh i x at_x
 
--- a call of one of them leaves them at their board
+-- after a call of one post all posts are at their board
 pub at_put : (board : BoardView) (posts : List PostView) (i : ℕ) (d y : PostView) → AreAt board posts → i < length posts → y.board ≡ (get_or posts i d).board → AreAt board (set posts i y)
 at_put board posts i d y at within same j z there = go (at_set posts i j y z there)
   where
@@ -47,7 +47,7 @@ at_put board posts i d y at within same j z there = go (at_set posts i j y z the
     go (inl (here, new)) = ap (λ (x : PostView). x.board) (sym new) ∙ same ∙ at i (get_or posts i d) (slice_get-get_or posts i d within)
     go (inr (ne, old)) = at j z old
 
--- the first of them are some of them
+-- each of the first posts is one of the posts
 pub among_first : (posts : List PostView) (many i : ℕ) (x : PostView) → slice_get (take many posts) i ≡ Some x → slice_get posts i ≡ Some x
 among_first posts zero i x at = absurd (none_there x at)
 among_first [] (suc many) i x at = absurd (none_there x at)
@@ -60,7 +60,7 @@ first_one posts many one i j x y at_x at_y = one i j x y (among_first posts many
 pub first_may : (posts : List PostView) (many : ℕ) (left : List LeftView) (closed : List LaneEnds) → MayAllCarry left closed posts → MayAllCarry left closed (take many posts)
 first_may posts many left closed may i x at = may i x (among_first posts many i x at)
 
--- what a call answered, where it wasn't refused
+-- a property of the answer, if the call wasn't refused
 pub ok_is : {A E : Type 0} (P : A → Type 0) (r : Result A E) (a : A) → IfOk r P → r ≡ Ok a → P a
 ok_is P r a its same = subst (λ x. IfOk x P) same its
 
@@ -79,7 +79,7 @@ may_carry n k b posts slice left closed shut new fresh same same_closed were = (
 pub sized : (n k : ℕ) (b : BoardState) (left : List LeftView) (closed : List LaneEnds) → IsNewBoard n k b → WereLeft b.board.size b.board.capacity left closed → WereLeft n k left closed
 sized n k b left closed new were = subst₂ (λ x y. WereLeft x y left closed) new.size new.capacity were
 
--- posts of one board, some of which were written over by others of it
+-- posts of one board, some of which were overwritten by other posts of this board
 append_at : (board : BoardView) (xs ys : List PostView) → AreAt board xs → AreAt board ys → AreAt board (xs ++ ys)
 append_at board [] ys at_xs at_ys i post there = at_ys i post there
 append_at board (x ∷ xs) ys at_xs at_ys zero post there = at_xs 0 post there

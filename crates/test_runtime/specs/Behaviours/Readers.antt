@@ -1,4 +1,4 @@
--- What a behaviour does that receives from one instance until the lane ends, and keeps how long the last body was.
+-- A behaviour that receives from one instance until the lane ends, and keeps the length of the last body.
 use Rattle.std.specs.Prelude.{ℕ, length}
 use Rattle.behaviour.specs.declared.act.Act.{Act}
 use Rattle.behaviour.specs.declared.act.Act.TheVariants.{Receive, Stop}
@@ -13,7 +13,7 @@ abbrev pub bytes_after : ℕ → Answer → ℕ
 bytes_after bytes (Got arrival) = length arrival.message.body
 bytes_after bytes _ = bytes
 
--- what a behaviour does that receives from one instance until something came
+-- the act of a behaviour that receives from one instance until a message comes
 abbrev pub waiter_act : ℕ → Answer → Act
 waiter_act from (Got arrival) = Stop
 waiter_act from _ = Receive from

@@ -1,4 +1,4 @@
--- Posts of a board, whatever they did.
+-- Posts of one board, whatever calls they made.
 use Rattle.std.specs.Prelude.{◌≡◌, ℕ, List, slice_get, Some}
 use Rattle.board.specs.Views.{BoardView, PostView}
 

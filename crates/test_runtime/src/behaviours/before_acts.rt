@@ -1,4 +1,4 @@
-//! Gates come before the acts: while a gate is open for a send, the message can't be there yet.
+//! Tests that gates come before the acts: while a gate is open for a send, its message can't have come yet.
 use crate::behaviours::calls::{Does, instance, run_board, script};
 use behaviour::{Act, Answer, Behaviour};
 use chart::InstanceNo;
@@ -7,7 +7,7 @@ use std::sync::Arc;
 use std::sync::atomic::{AtomicU64, Ordering};
 use std::thread;
 
-/// Receives from one instance until something came, and counts it for whoever else has its counter.
+/// Receives from one instance until a message comes, and counts it for others that share its counter.
 #[derive(Drop)]
 struct Waiter {
     from: InstanceNo,
@@ -32,7 +32,7 @@ impl Behaviour for Waiter {
     }
 }
 
-/// Keeps the sender's first act back for a while, and looks whether what it sends has come all the same.
+/// Holds back the sender's first act for a while, and checks whether its message has come nevertheless.
 #[derive(Drop)]
 struct Watch {
     sender: InstanceNo,

@@ -1,4 +1,4 @@
-//! Scripts that drive mailboxes, and boards that are run, as tests make them.
+//! Scripts that drive mailboxes, and runs of boards, as the tests need them.
 use behaviour::{BareAct, BareAnswer, Behaviour, Script};
 use board::{Board, RegionError, SendError};
 use chart::{EventNo, InstanceNo, Name};
@@ -23,7 +23,7 @@ fn event(rt: &impl Abort, number: usize, index: u32) -> EventNo {
     }
 }
 
-/// What an instance does, by the number of its partner and the letter of its message's name.
+/// An act of an instance, with the number of its partner and the letter of its message's name.
 #[derive(Clone, Copy)]
 pub enum Does {
     Send(usize, u8),
@@ -47,7 +47,7 @@ pub fn act(rt: &impl Abort, does: Does) -> BareAct {
     }
 }
 
-/// What it is answered: an event by its instance and its number.
+/// The answer to an act. An event has its instance and its number.
 #[derive(Clone, Copy)]
 pub enum Says {
     Sent(usize, u32),
@@ -79,7 +79,7 @@ fn answer(rt: &impl Abort, says: Says) -> Option<BareAnswer> {
     }
 }
 
-/// The script that does this.
+/// The script with these acts.
 pub fn script(rt: &impl Abort, alloc: Global, acts: &[Does]) -> Script {
     let mut list = Vec::new(alloc);
     for does in acts {
@@ -88,7 +88,7 @@ pub fn script(rt: &impl Abort, alloc: Global, acts: &[Does]) -> Script {
     Script::new(list)
 }
 
-/// A script's acts, for so many turns at most; the stretches of its trace, each with its count; and how it ends.
+/// The acts of a script and the most turns that it gets; the stretches of its trace, each with its count; and its end.
 #[derive(Clone, Copy)]
 pub struct Driven {
     pub acts: &'static [Does],
@@ -97,7 +97,7 @@ pub struct Driven {
     pub end: End,
 }
 
-/// The trace has these stretches.
+/// Asserts that the trace has these stretches.
 fn has(rt: &impl Abort, trace: &Trace, expected: &[(u32, Does, Says)]) {
     let kept = trace.stretches();
     assert_eq!(rt; kept.len(), expected.len());
@@ -108,7 +108,7 @@ fn has(rt: &impl Abort, trace: &Trace, expected: &[(u32, Does, Says)]) {
     }
 }
 
-/// A script drives the mailbox so.
+/// A script drives the mailbox, with this trace and this end.
 pub fn drives<'a>(
     rt: &impl Abort,
     alloc: Global,
@@ -122,7 +122,7 @@ pub fn drives<'a>(
     mailbox
 }
 
-/// What a board of so many instances, over lanes of so many slots, comes to on threads.
+/// The result of running a board on threads, with this number of instances, and of slots on each lane.
 pub fn run_board<R: Threads + Abort + Sync, G: Gate + Sync>(
     rt: &R,
     alloc: Global,

@@ -1,4 +1,4 @@
-//! Runs of scripts, each with its end.
+//! Tests of scripts, each with its end.
 use crate::behaviours::calls::{Does, Driven, Says, drives};
 use board::{Board, RegionError, SendError};
 use instances::End;
@@ -80,7 +80,7 @@ static SPENT: [Driven; 4] = [
     },
 ];
 
-/// One mailbox, driven by one script after the other.
+/// One mailbox, driven by several scripts one after the other.
 #[test]
 fn scripts_spend_their_turns(rt: HostRuntime) {
     let alloc = rt.alloc();

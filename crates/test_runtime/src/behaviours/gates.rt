@@ -1,4 +1,4 @@
-//! Gates, which see each turn.
+//! Tests of gates, which see each turn.
 use crate::behaviours::calls::{Does, instance, script};
 use board::Board;
 use chart::InstanceNo;
@@ -6,7 +6,7 @@ use instances::{End, Gate, drive};
 use mailbox::Mailbox;
 use std::cell::Cell;
 
-/// Counts the turns of an instance as long as they come in their order.
+/// Counts the turns of an instance, as long as they come in their order.
 #[derive(Drop)]
 struct Counter {
     of: InstanceNo,

@@ -1,6 +1,6 @@
-//! Runs whose growth is refused: the trace is then a beginning of the whole one, and the line has as many events as
-//! it says. A test ends with a growth of its own, whose refusal tells that each one before it was refused in an
-//! earlier run of the test.
+//! Tests of runs whose growth is refused. The trace is then a beginning of the whole one, and the line has as many
+//! events as the trace. A test ends with a growth of its own. The refusal of this growth shows that each one before it
+//! was refused in an earlier run of the test.
 use crate::behaviours::calls::{instance, name};
 use behaviour::{BareAct, BareAnswer, Behaviour, Script};
 use board::{Board, SendError};
@@ -12,10 +12,10 @@ use std::process::Abort;
 use std::test::Fail;
 use std::thread::Threads;
 
-/// How many messages each script sends.
+/// The number of messages that each script sends.
 const MESSAGES: usize = 12;
 
-/// How many sends a trace says were made, up to a refusal for want of memory, after which the script stops.
+/// The number of sends in a trace. A send may also be refused for lack of memory, and then the script stops.
 fn sent(rt: &impl Abort, trace: &Trace) -> usize {
     let mut many: usize = 0;
     for stretch in trace.stretches() {
@@ -28,7 +28,7 @@ fn sent(rt: &impl Abort, trace: &Trace) -> usize {
     many
 }
 
-/// A script of sends to the instance of this number.
+/// A script of sends to the instance with this number.
 fn script(rt: &impl Abort, alloc: Global, to: usize) -> Option<Script> {
     let send = BareAct::Send(instance(rt, to), name(rt, b'x'));
     let acts = [send; MESSAGES].to_vec(alloc);
@@ -49,7 +49,7 @@ fn is_driven(rt: &impl Abort, alloc: Global, mailbox: Mailbox, mut script: Scrip
     assert_eq!(rt; mailbox.line().len(), sent(rt, &trace));
 }
 
-/// Whether the last turn is a single one of stopping.
+/// Whether the last turn is a single stop.
 fn stops_last(trace: &Trace) -> bool {
     match trace.stretches().last() {
         Some(last) => {
@@ -72,7 +72,7 @@ fn refused_growths_of_a_run(rt: HostRuntime) -> Result<(), Fail> {
     Ok(())
 }
 
-/// A board of two that these behaviours ran on threads; none where a growth was refused.
+/// A board of two that these behaviours ran on threads, or none if a growth was refused.
 fn run_two<R: Threads + Abort + Sync>(
     rt: &R,
     alloc: Global,
@@ -91,7 +91,7 @@ fn run_two<R: Threads + Abort + Sync>(
     }
 }
 
-/// A board of two that was run by scripts which send to each other; none where a growth was refused.
+/// A board of two that was run by scripts which send to each other, or none if a growth was refused.
 fn run_scripts<R: Threads + Abort + Sync>(rt: &R, alloc: Global) -> Option<Run> {
     let mut behaviours: Vec<Box<dyn Behaviour + Send>> = Vec::new(alloc);
     for to in [2, 1] {
@@ -108,8 +108,8 @@ fn run_scripts<R: Threads + Abort + Sync>(rt: &R, alloc: Global) -> Option<Run> 
     run_two(rt, alloc, behaviours)
 }
 
-/// Whether an instance did all its acts. Else it tells that a growth was refused, and its line has just what its
-/// trace says.
+/// Whether an instance did all its acts. If it didn't, its end or its trace shows that a growth was refused. Its line
+/// has exactly the sends of its trace.
 fn is_whole(rt: &impl Abort, line: &Line, trace: &Trace, end: End) -> bool {
     let sends = sent(rt, trace);
     assert_eq!(rt; line.len(), sends);
@@ -123,7 +123,7 @@ fn is_whole(rt: &impl Abort, line: &Line, trace: &Trace, end: End) -> bool {
     is_whole
 }
 
-/// So many instances of a run did all their acts.
+/// The number of instances of a run that did all their acts.
 fn whole(rt: &impl Abort, ran: &Run) -> usize {
     let mut whole: usize = 0;
     for (place, line) in ran.gathered.chart.lines().iter().enumerate() {
@@ -134,8 +134,8 @@ fn whole(rt: &impl Abort, ran: &Run) -> usize {
     whole
 }
 
-/// At most one growth is refused in each run of the test: so F6 refuses it, or one instance tells of F6 while the
-/// other one did all its acts, or both did.
+/// At most one growth is refused in each run of the test. So there is no run because of F6, or one instance reports F6
+/// and the other one did all its acts, or both did.
 #[test]
 fn refused_growths_on_threads(rt: HostRuntime) -> Result<(), Fail> {
     if let Some(ran) = run_scripts(&rt, rt.alloc()) {

@@ -1,4 +1,4 @@
-//! A behaviour that is no script, and is told the bodies of the messages that come.
+//! Tests of a behaviour that is no script, and gets the bodies of the messages that come.
 use crate::behaviours::calls::{instance, name};
 use behaviour::{Act, Answer, Behaviour};
 use board::{Board, Post};

@@ -1,4 +1,5 @@
-//! Behaviours on threads: held back until each of them has begun; and runs whose reports are audited.
+//! Tests of behaviours on threads: threads that are held back until each of them has begun, and runs whose reports are
+//! audited.
 use crate::behaviours::calls::{Does, run_board, script};
 use behaviour::Behaviour;
 use board::Gathered;
@@ -11,7 +12,7 @@ use std::alloc::Global;
 use std::sync::atomic::{AtomicU64, Ordering};
 use std::thread;
 
-/// Holds back each instance's first act until three have come to it.
+/// Holds back the first act of each instance until three instances have come to theirs.
 #[derive(Drop)]
 struct Meeting {
     here: AtomicU64,
@@ -55,7 +56,7 @@ fn both_threads_move(rt: HostRuntime) {
     assert_eq!(rt; gate.late.load(Ordering::SeqCst), 0);
 }
 
-/// Two instances whose messages a third gets in either order.
+/// A schedule of two instances whose messages a third one gets in either order.
 const RACE: &[u8] = b"instances a b c
 capacity 1
 a send c x
@@ -64,12 +65,12 @@ c any
 c any
 ";
 
-/// Whether an audit accepts what was gathered.
+/// Whether an audit accepts the chart and the reports of the gathered board.
 fn is_accepted(alloc: Global, gathered: &Gathered) -> bool {
     audit(alloc, &gathered.chart, gathered.reports.as_slice()).is_ok()
 }
 
-/// Whether an audit finds it wrong where the last report, which has the race, is left out.
+/// Whether an audit finds a wrong report if the last one, which has the race, is missing.
 fn misses_the_last_report(alloc: Global, gathered: &Gathered) -> bool {
     match gathered.reports.as_slice().split_last() {
         Some((_, front)) => matches!(

@@ -1,4 +1,4 @@
-//! Calls on handles, as tests make them, and what is asserted of what they answer.
+//! The calls on handles that tests make, and the assertions about their answers.
 
 use board::Peek;
 use c_board::{Arrived, Handle, Refusal, Which, open};
@@ -6,12 +6,12 @@ use chart::EventNo;
 use std::alloc::Global;
 use std::process::Abort;
 
-/// What has to be so, is so.
+/// Asserts that something holds.
 pub fn holds(rt: &impl Abort, what: &str, fact: bool) {
     assert!(rt; fact, "not so: {what}");
 }
 
-/// Handles with the two posts of a board whose lanes have so many slots.
+/// Handles with the two posts of a board with this number of slots on each lane.
 pub fn pair(rt: &impl Abort, alloc: Global, capacity: u32) -> [Handle; 2] {
     let mut handles = [Handle::empty(), Handle::empty()];
     holds(
@@ -22,7 +22,7 @@ pub fn pair(rt: &impl Abort, alloc: Global, capacity: u32) -> [Handle; 2] {
     handles
 }
 
-/// The post sends a message, as its event of this number.
+/// The post sends a message, and asserts that this is its event with this number.
 pub fn sends(
     rt: &impl Abort,
     alloc: Global,
@@ -40,7 +40,7 @@ pub fn sends(
     );
 }
 
-/// A send is refused by the refusal of this number.
+/// Asserts that a send is refused by the refusal with this number.
 pub fn is_refused(rt: &impl Abort, sent: Result<EventNo, Refusal>, number: u32) {
     holds(
         rt,
@@ -49,7 +49,7 @@ pub fn is_refused(rt: &impl Abort, sent: Result<EventNo, Refusal>, number: u32) 
     );
 }
 
-/// What is told before any message came.
+/// The output of a receive before any message has come.
 pub fn no_arrival() -> Arrived {
     Arrived {
         from: 0,
@@ -60,7 +60,7 @@ pub fn no_arrival() -> Arrived {
     }
 }
 
-/// The message that came last has this body and these races.
+/// Asserts that the last message that came has this body and these races.
 fn has_come(rt: &impl Abort, alloc: Global, post: &mut Handle, body: &[u8], races: &[u32]) {
     let mut bytes = [0; 8];
     let copied = post.copy_body(alloc, Which::Last, &mut bytes);
@@ -80,7 +80,7 @@ fn has_come(rt: &impl Abort, alloc: Global, post: &mut Handle, body: &[u8], race
     holds(rt, "the races", events.starts_with(races));
 }
 
-/// A receive from this instance gets a message with this body and these races.
+/// Asserts that a receive from this instance gets a message with this body and these races.
 pub fn gets(
     rt: &impl Abort,
     alloc: Global,

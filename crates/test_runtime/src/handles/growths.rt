@@ -1,4 +1,4 @@
-//! Calls on handles where a growth is refused.
+//! Tests of calls on handles whose growth is refused.
 
 use crate::handles::calls::{gets, holds, pair};
 use c_board::{Handle, Refusal, open};
@@ -11,7 +11,7 @@ fn is_memory<T>(answer: &Result<T, Refusal>) -> bool {
     matches!(answer, Err(refusal) if refusal.number() == 6)
 }
 
-/// A board is opened, at the second try where memory was refused.
+/// Opens a board, at the second attempt if memory was refused.
 fn opens(rt: &impl Abort, alloc: Global, handles: &mut [Handle]) {
     let opened = open(alloc, handles, 2);
     if opened.is_err() {
@@ -20,7 +20,7 @@ fn opens(rt: &impl Abort, alloc: Global, handles: &mut [Handle]) {
     }
 }
 
-/// A message is sent, at the second try where memory was refused.
+/// Sends a message, at the second attempt if memory was refused.
 fn sends_again(rt: &impl Abort, alloc: Global, post: &mut Handle, body: &[u8]) {
     let sent = post.send(alloc, 2, b"m", body);
     if sent.is_err() {
@@ -29,7 +29,7 @@ fn sends_again(rt: &impl Abort, alloc: Global, post: &mut Handle, body: &[u8]) {
     }
 }
 
-/// Room is made, at the second try where memory was refused.
+/// Makes room, at the second attempt if memory was refused.
 fn reserves(rt: &impl Abort, alloc: Global, post: &mut Handle) {
     let reserved = post.reserve(alloc, 4);
     if reserved.is_err() {
@@ -38,7 +38,7 @@ fn reserves(rt: &impl Abort, alloc: Global, post: &mut Handle) {
     }
 }
 
-/// A last growth, whose refusal tells that each one before it was refused in an earlier run of the test.
+/// The last growth of a test. Its refusal shows that each growth before it was refused in an earlier run of the test.
 fn every_growth_was_refused(alloc: Global) -> Result<(), Fail> {
     Vec::<u8>::with_capacity(alloc, 1)
         .ok()
@@ -46,7 +46,7 @@ fn every_growth_was_refused(alloc: Global) -> Result<(), Fail> {
     Ok(())
 }
 
-/// Whatever growth is refused, a second call does what the first one would have, and nothing is lost.
+/// If any growth is refused, a second call does what the first one was to do, and nothing is lost.
 #[test]
 fn refused_growths_over_handles(rt: HostRuntime) -> Result<(), Fail> {
     let alloc = rt.alloc();

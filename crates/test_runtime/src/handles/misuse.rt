@@ -1,11 +1,11 @@
-//! Calls on handles that keep no post.
+//! Tests of calls on handles that have no post.
 
 use crate::handles::calls::{holds, no_arrival, pair};
 use c_board::{Handle, Refusal, Which, open};
 use std::alloc::Global;
 use std::process::Abort;
 
-/// Each call is a misuse, and the handle keeps nothing after it.
+/// Asserts that each call is a misuse, and that the handle has no post afterwards.
 fn misuses(rt: &impl Abort, alloc: Global, handle: &mut Handle) {
     let mut output = no_arrival();
     let mut bytes = [0; 8];
@@ -46,7 +46,7 @@ fn misuses(rt: &impl Abort, alloc: Global, handle: &mut Handle) {
     );
 }
 
-/// A handle that keeps nothing yet, and one whose post was let go of.
+/// A handle that has no post yet, and a handle whose post was freed.
 #[test]
 fn handles_without_posts(rt: HostRuntime) {
     let alloc = rt.alloc();
@@ -60,7 +60,7 @@ fn handles_without_posts(rt: HostRuntime) {
     second.end(alloc);
 }
 
-/// A board isn't opened over handles that keep posts, and these stay.
+/// No board is opened with handles that have posts, and the posts stay.
 #[test]
 fn handles_with_posts_are_not_opened(rt: HostRuntime) {
     let alloc = rt.alloc();

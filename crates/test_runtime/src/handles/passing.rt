@@ -1,11 +1,11 @@
-//! Messages over handles.
+//! Tests of messages between handles.
 
 use crate::handles::calls::{gets, holds, is_refused, no_arrival, pair, sends};
 use board::Peek;
 use c_board::Found;
 
-/// Messages that cross: each receive has races with what its instance did before, which the message's sender doesn't
-/// know of. The lane is full by its second message, and it ends.
+/// Messages that cross. Each receive has races with the earlier events of its instance that the message's sender
+/// doesn't know of. The lane is full after two messages, and is closed at the end.
 #[test]
 fn messages_both_ways(rt: HostRuntime) {
     let alloc = rt.alloc();

@@ -1,4 +1,5 @@
-//! Both forms' ends over plain words and slots, driven step by step against a plain closable queue.
+//! Tests of the ends of both forms of a lane, over plain words and slots, compared step by step with a plain closable
+//! queue.
 mod machines;
 
 use lane_core::answers::{Found, ReceiverStep, Room, SenderStep};
@@ -7,7 +8,7 @@ use std::alloc::{AllocError, Global};
 use std::process::Abort;
 use std::test::Fail;
 
-/// A lane and a queue after the same steps, of which so many were steps on words.
+/// A lane and a queue after the same steps, and the number of these steps that were on words.
 #[derive(Clone, Copy, Debug, PartialEq, Eq)]
 struct Pair<M> {
     lane: M,
@@ -15,12 +16,13 @@ struct Pair<M> {
     words: u32,
 }
 
-/// Whether the step is a touch of a slot, and none on a word.
+/// Whether the step touches a slot and no word.
 fn is_touch(step: Step) -> bool {
     matches!(&step, Step::Fills(_) | Step::Takes | Step::PutsBack(_))
 }
 
-/// Makes a step on both, which show the same. Where the lane's end may not make it, there is nothing after it.
+/// Makes a step on both, and asserts that they show the same. It returns nothing if the lane's end may not make this
+/// step.
 fn after<M: Machine>(rt: &impl Abort, pair: &Pair<M>, step: Step) -> Option<Pair<M>> {
     let mut lane = pair.lane;
     let mut queue = pair.queue;
@@ -37,7 +39,7 @@ fn after<M: Machine>(rt: &impl Abort, pair: &Pair<M>, step: Step) -> Option<Pair
     Some(Pair { lane, queue, words })
 }
 
-/// Every lane and queue that a run of up to this many steps on words reaches, each once.
+/// Each lane and queue that a run of up to this many steps on words reaches, once.
 fn reached<M: Machine>(
     rt: &impl Abort,
     alloc: Global,
@@ -69,8 +71,8 @@ fn reached<M: Machine>(
     Ok(pairs)
 }
 
-/// Every run of up to ten steps on words shows what the queue shows; and in some of them a lane is filled, closed
-/// while it is full, drained, and found ended.
+/// Asserts that every run of up to ten steps on words shows the same as the queue. In some of the runs a lane is
+/// filled, closed while it is full, drained, and found ended.
 fn agrees_with_a_queue<M: Machine>(
     rt: &impl Abort,
     alloc: Global,
@@ -95,7 +97,7 @@ fn every_short_run_is_one_of_a_queue(rt: HostRuntime) -> Result<(), Fail> {
     Ok(())
 }
 
-/// A send by the steps that come next.
+/// A send, by the steps that the end asks for.
 fn send<M: Machine>(rt: &impl Abort, lane: &mut M, message: u32) -> Room {
     let mut room = Room::Vacant;
     if lane.next_of_sender() == SenderStep::Load {
@@ -112,7 +114,7 @@ fn send<M: Machine>(rt: &impl Abort, lane: &mut M, message: u32) -> Room {
     room
 }
 
-/// A receive by the steps that come next: it finds this, and takes this message.
+/// A receive, by the steps that the end asks for: it finds this, and takes this message.
 fn receive<M: Machine>(rt: &impl Abort, lane: &mut M, found: Found, message: Option<u32>) {
     if lane.next_of_receiver() == ReceiverStep::Look {
         assert!(rt; lane.step(Step::ReceiverLoads) == Shown::Found(found));
@@ -129,7 +131,7 @@ fn receive<M: Machine>(rt: &impl Abort, lane: &mut M, found: Found, message: Opt
     }
 }
 
-/// A full lane is closed and drained, and then has ended; before that a send finds it full.
+/// Asserts that a full lane can be closed and drained, and has then ended. Before that a send finds it full.
 fn fills_closes_and_drains<M: Machine>(rt: &impl Abort, capacity: u32) {
     let mut lane: M = M::new(capacity as u64);
     receive(rt, &mut lane, Found::Nothing, None);
@@ -167,14 +169,15 @@ fn full_lanes_close_and_drain(rt: HostRuntime) {
     }
 }
 
-/// Makes the steps in turn, each of which shows this.
+/// Makes the steps in turn, and asserts what each of them shows.
 fn shows(rt: &impl Abort, lane: &mut IndexLane, steps: &[(Step, Shown)]) {
     for (step, shown) in steps {
         assert!(rt; lane.step(*step) == *shown);
     }
 }
 
-/// What is put back is taken again, and a sender that fills two and publishes once is seen whole.
+/// A message that is put back is taken again. If a sender fills two slots and publishes once, the receiver sees both or
+/// none.
 #[test]
 fn several_go_at_once_over_index_words(rt: HostRuntime) {
     let mut lane = IndexLane::new(2);

@@ -1,4 +1,4 @@
-//! Boards that are gathered, and what they left carried over to new ones. Messages have names of one letter.
+//! Boards that are gathered, and new boards that take over what they left. Messages have names of one letter.
 ghost use Rattle.std.specs.Prelude.{◌≡◌, ℕ, map};
 ghost use Rattle.board.specs.Views.{BoardView};
 ghost use Rattle.board.specs.Boards.{AreNewPosts};
@@ -28,15 +28,15 @@ pub fn message(rt: &impl Abort, alloc: Global, letter: u8) -> Message {
     }
 }
 
-/// What is left before the first board.
+/// The messages and closed lanes before the first board: none.
 pub fn nothing_left(alloc: Global) -> (Vec<Left>, Vec<ClosedLane>)
     ensures { (n k : ℕ) → WereLeft n k (map left_view result.0.items) (map closed_view result.1.items) }
 {
     (Vec::new(alloc), Vec::new(alloc))
 }
 
-/// What the board of these posts leaves: the lanes on which messages wait, and those that were closed. Its chart and
-/// its reports are accepted by an audit.
+/// What the board of these posts leaves: the lanes on which messages wait, and the closed lanes. An audit accepts its
+/// chart and its reports.
 pub fn gathered(rt: &impl Abort, alloc: Global, posts: Vec<Post>) -> (Vec<Left>, Vec<ClosedLane>)
     requires { (board : BoardView) × AreAt board posts.items }
     ensures { (board : BoardView) → AreAt board posts.entry.items → WereLeft board.size board.capacity
@@ -58,7 +58,7 @@ pub fn gathered(rt: &impl Abort, alloc: Global, posts: Vec<Post>) -> (Vec<Left>,
     }
 }
 
-/// The new posts carry it over. Answers how many sends each of them carried.
+/// The new posts take over these messages and closed lanes. It returns how many sends each of them carried.
 pub fn carried(
     rt: &impl Abort,
     alloc: Global,

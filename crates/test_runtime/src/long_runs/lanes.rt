@@ -1,4 +1,4 @@
-//! A plain account of lanes over all boards of a run. The messages of each lane have the letters of the alphabet as
+//! A plain account of the lanes over all boards of a run. The messages of each lane have the letters of the alphabet as
 //! names, one after another.
 ghost use Rattle.std.specs.Prelude.{◌≡◌};
 
@@ -8,7 +8,7 @@ use chart::InstanceNo;
 use std::alloc::{AllocError, Global};
 use std::process::Abort;
 
-/// How many instances the boards have, and how many slots their lanes.
+/// The number of instances of each board, and of slots of each lane.
 pub const INSTANCES: usize = 4;
 
 pub const SLOTS: usize = 2;
@@ -27,7 +27,7 @@ impl Account {
     }
 }
 
-/// Lanes on which nothing was done yet.
+/// The accounts of lanes on which nothing was done yet.
 pub fn new_accounts(alloc: Global) -> Result<Vec<Account>, AllocError> {
     let mut accounts = Vec::new(alloc);
     for _ in 0..INSTANCES * INSTANCES {
@@ -40,12 +40,12 @@ pub fn new_accounts(alloc: Global) -> Result<Vec<Account>, AllocError> {
     Ok(accounts)
 }
 
-/// The name of a lane's message, by how many came before it.
+/// The name of a lane's message, for the number of messages before it.
 fn letter(number: usize) -> u8 {
     b'a' + (number % 26) as u8
 }
 
-/// The lane's place among all.
+/// The place of the lane among all lanes.
 fn lane_place(sender: InstanceNo, receiver: InstanceNo) -> usize {
     sender.place() * INSTANCES + receiver.place()
 }
@@ -61,7 +61,7 @@ fn account_of<'l>(
         .expect(rt, "a lane")
 }
 
-/// The post sends a message: it is sent, or the lane is closed or full.
+/// The post sends a message: it is accepted, or the lane is closed or full.
 pub fn sends(rt: &impl Abort, alloc: Global, post: &mut Post, to: InstanceNo, lane: &mut Account)
     ensures { post.new.board ≡ post.old.board }
 {
@@ -76,7 +76,7 @@ pub fn sends(rt: &impl Abort, alloc: Global, post: &mut Post, to: InstanceNo, la
     }
 }
 
-/// The post receives: the message that was sent first comes, or none waits.
+/// The post receives: the first message that was sent comes, or no message waits.
 pub fn receives(rt: &impl Abort, post: &mut Post, from: InstanceNo, lane: &mut Account)
     ensures { post.new.board ≡ post.old.board }
 {
@@ -92,7 +92,7 @@ pub fn receives(rt: &impl Abort, post: &mut Post, from: InstanceNo, lane: &mut A
     }
 }
 
-/// The post closes its lane, once.
+/// The post closes its lane, which succeeds once.
 pub fn closes(rt: &impl Abort, post: &mut Post, to: InstanceNo, lane: &mut Account)
     ensures { post.new.board ≡ post.old.board }
 {
@@ -100,7 +100,7 @@ pub fn closes(rt: &impl Abort, post: &mut Post, to: InstanceNo, lane: &mut Accou
     lane.closed = true;
 }
 
-/// On this lane wait these messages, in order.
+/// Asserts that these messages wait on the lane, in order.
 fn is_left(rt: &impl Abort, account: Account, lane: &Left) {
     assert_eq!(rt; lane.messages.len(), account.waiting());
     let mut number = account.received;
@@ -110,7 +110,7 @@ fn is_left(rt: &impl Abort, account: Account, lane: &Left) {
     }
 }
 
-/// What a board left is what the accounts have.
+/// Asserts that what a board left agrees with the accounts.
 pub fn are_left(rt: &impl Abort, accounts: &mut [Account], left: &[Left], closed: &[ClosedLane]) {
     let mut waiting = 0usize;
     let mut shut = 0usize;
@@ -132,7 +132,7 @@ pub fn are_left(rt: &impl Abort, accounts: &mut [Account], left: &[Left], closed
     }
 }
 
-/// Many messages were passed, and some lanes were closed before the end.
+/// Asserts that many messages were passed, and that some lanes but not all were closed.
 pub fn were_used(rt: &impl Abort, accounts: &[Account]) {
     let mut received = 0usize;
     let mut shut = 0usize;

@@ -1,5 +1,5 @@
-//! A hundred boards one after another, whose posts do what is drawn. Each chart and its reports are audited, and each
-//! lane goes on where it ended on the board before.
+//! Tests of a hundred boards one after another, whose posts make random calls. Each chart and its reports are audited,
+//! and each lane continues where it ended on the board before.
 ghost use Rattle.std.specs.Prelude.{◌≡◌, map};
 ghost use Rattle.board.specs.Views.{BoardView};
 ghost use Rattle.board.specs.Gathering.{left_view, closed_view};
@@ -19,12 +19,12 @@ use std::alloc::Global;
 use std::process::Abort;
 use std::test::Fail;
 
-/// How many boards there are, and how much is done on each.
+/// The number of boards, and of calls on each.
 const BOARDS: usize = 100;
 
 const ACTS: usize = 50;
 
-/// One act of the instance at a place with the one at another: mostly a send or a receive, and seldom a close.
+/// A call of the instance at one place with the instance at another: mostly a send or a receive, and rarely a close.
 fn act(
     rt: &impl Abort,
     alloc: Global,
@@ -78,7 +78,7 @@ fn act_all(
     }
 }
 
-/// A new board takes over what the one before left, and leaves what the accounts have then.
+/// A new board takes over what the one before left. It leaves what the accounts have then.
 fn next_board(
     rt: &impl Abort,
     alloc: Global,

@@ -1,4 +1,5 @@
-//! A worked run of three boards: what waits on each lane, which lanes are closed, and which races are reported.
+//! Tests of a worked run of three boards: which messages wait on each lane, which lanes are closed, and which races are
+//! reported.
 ghost use Rattle.std.specs.Prelude.{◌≡◌, map};
 ghost use Rattle.board.specs.Views.{BoardView};
 ghost use Rattle.board.specs.Gathering.{left_view, closed_view};
@@ -10,18 +11,18 @@ use board::{Board, ClosedLane, Left, Post, SendError, Taken};
 use std::alloc::Global;
 use std::process::Abort;
 
-/// What a post does with a partner, and what comes of it.
+/// A call of a post with a partner, and its result.
 #[derive(Clone, Copy)]
 enum Deed {
-    /// It sends a message of this name.
+    /// It sends a message with this name.
     Sends(u8),
-    /// It is refused a send.
+    /// Its send is refused.
     Fails(SendError),
-    /// It receives a message of this name, with these races on its line.
+    /// It receives a message with this name, with these races on its line.
     Gets(u8, &'static [u32]),
-    /// Nothing waits for it, and the lane is open.
+    /// No message waits for it, and the lane is open.
     FindsNothing,
-    /// Nothing waits for it, and the lane is closed.
+    /// No message waits for it, and the lane is closed.
     FindsEnd,
     /// It closes its lane.
     Closes,
@@ -59,7 +60,7 @@ fn does(rt: &impl Abort, alloc: Global, post: &mut Post, partner: usize, deed: &
     }
 }
 
-/// The posts do this: by which instance, with which other, and what.
+/// The posts make these calls: each has its instance, its partner, and the deed.
 fn do_all(rt: &impl Abort, alloc: Global, posts: &mut [Post], deeds: &[(usize, usize, Deed)])
     ensures { (board : BoardView) → AreAt board posts.old → AreAt board posts.new }
 {
@@ -70,7 +71,8 @@ fn do_all(rt: &impl Abort, alloc: Global, posts: &mut [Post], deeds: &[(usize, u
     }
 }
 
-/// Messages wait on three lanes, of which one is closed; another is closed too, on which nothing waits.
+/// At the end messages wait on three lanes, one of which is closed. A fourth lane is closed too, and no message waits
+/// on it.
 static FIRST: [(usize, usize, Deed); 8] = [
     (1, 2, Deed::Sends(b'x')),
     (1, 2, Deed::Sends(b'y')),
@@ -82,7 +84,8 @@ static FIRST: [(usize, usize, Deed); 8] = [
     (2, 3, Deed::Sends(b'w')),
 ];
 
-/// The lanes are as they were. The receive of `y` has a race with the send of `w`, which the new board has before it.
+/// The lanes are as they were. The receive of `y` has a race with the send of `w`, which comes before it on the new
+/// board.
 static SECOND: [(usize, usize, Deed); 11] = [
     (1, 3, Deed::Fails(SendError::Closed)),
     (3, 1, Deed::Fails(SendError::Closed)),
@@ -97,7 +100,7 @@ static SECOND: [(usize, usize, Deed); 11] = [
     (2, 1, Deed::Gets(b'u', &[1])),
 ];
 
-/// One message is still left, and both lanes are closed for good.
+/// One message is still left, and both closed lanes stay closed.
 static THIRD: [(usize, usize, Deed); 5] = [
     (3, 2, Deed::Gets(b'w', &[])),
     (3, 2, Deed::FindsNothing),
@@ -106,8 +109,8 @@ static THIRD: [(usize, usize, Deed); 5] = [
     (3, 1, Deed::Fails(SendError::Closed)),
 ];
 
-/// The next board of three takes over what the one before left, by so many sends of each instance, does this, and
-/// leaves what waits then.
+/// The next board of three takes over what the one before left, by these numbers of sends for each instance. It makes
+/// these calls, and leaves what waits then.
 fn next_board(
     rt: &impl Abort,
     alloc: Global,

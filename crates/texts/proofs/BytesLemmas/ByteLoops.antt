@@ -1,4 +1,4 @@
--- Loops over bytes: what is left of them, a byte at a time.
+-- Loops over bytes: the remaining bytes, one byte at a time.
 use Rattle.std.proofs.Common.{◌≡◌, ℕ, zero, suc, ◌+◌, ◌<◌, ◌≤◌, arith, List, [], ◌∷◌, length, drop, get_or, refl, ap, add-one}
 use Rattle.std.proofs.Math.Seq.{drop-cons}
 use Rattle.texts.specs.Bytes.Places.{behind, behind_byte}

@@ -1,4 +1,5 @@
--- How a loop that carries a state writes a text, part after part: what has come, and what is left. S is what is written to, sink what is known of it.
+-- A loop that carries a state and writes a text, part after part: the text so far, and the rest. S is the output, and
+-- sink is what is known of it.
 use Rattle.std.proofs.Common.{◌≡◌, ℕ, List, [], ◌++◌, Option, Result, Ok, Err, true, refl, ◌∙◌, subst, append_assoc}
 use Rattle.std.specs.Result.{is_err}
 use Rattle.texts.specs.Outs.{Sink}
@@ -6,7 +7,7 @@ use Rattle.texts.specs.Writing.{Buffers, Stops, Adds}
 use Rattle.texts.specs.declared.text_buffer.TextBuffer.{TextBuffer}
 use Rattle.texts.proofs.Writes.{buffers_nothing, buffers_then, stops_then, stops_early, adds_then}
 
--- some text was added, and with what is left it is all of it
+-- some text was added, and with the rest it is the whole text
 pub record HasCome {S : Type 0} (sink : S → Sink) (old new : TextBuffer S) (rest all : List ℕ) : Type 0 where
   pub front : List ℕ
   pub buffers : Buffers sink old new front
@@ -16,7 +17,7 @@ module _ {S : Type 0} {sink : S → Sink} {all : List ℕ} where
   pub come_none : (a : TextBuffer S) → HasCome sink a a all all
   come_none a = record { front = []; buffers = buffers_nothing a; whole = refl }
 
-  -- what is left, said otherwise
+  -- the same rest, in another form
   pub come_as : {a b : TextBuffer S} {rest other : List ℕ} → rest ≡ other → HasCome sink a b rest all → HasCome sink a b other all
   come_as {a} {b} same come = subst (λ x. HasCome sink a b x all) same come
 

@@ -1,4 +1,4 @@
--- What a search for a byte answers, as the index of the first such byte.
+-- The answer of a search for a byte, as the index of the first such byte.
 use Rattle.std.proofs.Common.{◌≡◌, ℕ, ◌<◌, Bool, cond, eqb, true, false, List, length, Option, Some, None, refl, sym, ap, ◌∙◌, arith}
 use Rattle.std.specs.List.{position, position_or_len}
 use Rattle.std.proofs.lemmas.Bool.{lt-ltb, le-ltb}

@@ -7,7 +7,7 @@ use Rattle.chart.specs.NameSets.{AreNames}
 use Rattle.texts.specs.Instances.{known, known_of}
 use Rattle.texts.proofs.Lookups.{instance_again}
 
--- the instance at a place of the list has the name that stands there
+-- the instance at a place of the list has the name at this place
 pub found_at : (names : List (List ℕ)) (word name : List ℕ) (p k : ℕ) → AreNames names → p ≡ suc k → slice_get names k ≡ Some name → name ≡ word → known_of names word ≡ Ok p
 unfolding known_of
 found_at names word name p k are at is same =

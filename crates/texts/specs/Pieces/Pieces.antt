@@ -1,11 +1,11 @@
--- What a text is put together from (this project's own; entities are those of XML 1.0).
+-- The pieces of which a text is built (this project's own; entities are those of XML 1.0).
 use Rattle.std.specs.Prelude.{ℕ, [], ◌∷◌, ◌&&◌, ◌==◌, nat_le, codes, decimal, if◌then◌else◌}
 use Rattle.std.specs.List.{flat_map}
 use Rattle.chart.specs.Words.{Text}
 use Rattle.texts.specs.declared.pieces.pieces.Piece.{Piece}
 use Rattle.texts.specs.declared.pieces.pieces.Piece.TheVariants.{Bytes, Number, Escaped}
 
--- a byte as it is spelled: what XML keeps for itself as an entity, and what is no printable ASCII character as ?
+-- a byte, escaped: the reserved characters of XML become entities, and a byte that isn't printable ASCII becomes ?
 abbrev pub escaped_byte : ℕ → Text
 escaped_byte b =
     if b == 38 then codes "&amp;" else
@@ -15,7 +15,7 @@ escaped_byte b =
     (if b == 39 then codes "&#39;" else
     (if nat_le 32 b && nat_le b 126 then b ∷ [] else codes "?")))))
 
--- bytes that may be any, as they are spelled
+-- arbitrary bytes, escaped
 abbrev pub escaped : Text → Text
 escaped bytes = flat_map escaped_byte bytes
 

@@ -4,11 +4,11 @@ use Rattle.std.specs.List.{flat_map}
 use Rattle.chart.specs.Words.{Text}
 use Rattle.chart.specs.declared.ranges.EventRange.{EventRange}
 
--- what they are, behind their number
+-- the words after the number of events
 unfoldable pub kind : ℕ → Text
 kind n = if n == 1 then codes " earlier event: " else codes " earlier events: "
 
--- how many earlier events they are
+-- the number of earlier events, in words
 unfoldable pub amount : ℕ → Text
 amount n = decimal n ++ kind n
 
@@ -23,7 +23,7 @@ range_text r = if r.count == 1 then decimal r.first.index else up_to r.first.ind
 unfoldable pub comma : Text
 comma = codes ", "
 
--- the same behind those of another range
+-- the same, after the numbers of another range
 unfoldable pub next_range : EventRange → Text
 next_range r = comma ++ range_text r
 

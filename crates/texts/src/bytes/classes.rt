@@ -26,7 +26,7 @@ pub fn is_word_byte(byte: u8) -> bool
         || byte == b'_'
 }
 
-/// The byte as it is shown: `?` for what doesn't print.
+/// The byte as it is shown: `?` if it isn't a printable ASCII character.
 pub fn printable(byte: u8) -> u8
     ensures { result ≡ printable byte }
 {

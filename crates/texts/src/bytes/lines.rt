@@ -1,4 +1,4 @@
-//! Where the lines of a text end.
+//! The ends of a text's lines.
 ghost use Rattle.std.specs.Prelude.{◌≡◌, ◌≤◌, ◌<◌, ◌==◌, length, position, IfSome};
 ghost use Rattle.texts.specs.Bytes.Lines.{line_length};
 
@@ -10,7 +10,7 @@ fn line_feed(bytes: &[u8]) -> Option<usize>
     bytes.iter().position(|byte| *byte == b'\n')
 }
 
-/// How many bytes stand before the first line feed, or the end.
+/// The number of bytes before the first line feed, or before the end of the text.
 #[tactic(auto, unfolding(crate::specs::Bytes::Lines::line_length))]
 pub fn line_length(bytes: &[u8]) -> usize
     ensures value { result ≡ line_length bytes.now }

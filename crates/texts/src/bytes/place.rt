@@ -1,8 +1,8 @@
-//! Where bytes stand in a text.
+//! The places of bytes in a text.
 ghost use Rattle.std.specs.Prelude.{◌≡◌, ◌≤◌, ◌<◌, ◌+◌, ◌^◌, length};
 ghost use Rattle.texts.specs.Bytes.Places.{behind, behind_byte};
 
-/// Where a byte stands in a text.
+/// The place of a byte in a text.
 #[derive(Clone, Copy, Debug, PartialEq, Eq)]
 pub struct Place {
     /// From 1.
@@ -11,11 +11,11 @@ pub struct Place {
     pub column: u64,
 }
 
-/// Where a text begins.
+/// The place at which a text begins.
 pub const START: Place = Place { line: 1, column: 1 };
 
 impl Place {
-    /// The place behind a byte that stands here.
+    /// The place after a byte that is at this place.
     fn behind_byte(self, byte: u8) -> Place
         requires line { self.line + 1 < 2 ^ 64 }
         requires column { self.column + 1 < 2 ^ 64 }
@@ -34,7 +34,7 @@ impl Place {
         }
     }
 
-    /// The place behind these bytes, the first of which stands here.
+    /// The place after these bytes, the first of which is at this place.
     #[tactic(auto, using(crate::proofs::BytesLemmas::ByteLoops::behind_next, crate::proofs::BytesLemmas::ByteLoops::behind_all))]
     pub fn behind(self, bytes: &[u8]) -> Place
         requires line { self.line + length bytes.now < 2 ^ 64 }

@@ -2,7 +2,7 @@
 ghost use Rattle.std.specs.Prelude.{◌≡◌};
 ghost use Rattle.texts.specs.Digits.Numbers.{with_digit, number_in};
 
-/// A number with one digit more, where it has 32 bits.
+/// A number with one more digit, if it has at most 32 bits.
 #[tactic(auto, unfolding(crate::specs::Digits::Numbers::with_digit))]
 fn with_digit(number: u32, digit: u8) -> Option<u32>
     ensures { result ≡ with_digit number digit }
@@ -18,7 +18,7 @@ fn with_digit(number: u32, digit: u8) -> Option<u32>
     }
 }
 
-/// The number that these decimal digits say, where it has 32 bits.
+/// The number with these decimal digits, if it has at most 32 bits.
 #[tactic(auto, unfolding(crate::specs::Digits::Numbers::number_in))]
 pub fn number_in(digits: &[u8]) -> Option<u32>
     ensures { result ≡ number_in digits.now }

@@ -1,4 +1,4 @@
-//! The pieces that a text is put together from.
+//! The pieces of which a text is built.
 ghost use Rattle.std.specs.Prelude.{◌≡◌};
 ghost use Rattle.std.specs.List.{flat_map};
 ghost use Rattle.texts.specs.Writing.{Adds};
@@ -9,11 +9,11 @@ use crate::{Out, TextBuffer, WriteError};
 /// A piece of a text.
 #[derive(Clone, Copy)]
 pub enum Piece<'a> {
-    /// As they are.
+    /// Bytes, unchanged.
     Bytes(&'a [u8]),
-    /// In decimal.
+    /// A number, in decimal.
     Number(u64),
-    /// Bytes that may be any, as they are spelled in an SVG text.
+    /// Arbitrary bytes, escaped for an SVG text.
     Escaped(&'a [u8]),
 }
 
@@ -27,7 +27,7 @@ fn add_piece<W: Out>(text: &mut TextBuffer<'_, W>, piece: &Piece<'_>) -> Result<
     }
 }
 
-/// Adds the pieces to the text, in their order. F24: a put failed.
+/// Adds the pieces to the text, in order. F24: a put failed.
 pub fn add_pieces<W: Out>(
     text: &mut TextBuffer<'_, W>,
     pieces: &[Piece<'_>],
@@ -40,7 +40,7 @@ pub fn add_pieces<W: Out>(
     Ok(())
 }
 
-/// Adds a byte as it is spelled in an SVG text.
+/// Adds a byte, escaped for an SVG text.
 fn add_escaped_byte<W: Out>(text: &mut TextBuffer<'_, W>, byte: u8) -> Result<(), WriteError>
     ensures { Adds W.sink text.old text.new result (escaped_byte byte) }
 {
@@ -55,7 +55,7 @@ fn add_escaped_byte<W: Out>(text: &mut TextBuffer<'_, W>, byte: u8) -> Result<()
     }
 }
 
-/// Adds bytes that may be any, as they are spelled in an SVG text.
+/// Adds arbitrary bytes, escaped for an SVG text.
 fn add_escaped<W: Out>(text: &mut TextBuffer<'_, W>, bytes: &[u8]) -> Result<(), WriteError>
     ensures { Adds W.sink text.old text.new result (escaped bytes.now) }
 {

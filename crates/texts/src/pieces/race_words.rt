@@ -9,7 +9,7 @@ use crate::pieces::pieces::{Piece, add_pieces};
 use crate::{Out, TextBuffer, WriteError};
 use chart::EventRange;
 
-/// What they are, behind their number.
+/// The words after the number of events.
 #[tactic(auto, unfolding(crate::specs::Pieces::RaceWords::kind))]
 fn kind(events: usize) -> &'static [u8]
     ensures { result.now ≡ kind events }
@@ -21,7 +21,7 @@ fn kind(events: usize) -> &'static [u8]
     }
 }
 
-/// Adds how many earlier events they are. F24: a put failed.
+/// Adds the number of earlier events, in words. F24: a put failed.
 #[tactic(auto, using(crate::proofs::Writes::joining), unfolding(crate::specs::Pieces::RaceWords::amount))]
 pub fn add_amount<W: Out>(text: &mut TextBuffer<'_, W>, events: usize) -> Result<(), WriteError>
     ensures { Adds W.sink text.old text.new result (amount events) }
@@ -30,7 +30,7 @@ pub fn add_amount<W: Out>(text: &mut TextBuffer<'_, W>, events: usize) -> Result
     text.add(kind(events))
 }
 
-/// Adds the number of the last event of a range behind that of its first one.
+/// Adds the numbers of the first and the last event of a range.
 #[tactic(auto, unfolding(crate::specs::Pieces::RaceWords::up_to))]
 fn add_up_to<W: Out>(text: &mut TextBuffer<'_, W>, first: u64, last: u64) -> Result<(), WriteError>
     ensures { Adds W.sink text.old text.new result (up_to first last) }
@@ -66,7 +66,7 @@ fn add_comma<W: Out>(text: &mut TextBuffer<'_, W>) -> Result<(), WriteError>
     text.add(b", ")
 }
 
-/// The same behind those of another range.
+/// The same, after the numbers of another range.
 #[tactic(auto, using(crate::proofs::Writes::joining), unfolding(crate::specs::Pieces::RaceWords::next_range))]
 fn add_next_range<W: Out>(
     text: &mut TextBuffer<'_, W>,

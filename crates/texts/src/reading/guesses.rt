@@ -1,5 +1,5 @@
-//! The names that words are. Most words were read before, and then neither their bytes are looked at one by one nor
-//! a table of names is.
+//! Words as names. Most words were read before. For these, neither a look at each byte nor a look-up in a table of
+//! names is needed.
 ghost use Rattle.std.specs.Prelude.{◌≡◌, ◌<◌, Ok, IfSome, IsTrue};
 ghost use Rattle.chart.specs.Names.{IsName};
 ghost use Rattle.texts.specs.Instances.{known_of};
@@ -10,18 +10,18 @@ ghost use Rattle.texts.specs.declared.reading.guesses.TheConstants.{GUESSES};
 use crate::{Cause, known_in, name_in};
 use chart::{InstanceNo, MAX_INSTANCES, Name, Names};
 
-/// How many guesses there are of each kind.
+/// The number of guesses of each kind.
 const GUESSES: usize = 64;
 
-/// Guesses for words by their last bytes: at which place the instance may be that they name, and which name they may
-/// be. A guess is tried before it is believed, so it may be anything.
+/// Guesses for words, by their last bytes: the place of the instance that a word may name, and the name that it may be.
+/// A guess is checked before it is used, so it may be anything.
 #[derive(Drop)]
 pub struct Guesses {
     places: [u8; GUESSES],
     names: [Option<Name>; GUESSES],
 }
 
-/// The guess that is for a word.
+/// The number of the guess for a word.
 #[inline(always)]
 fn guess_of(word: &[u8]) -> usize
     ensures { result < GUESSES }
@@ -33,7 +33,7 @@ fn guess_of(word: &[u8]) -> usize
     }
 }
 
-/// Whether a name is a word.
+/// Whether the name is this word.
 #[inline(always)]
 fn is_word(name: &Name, word: &[u8]) -> bool
     ensures same { IsTrue result → name.now ≡ word.now }
@@ -51,7 +51,7 @@ impl Guesses {
         }
     }
 
-    /// The instance that is guessed, where the word is its name.
+    /// The guessed instance, if the word is its name.
     #[inline(always)]
     fn guessed(&self, names: &Names, word: &[u8]) -> Option<InstanceNo>
         ensures { IfSome result (λ p. (name_or_cause word.now ≡ Ok word.now) × (known_of names.now word.now ≡ Ok p)) }
@@ -64,7 +64,7 @@ impl Guesses {
         }
     }
 
-    /// The instance that a word names or F23, or else the first of F1 to F4 that applies to the word.
+    /// The instance that a word names, or F23. If the word is no name, the first of F1 to F4 that applies.
     #[inline(always)]
     pub fn instance(
         &mut self,
@@ -79,7 +79,7 @@ impl Guesses {
         }
     }
 
-    /// The same where the guess was wrong. The next one is right for this word.
+    /// The same after a wrong guess. The next guess for this word is right.
     #[inline(never)]
     fn look_up(&mut self, names: &Names, word: &[u8]) -> Result<Result<InstanceNo, Cause>, Cause>
         ensures { IsNamed names.now word.now result }
@@ -92,7 +92,7 @@ impl Guesses {
         Ok(found)
     }
 
-    /// The name that is guessed, where the word is it.
+    /// The guessed name, if it is this word.
     #[inline(always)]
     fn guessed_name(&self, word: &[u8]) -> Option<Name>
         ensures { IfSome result (λ name. name_or_cause word.now ≡ Ok name) }
@@ -114,7 +114,7 @@ impl Guesses {
         }
     }
 
-    /// The same where the guess was wrong. The next one is right for this word.
+    /// The same after a wrong guess. The next guess for this word is right.
     #[inline(never)]
     fn read(&mut self, word: &[u8]) -> Result<Name, Cause>
         ensures { result ≡ name_or_cause word.now }

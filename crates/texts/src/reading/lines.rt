@@ -1,4 +1,4 @@
-//! Lines whose ends are found many bytes at a time, and what stands behind bytes that are known.
+//! Lines whose ends are found many bytes at a time, and the bytes after known ones.
 ghost use Rattle.std.specs.Prelude.{◌≡◌, ◌<◌, ◌==◌, ◌++◌, ◌∷◌, [], length, position, IfSome, IfNone};
 ghost use Rattle.texts.specs.Lines.{lines_of, end_of};
 
@@ -11,7 +11,7 @@ fn place_of_line_feed(bytes: &[u8]) -> Option<usize>
     memchr(b'\n', bytes)
 }
 
-/// The next whole line without its line feed, and what follows it; `None` where no line feed is left.
+/// The next whole line without its line feed, and the bytes after it; `None` if no line feed is left.
 pub fn next_line(bytes: &[u8]) -> Option<(&[u8], &[u8])>
     ensures line { IfSome result (λ next. lines_of bytes.now ≡ next.0.now ∷ lines_of next.1.now) }
     ensures end { IfSome result (λ next. end_of bytes.now ≡ end_of next.1.now) }
@@ -25,7 +25,7 @@ pub fn next_line(bytes: &[u8]) -> Option<(&[u8], &[u8])>
     }
 }
 
-/// What stands behind these bytes, where the others begin with them.
+/// The bytes after the front, if the bytes begin with it.
 #[inline(always)]
 pub fn behind<'a>(front: &[u8], bytes: &'a [u8]) -> Option<&'a [u8]>
     ensures { IfSome result (λ rest. bytes.now ≡ front.now ++ rest.now) }

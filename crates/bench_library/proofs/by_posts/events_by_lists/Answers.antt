@@ -3,7 +3,7 @@ use Rattle.board.specs.Views.{PostView}
 use Rattle.instances.proofs.Boards.{one-board-each}
 use Rattle.bench_library.proofs.by_posts.events_by_lists.Goals as goal
 
--- each job gives its post back at its board
+-- each job returns its post at its board
 pub gathered_events-requires : goal.gathered_events-requires
 gathered_events-requires g c =
     let posts = c.args.posts in

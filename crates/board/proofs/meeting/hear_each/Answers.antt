@@ -7,7 +7,7 @@ use Rattle.board.specs.Meeting.{HaveHeard}
 use Rattle.board.proofs.Meetings.{heard_next, note_for}
 use Rattle.board.proofs.meeting.hear_each.Goals as goal
 
--- the post that is next, as it was at first
+-- the next post is as it was at first
 pub hear-note-requires : goal.hear-note-requires
 hear-note-requires c =
     let its = c.loop-post.invariant in

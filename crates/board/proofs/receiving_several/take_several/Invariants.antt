@@ -2,7 +2,7 @@ use Rattle.std.proofs.Common.{◌≡◌, length}
 use Rattle.board.specs.Receipts.{AreTaken}
 use Rattle.board.proofs.receiving_several.take_several.Given as goal
 
--- as many are taken out as turns were made
+-- one message is taken out in each turn
 abbrev pub invariant-loop : goal.invariant-loop
 invariant-loop l = record {
   table : l.seat.table_id ≡ l.words.table_id;

@@ -79,7 +79,7 @@ publish-requires-clause-next c =
     let fills : Fills l m s f r u (message ∷ []) (put.0 ∷ []) = fills_one l m s f r c.args.end.now u message put.0 c.requires.may_put c.claim_slots.ensures.did c.claim_slots.ensures.end (c.claim_slots.ensures.yes c.if-not-claim_slots.false) c.in_default.ensures.held put.1 put.2.message in
     next l m s f r u (message ∷ []) (put.0 ∷ []) fills (next_one l.instances l.sender l.receiver message put.0 u.base (held s).seen r (sender l m s f r u (message ∷ []) (put.0 ∷ []) fills) put.2)
 
--- what the recorder is in the end
+-- the recorder at the end
 recorded : (c : goal.After-record_begun) → c.record_begun.new.self ≡ after_send c.args.recorder.now c.args.lane.now.receiver c.args.message.name
 recorded c =
     let named = rw (c.name-name.ensures, c.in_default.ensures.recorder) at c.record_begun.ensures in

@@ -57,7 +57,7 @@ stamp-requires c =
     let here : c.instance.result ≡ v.line.instance = c.instance.ensures ∙ ap (λ (x : LineView). x.instance) c.line-line.ensures in
     omega (arith, here, own, before, its, c.apply.ensures.len, c.claim_slots.ensures.end.long, c.requires.may_put.two)
 
--- what is in the slots, and recorded
+-- the slots are filled, and the sends recorded
 are_filled : (c : goal.After-publish-arg-1) → AreFilled c.claim_slots.new.end.base c.prepare.new.recorder c.args.lane.now.receiver c.args.messages.items (packets_out c.fill_slots-end.new.seat.me) c.fill_slots-end.new.recorder
 are_filled c =
     let prepared : IsPrepared c.claim_slots.new.end.base c.args.recorder.now c.args.messages.items c.in-Ok.prepared c.prepare.new.recorder = rw c.as_slice.ensures.value at c.in-Ok.ensures.ok in

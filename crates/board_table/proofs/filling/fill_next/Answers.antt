@@ -15,7 +15,7 @@ use Rattle.board_table.proofs.filling.fill_next.Goals as goal
 put : (c : goal.After-turn) → (x : Packet) × (c.put_next.new.slot ≡ Some x) × Carries c.args.recorder.now.knowledge x (record { message = c.args.message; clock = send_clock c.args.recorder.now })
 put c = contained c.put_next.new.slot (λ x. Carries c.args.recorder.now.knowledge x (record { message = c.args.message; clock = send_clock c.args.recorder.now })) c.put_next.ensures.full c.put_next.ensures.put
 
--- what is out with the sender afterwards
+-- the slots that are out with the sender afterwards
 after : (c : goal.After-turn) → let me = c.args.seat.now.me in let l = c.args.lane.now in
     (v : ℕ) × (suc v ≡ vacant_out me) × (c.turn.new.self.me ≡ (held me ∷ [], filling_slots l.instances l.capacity l.sender l.receiver (length (sent (held me).seen l.sender l.receiver)) v (packets_out me ++ (put c).0 ∷ [])))
 after c =

@@ -42,7 +42,7 @@ split_seat-requires c =
           (parts n k c.load.new.seat.id (met e note) g (omega (arith, c.requires.note.post.number, board.instances)) c.requires.note.made),
     )
 
--- the post and the note as they leave
+-- the post and the note at the end
 stated : (c : goal.After-split_seat) → MeetsBeside (held c.args.seat.now.me ∷ held c.args.note.me ∷ [], c.args.seat.now.me.1) c.load.new.seat.me
 stated c = subst (λ m. MeetsBeside m c.load.new.seat.me) c.join_seat.ensures.2 c.load.ensures.2
 

@@ -8,7 +8,7 @@ use Rattle.board_table.proofs.Handling.{first_full, take_first, taken_is}
 use Rattle.board_table.proofs.OutSlots.{emptying_slots, emptying_packets, emptying_vacant}
 use Rattle.board_table.proofs.receiver.take_recorded.Goals as goal
 
--- the value of the first of some slots
+-- the content of the first slot
 abbrev value_of : ℕ × Option Packet → List (ℕ × Option Packet) → Option Packet
 value_of d [] = d.1
 value_of d (x ∷ xs) = x.1
@@ -28,7 +28,7 @@ unreachable-requires c =
     let d : ℕ × Option Packet = (c.slot.result, c.slot_mut-slot.result.now) in
     c.in_default.not-Some first.0 (sym (ap (value_of d) c.slot_mut-slot.ensures.value) ∙ ap (value_of d) first.3)
 
--- what is out with the receiver afterwards
+-- the slots that are out with the receiver afterwards
 after : (c : goal.After-turn) → let me = c.args.seat.now.me in let l = c.args.lane.now in
     (x : Packet) × (xs : List Packet) × (packets_out me ≡ x ∷ xs) × (c.in-Some-take.field-0 ≡ x) × (c.turn.new.self.me ≡ (held me ∷ [], emptying_slots l.instances l.capacity l.sender l.receiver (received (held me).seen l.sender l.receiver) (suc (vacant_out me)) xs))
 after c =

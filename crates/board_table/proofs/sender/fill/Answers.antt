@@ -10,7 +10,7 @@ use Rattle.board_table.proofs.Handling.{first_vacant, fill_first, filled_is}
 use Rattle.board_table.proofs.OutSlots.{filling_slots, filling_packets, filling_vacant}
 use Rattle.board_table.proofs.sender.fill.Goals as goal
 
--- the value of the first of some slots
+-- the content of the first slot
 abbrev value_of : ℕ × Option Packet → List (ℕ × Option Packet) → Option Packet
 value_of d [] = d.1
 value_of d (x ∷ xs) = x.1
@@ -23,7 +23,7 @@ unreachable-requires c =
     let none : c.exchange.result ≡ None = sym (ap (value_of d) c.exchange.ensures.2) ∙ ap (value_of d) first in
     false≢true (sym (ap is_some none) ∙ sym c.if-is_some.ensures)
 
--- what is out with the sender afterwards
+-- the slots that are out with the sender afterwards
 after : (c : goal.After-turn) → let me = c.args.seat.now.me in let l = c.args.lane.now in
     (v : ℕ) × (suc v ≡ vacant_out me) × (c.turn.new.self.me ≡ (held me ∷ [], filling_slots l.instances l.capacity l.sender l.receiver (length (sent (held me).seen l.sender l.receiver)) v (packets_out me ++ c.args.packet ∷ [])))
 after c =

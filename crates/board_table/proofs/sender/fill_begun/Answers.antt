@@ -18,7 +18,7 @@ put c =
     let r = c.in_ok-begin_in.ensures in
     contained c.begin_in.new.slot (λ x. Carries c.args.base.now x (record { message = c.args.message; clock = send_clock c.args.recorder.now })) r.full r.put
 
--- what is out with the sender afterwards
+-- the slots that are out with the sender afterwards
 after : (c : goal.After-turn) → let me = c.args.seat.now.me in let l = c.args.lane.now in
     (v : ℕ) × (suc v ≡ vacant_out me) × (c.turn.new.self.me ≡ (held me ∷ [], filling_slots l.instances l.capacity l.sender l.receiver (length (sent (held me).seen l.sender l.receiver)) v (packets_out me ++ (put c).0 ∷ [])))
 after c =

@@ -8,7 +8,7 @@ use Rattle.cmd_base.specs.Numbers.{IsNumber, number_of}
 use Rattle.cmd_base.proofs.Numerals.{numerals}
 use Rattle.cmd_base.proofs.number.number_in.Goals as goal
 
--- what is parsed of digits is their number
+-- the number that is parsed from digits is their number
 parsed : {E : Type 0} (word : List ℕ) (r : Result ℕ E) → list_all is_ascii_digit word ≡ true → OkIff r ((0 < length word) × (number_of word < 2 ^ 64)) (number_of word) → SomeIff (result_ok r) (IsNumber word) (number_of word)
 parsed word (Ok n) digits read = ((read.0.0, digits, read.0.1), read.1)
 parsed word (Err e) digits read = λ number. read (number.0, number.2)

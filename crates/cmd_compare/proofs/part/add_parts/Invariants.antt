@@ -4,6 +4,6 @@ use Rattle.texts.specs.Writing.{Buffers}
 use Rattle.cmd_compare.specs.Words.{part_text}
 use Rattle.cmd_compare.proofs.part.add_parts.Given as goal
 
--- what came so far was added
+-- the parts so far were added
 abbrev pub invariant-loop-part : goal.invariant-loop-part
 invariant-loop-part g l = Buffers g.W.Out.sink l.initial.text l.text (flat_map (part_text) (take l.part-index l.parts))

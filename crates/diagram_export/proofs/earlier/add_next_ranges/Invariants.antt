@@ -4,6 +4,6 @@ use Rattle.texts.specs.Writing.{Buffers}
 use Rattle.diagram_export.specs.Earlier.{next_named}
 use Rattle.diagram_export.proofs.earlier.add_next_ranges.Given as goal
 
--- what came so far was added
+-- the ranges so far were added
 abbrev pub invariant-loop-range : goal.invariant-loop-range
 invariant-loop-range g l = Buffers g.W.Out.sink l.initial.text l.text (flat_map (next_named l.export) (take l.range-index l.ranges))

@@ -4,6 +4,6 @@ use Rattle.texts.specs.Writing.{Buffers}
 use Rattle.diagram_export.specs.LogText.{other_entry}
 use Rattle.diagram_export.proofs.log_text.add_other_entries.Given as goal
 
--- what came so far was added
+-- the entries so far were added
 abbrev pub invariant-loop-line : goal.invariant-loop-line
 invariant-loop-line g l = Buffers g.W.Out.sink l.initial.text l.text (flat_map (other_entry l.export l.stamped) (take l.line-index l.lines))

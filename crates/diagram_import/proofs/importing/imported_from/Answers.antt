@@ -5,7 +5,7 @@ use Rattle.diagram_join.specs.declared.drawing.JoinedChart.{JoinedChart}
 use Rattle.diagram_import.specs.declared.error.ImportError.{ImportError}
 use Rattle.diagram_import.proofs.importing.imported_from.Goals as goal
 
--- what holds of a chart holds of the one that is handed on
+-- a property of a chart holds for the returned chart
 handed_on : (P : JoinedChart → Type 0) (result : Result JoinedChart ImportError) (built : JoinedChart) → IfOk result (λ d. d ≡ built) → P built → IfOk result P
 handed_on P (Ok d) built same holds = subst P (sym same) holds
 handed_on P (Err error) built same holds = tt

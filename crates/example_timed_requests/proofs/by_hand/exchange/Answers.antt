@@ -4,7 +4,7 @@ use Rattle.board.specs.Views.{PostView}
 use Rattle.instances.proofs.Boards.{one-board-each}
 use Rattle.example_timed_requests.proofs.by_hand.exchange.Goals as goal
 
--- each job gives its post back at its board
+-- each job returns its post at its board
 pub gathered-requires : goal.gathered-requires
 gathered-requires g c =
     let posts = c.in_ok-posts.posts in

@@ -1,7 +1,7 @@
 use Rattle.std.proofs.lemmas.Result.{IfOk-weaker}
 use Rattle.instances.proofs.jobs.drive_all.Goals as goal
 
--- what a call of the closure promises of its job is promised of the job at its place
+-- what a call of the closure promises for its job holds for the job at its place
 pub returns-clause-each : goal.returns-clause-each
 returns-clause-each g c =
     IfOk-weaker c.map_vec.result _ _

@@ -4,7 +4,7 @@ use Rattle.std.specs.Vec.Iter.{into_iter_items, into_iter_len}
 use Rattle.std.specs.Iterator.Adapters.{zip_first, zip_second}
 use Rattle.instances.proofs.threads.pairs.Given as goal
 
--- the pairs so far and those that are left are all
+-- the pairs so far and the remaining ones are all pairs
 abbrev pub invariant-loop-pair : goal.invariant-loop-pair
 invariant-loop-pair g l =
     let now = l.pair-iterator in

@@ -3,6 +3,6 @@ use Rattle.chart.specs.Ranges.{events_in}
 use Rattle.line_recorder.specs.Kept.{range_of}
 use Rattle.line_recorder.proofs.kept_reports.ranges_of.Given as goal
 
--- the events of the ranges that were passed from the end on are in the list
+-- the events of the passed ranges, from the last one on, are in the list
 abbrev pub invariant-loop-passed : goal.invariant-loop-passed
 invariant-loop-passed l = (l.passed ≤ length l.kept) × (l.builder ≡ events_in (map (range_of l.instance) (drop (length l.kept - l.passed) l.kept)))

@@ -10,7 +10,7 @@ use Rattle.mscview_requests.specs.Wanted.{IsReading, IsPictureOf}
 use Rattle.mscview_requests.proofs.GivenLemmas.{given_as}
 use Rattle.mscview_requests.proofs.importing.view_picture_of.Goals as goal
 
--- what says nothing of how a text is read says nothing of its picture either
+-- if the words don't give the options for reading a text, they don't give those of its picture
 nor_both : (draw : Draw) (reading : Reading) (error : ProgramError) → AreNotRead (IsReading reading) error → AreNotRead (IsPictureOf draw reading) error
 nor_both draw reading error (inl memory) = inl memory
 nor_both draw reading error (inr nothing) = inr (nothing.0, λ asked its. nothing.1 asked.1 its.1)

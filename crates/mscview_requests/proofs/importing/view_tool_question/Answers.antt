@@ -10,7 +10,7 @@ use Rattle.mscview_requests.specs.Words.Words.{AreNotRead}
 use Rattle.mscview_requests.proofs.GivenLemmas.{given_as}
 use Rattle.mscview_requests.proofs.importing.view_tool_question.Goals as goal
 
--- what says nothing of how a text is read says nothing of what is asked of it either
+-- if the words don't give the options for reading a text, they don't give a question about it
 nor_both : (wanted : ToolQuestion) (error : ProgramError) → AreNotRead (IsReading wanted.import.reading) error → AreNotRead (IsToolQuestion wanted) error
 nor_both wanted error (inl memory) = inl memory
 nor_both wanted error (inr nothing) = inr (nothing.0, λ asked its. nothing.1 asked.1 its.1)

@@ -9,7 +9,7 @@ use Rattle.mscview_requests.specs.declared.questions.ReadQuestion.TheVariants as
 use Rattle.mscview_requests.proofs.WordsLemmas.ReadLemmas.{says_so}
 use Rattle.mscview_requests.proofs.questions.mend_by.Goals as goal
 
--- without a race nothing is asked
+-- no race, no question
 none : (name : Option (Bor (List ℕ))) (verbose : Bool) (file instance earlier receive : Bor (List ℕ))
     → ((wanted : mends.Wanted) → IsMend (option_map (λ word. word.now) name) verbose instance.now earlier.now receive.now wanted → ⊥)
     → (question : ReadQuestion) → IsMendQuestion (One name verbose file instance earlier receive) question → ⊥
@@ -17,7 +17,7 @@ none name verbose file instance earlier receive lacks (questions.Pair question a
 none name verbose file instance earlier receive lacks (questions.Mend wanted) its = lacks wanted its
 none name verbose file instance earlier receive lacks (questions.MendAll limit) its = its
 
--- without a limit that can be read neither
+-- no valid limit, no question
 none_of_all : (limit file : Option (Bor (List ℕ)))
     → ((tries : Option ℕ) → IsLimit (option_map (λ word. word.now) limit) tries → ⊥)
     → (question : ReadQuestion) → IsMendQuestion (All limit file) question → ⊥

@@ -7,7 +7,7 @@ use Rattle.mscview_requests.specs.declared.questions.ReadQuestion.TheVariants as
 use Rattle.mscview_requests.proofs.WordsLemmas.ReadLemmas.{says_so}
 use Rattle.mscview_requests.proofs.questions.pair_by.Goals as goal
 
--- without two events nothing is asked
+-- no two events, no question
 none : (pair : Pair) → ((asked : Asked) → IsAsked pair.instance.now pair.earlier.now pair.receive.now asked → ⊥) → (question : ReadQuestion) → IsPairQuestion pair question → ⊥
 none pair lacks (questions.Pair question asked) its = lacks asked its.1
 none pair lacks (questions.Mend wanted) its = its

@@ -11,7 +11,7 @@ use Rattle.mscview_requests.specs.Wanted.{IsLog}
 use Rattle.mscview_requests.specs.Words.Words.{AreNotRead}
 use Rattle.mscview_requests.proofs.recorded.view_log_question.Goals as goal
 
--- what says nothing of how a log is read says nothing of what is asked of it either
+-- if the words don't give the options for reading a log, they don't give a question about it
 nor_both : (wanted : LogQuestion) (error : ProgramError) → AreNotRead (IsLog wanted.log) error → AreNotRead (IsLogQuestion wanted) error
 nor_both wanted error (inl memory) = inl memory
 nor_both wanted error (inr nothing) = inr (nothing.0, λ asked its. nothing.1 asked.1 its.1)

@@ -3,7 +3,7 @@ use Rattle.pictures.specs.ColumnText.{life_text, lifeline}
 use Rattle.texts.proofs.PiecesLemmas.Coming.{HasCome}
 use Rattle.pictures.proofs.columns.add_lifeline.Given as goal
 
--- the parts so far were added, and what is left is the rest
+-- the parts so far were added, and the rest is still to be added
 abbrev pub invariant-loop-event : goal.invariant-loop-event
 invariant-loop-event g l = record {
   index : l.index ≡ l.event-index + 1;

@@ -4,6 +4,6 @@ use Rattle.texts.specs.Writing.{Buffers}
 use Rattle.pictures.specs.Margins.{dividing_line}
 use Rattle.pictures.proofs.margin.add_lines.Given as goal
 
--- what came so far was added
+-- the lines so far were added
 abbrev pub invariant-loop-note : goal.invariant-loop-note
 invariant-loop-note g l = Buffers g.W.Out.sink l.initial.text l.text (flat_map (dividing_line l.picture l.x) (take l.note-index l.notes))

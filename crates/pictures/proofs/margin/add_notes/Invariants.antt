@@ -4,6 +4,6 @@ use Rattle.texts.specs.Writing.{Buffers}
 use Rattle.pictures.specs.Margins.{note_text}
 use Rattle.pictures.proofs.margin.add_notes.Given as goal
 
--- what came so far was added
+-- the texts so far were added
 abbrev pub invariant-loop-note : goal.invariant-loop-note
 invariant-loop-note g l = Buffers g.W.Out.sink l.initial.text l.text (flat_map (note_text l.picture l.x) (take l.note-index l.notes))

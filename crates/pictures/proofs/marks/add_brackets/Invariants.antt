@@ -4,6 +4,6 @@ use Rattle.texts.specs.Writing.{Buffers}
 use Rattle.pictures.specs.MarkText.{bracket_text}
 use Rattle.pictures.proofs.marks.add_brackets.Given as goal
 
--- what came so far was added
+-- the brackets so far were added
 abbrev pub invariant-loop-range : goal.invariant-loop-range
 invariant-loop-range g l = Buffers g.W.Out.sink l.initial.text l.text (flat_map (bracket_text l.picture l.receive) (take l.range-index l.ranges))

@@ -4,7 +4,7 @@ use Rattle.schedule_threads.specs.RunNotes.{all_notes}
 use Rattle.schedule_threads.specs.RunOutcomes.{lacked_memory}
 use Rattle.schedule_threads.proofs.notes.all_notes.Given as goal
 
--- the notes so far and those of the instances that are left are all, and no memory was lacking so far
+-- the notes so far and those of the remaining instances are all, and memory was not refused so far
 abbrev pub invariant-loop-place : goal.invariant-loop-place
 invariant-loop-place l = record {
   notes : l.notes.items ++ all_notes l.commands (l.place + 1) (drop l.place l.traces) ≡ all_notes l.commands 1 l.traces;

@@ -10,7 +10,7 @@ use Rattle.schedule_threads.proofs.Boxes.{AreHeld, AreHeld-push, AreHeld-none, A
 use Rattle.schedule_threads.proofs.own_scripts.run_own_scripts.OwnLists.{own-1}
 use Rattle.schedule_threads.proofs.own_scripts.run_own_scripts.Goals as goal
 
--- a list of no elements
+-- a list without elements
 nothing_left : {X : Type 0} (xs : List X) → length xs ≡ 0 → xs ≡ []
 nothing_left [] e = refl
 nothing_left (x ∷ xs) e = absurd (omega arith)

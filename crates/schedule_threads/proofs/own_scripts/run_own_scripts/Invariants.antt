@@ -3,7 +3,7 @@ use Rattle.std.specs.Vec.Iter.{into_iter_items, into_iter_len}
 use Rattle.schedule_threads.proofs.Boxes.{AreHeld}
 use Rattle.schedule_threads.proofs.own_scripts.run_own_scripts.Given as goal
 
--- the scripts so far were put into boxes, in their order
+-- the scripts so far were put into boxes, in order
 abbrev pub invariant-loop-script : goal.invariant-loop-script
 invariant-loop-script g l =
     record {

@@ -1,8 +1,8 @@
-//! Both forms over plain words and slots, and the plain queue that they are compared with.
+//! Both forms of a lane over plain words and slots, and the plain queue that they are compared with.
 use lane_core::answers::{Found, ReceiverStep, Room, SenderStep};
 use lane_core::{flag_words, index_words};
 
-/// A step of an end, as a run of the lane machine has it.
+/// A step of an end, as in a run of the lane machine.
 #[derive(Clone, Copy, Debug, PartialEq, Eq)]
 pub enum Step {
     SenderLoads,
@@ -15,7 +15,7 @@ pub enum Step {
     Frees,
 }
 
-/// What a step showed.
+/// The result of a step.
 #[derive(Clone, Copy, Debug, PartialEq, Eq)]
 pub enum Shown {
     Refused,
@@ -25,7 +25,7 @@ pub enum Shown {
     Took(Option<u32>),
 }
 
-/// A lane over plain words and slots: it makes a step where its end may make it.
+/// A lane over plain words and slots. It makes a step if its end may make it.
 pub trait Machine: Copy + Eq {
     fn new(capacity: u64) -> Self;
 
@@ -36,7 +36,7 @@ pub trait Machine: Copy + Eq {
     fn next_of_receiver(&self) -> ReceiverStep;
 }
 
-/// Over index words.
+/// A lane over index words.
 #[derive(Clone, Copy, Debug, PartialEq, Eq)]
 pub struct IndexLane {
     pub put: u64,
@@ -57,7 +57,7 @@ fn put_in(slots: &mut [Option<u32>], slot: u64, message: u32) -> Shown {
     }
 }
 
-/// Takes what a slot holds.
+/// Takes the content of a slot.
 fn take_out(slots: &mut [Option<u32>], slot: u64) -> Shown {
     match slots.get_mut(slot as usize) {
         Some(slot) => {
@@ -148,7 +148,7 @@ impl Machine for IndexLane {
     }
 }
 
-/// Over slot words.
+/// A lane over slot words.
 #[derive(Clone, Copy, Debug, PartialEq, Eq)]
 pub struct FlagLane {
     pub words: [flag_words::Word; 64],
@@ -241,8 +241,8 @@ impl Machine for FlagLane {
     }
 }
 
-/// A plain closable queue of the numbers from `first` up to `next`, of which the first `held` are in the receiver's
-/// hand; the sender has the next `filled` numbers ready.
+/// A plain closable queue of the numbers from `first` up to but not including `next`. The receiver holds the first
+/// `held` of them, and the sender has the next `filled` numbers ready.
 #[derive(Clone, Copy, Debug, PartialEq, Eq)]
 pub struct Queue {
     pub capacity: u32,
@@ -287,7 +287,7 @@ impl Queue {
         }
     }
 
-    /// What a step shows that the lane may make, and the queue after it. A step that no queue may make is refused.
+    /// Makes a step that the lane may make, and returns what it shows. A step that no queue may make is refused.
     pub fn step(&mut self, step: Step) -> Shown {
         match step {
             Step::SenderLoads => Shown::Room(self.room()),
@@ -324,7 +324,7 @@ impl Queue {
         }
     }
 
-    /// Each step that some end could make next, with the numbers that it would put in or back.
+    /// Each step that an end could make next, with the numbers that it would put in or back.
     pub fn steps(&self) -> [Step; 8] {
         [
             Step::SenderLoads,

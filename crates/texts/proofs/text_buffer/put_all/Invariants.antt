@@ -2,7 +2,7 @@ use Rattle.std.proofs.Common.{◌≡◌, ℕ, List, ◌++◌, length}
 use Rattle.texts.specs.Writing.{Puts}
 use Rattle.texts.proofs.text_buffer.put_all.Given as goal
 
--- what is gone from the bytes was put
+-- the bytes that are no longer in the rest were put
 abbrev pub invariant-loop-rest : goal.invariant-loop-rest
 invariant-loop-rest g l = (done : List ℕ) × (l.bytes ≡ done ++ l.rest) × Puts g.W.Out.sink l.initial.out l.out done
 

@@ -15,7 +15,7 @@ use Rattle.board.specs.LongRuns.CarryingSteps.{HaveReserved}
 use Rattle.board.proofs.LongRunsLemmas.CarriedOver.{were_few, at_number, now_one, may_send, may_close, have_carried, keep_lanes}
 use Rattle.board.proofs.long_runs.carrying.carry_over.Goals as goal
 
--- what each instance sends again, told by what was counted
+-- what each instance sends again, from the counts
 sends_are : (left : List Left) (slice : List Left) (many size : ℕ) (sends : List ℕ) → slice ≡ left → many ≡ size → sends ≡ map (λ p. sent_again_by p (map left_view slice)) (range_with_len 1 many)
     → sends ≡ map (λ p. sent_again_by p (map left_view left)) (range_with_len 1 size)
 sends_are left slice many size sends same sized counted =

@@ -10,7 +10,7 @@ use Rattle.board.proofs.LongRunsLemmas.CarryingLoops.{may_next, nothing_left}
 use Rattle.board.proofs.LongRunsLemmas.PostedSends.{again_split}
 use Rattle.board.proofs.long_runs.steps.send_left.Goals as goal
 
--- a lane's messages, those of the lanes before it and those of the lanes after it
+-- the messages of the lanes before one lane, of this lane, and of those after it
 left_split : (xs rest : List Left) (lane : Left) (h : List Occurrence) → all_again (map left_view (xs ++ lane ∷ rest)) ++ h ≡ all_again (map left_view rest) ++ (sends_again (left_view lane) ++ (all_again (map left_view xs) ++ h))
 left_split xs rest lane h = ap (λ ls. all_again ls ++ h) (map-append left_view xs (lane ∷ rest)) ∙ again_split (map left_view xs) (map left_view rest) (left_view lane) h
 

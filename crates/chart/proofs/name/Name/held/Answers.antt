@@ -8,7 +8,7 @@ use Rattle.chart.proofs.HeldNames.{padded_full, padded_short, name_held}
 use Rattle.chart.proofs.name.Name.held.Goals as goal
 use Rattle.chart.proofs.name.Name.held.Goals.{then-bytes-lt-MAX_NAME, else-bytes-lt-MAX_NAME}
 
--- the bytes with zeros behind them
+-- the bytes, followed by zeros
 zeros_behind : (w copied zeros : List ℕ) → w ≡ copied → zeros ≡ replicate MAX_NAME 0 → copied ++ drop (length w) zeros ≡ w ++ replicate (MAX_NAME - length w) 0
 zeros_behind w copied zeros same all = rw (← same, all, drop-replicate {X = ℕ} (length w) MAX_NAME 0) refl
 

@@ -10,7 +10,7 @@ use Rattle.closure.proofs.CycleLemmas.PassLemmas.{receiver_is, turn_is, turn_beg
 use Rattle.closure.proofs.cycle.receiving.receive_of.Goals as goal
 use Rattle.closure.proofs.cycle.receiving.receive_of.Goals.{After-place}
 
--- the receiver is the send's
+-- the receiver is that of the send
 goes : (c : After-place) → c.in-Send.to ≡ c.requires.received.0.instance
 goes c = receiver_is (chart_lines c.args.lines.now) c.args.send.now c.requires.received.0 c.place-line.result c.in-Send.to c.in-Send.name c.requires.received.1 c.place-line.ensures.value (c.event_at.ensures ∙ ap (λ x. Some x) c.in-Send.is)
 

@@ -4,6 +4,6 @@ use Rattle.texts.specs.Writing.{Buffers}
 use Rattle.diagram_labels.specs.Renamed.Telling.{shown_byte}
 use Rattle.diagram_labels.proofs.renamed.telling.add_shown.Given as goal
 
--- what came so far was added
+-- the bytes so far were added
 abbrev pub invariant-loop-byte : goal.invariant-loop-byte
 invariant-loop-byte g l = Buffers g.V.Out.sink l.initial.text l.text (flat_map shown_byte (take l.byte-index l.label))

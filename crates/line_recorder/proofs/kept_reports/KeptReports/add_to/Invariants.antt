@@ -3,7 +3,7 @@ use Rattle.std.specs.Vec.{vec_capacity}
 use Rattle.line_recorder.specs.Kept.{range_of, reports_of, AreKept}
 use Rattle.line_recorder.proofs.kept_reports.KeptReports.add_to.Given as goal
 
--- the reports of the first receives are in the list, and the ranges of the others are left
+-- the reports of the first receives are in the list, and the ranges of the others remain
 abbrev pub invariant-loop-receive : goal.invariant-loop-receive
 invariant-loop-receive l = record {
   many : length l.reports.items ≡ length l.fn.reports.items + l.receive-index;

@@ -10,7 +10,7 @@ returns-in_default-clause-err c =
     let back : c.set_back.new.knowledge ≡ c.self.inside.knowledge = c.set_back.ensures.value ∙ ap (λ (x : List ℕ). with_entry x c.instance-own.result c.entry-before.result) c.stamp.ensures.value ∙ stamped_back c.self.inside.knowledge c.instance-own.result (c.len.result + 1) c.entry-before.result c.entry-before.ensures in
     rw (back, c.reserve.ensures.line) c.self.view_is
 
--- the stamp leaves what it has in common with the base
+-- the stamp leaves the entries that agree with the base
 pub returns-in_default-clause-alone : goal.returns-in_default-clause-alone
 returns-in_default-clause-alone c = λ room agree.
     let own = c.instance-own.result in

@@ -3,7 +3,7 @@ use Rattle.clock.specs.Clocks.{with_entry}
 use Rattle.clock.proofs.EntryLemmas.{stamped_back}
 use Rattle.line_recorder.proofs.recorder.Recorder.ready_sends.Goals as goal
 
--- the knowledge is what it was
+-- the knowledge is as it was
 pub returns-in_default-clause-err : goal.returns-in_default-clause-err
 returns-in_default-clause-err c =
     let back : c.stamp-2.new.self ≡ c.self.inside.knowledge = c.stamp-2.ensures.value ∙ ap (λ (x : List ℕ). with_entry x c.instance-own.result c.entry-last.result) c.stamp.ensures.value ∙ stamped_back c.self.inside.knowledge c.instance-own.result (c.len.result + 1) c.entry-last.result c.entry-last.ensures in

@@ -27,7 +27,7 @@ loop-host-preserved c = record {
   few = c.in_ok-host_in.ensures.few;
 }
 
--- a host that is one too many
+-- a host is one too many
 pub returns-in_err-host_in-clause-first : goal.returns-in_err-host_in-clause-first
 returns-in_err-host_in-clause-first c =
     subst (λ r. IfErr r (IsRefusal (fault_of c.args.hosts.now c.args.lines.now))) (sym (err_is c.from_residual.result c.in_err-host_in.field-0.0 c.from_residual.ensures.1))
@@ -73,7 +73,7 @@ loop-line-preserved c =
           ∙ c.loop-line.invariant.faults;
     }
 
--- the first line that is wrong
+-- the first line with a fault
 pub returns-in_err-add-clause-first : goal.returns-in_err-add-clause-first
 returns-in_err-add-clause-first c =
     subst (λ r. IfErr r (IsRefusal (fault_of c.args.hosts.now c.args.lines.now))) (sym (err_is c.from_residual-in_err-add.result c.in_err-add.field-0.0 c.from_residual-in_err-add.ensures.1))

@@ -9,14 +9,14 @@ use Rattle.msc_text.proofs.RaceTexts.{line_with}
 use Rattle.msc_text.proofs.race_text.LineEnds.add.Goals as goal
 use Rattle.msc_text.proofs.race_text.LineEnds.add.Goals.{then-made-earlier, else-made-earlier}
 
--- the line that is made, with this event's last digit in it, is its line
+-- the kept line with this event's last digit is this event's line
 line_is : (front end line : List ℕ) (made : MadeLine) (earlier : EventNo) → IsLineOf front end made × (made.tens ≡ earlier.index / 10) → earlier.index < 2 ^ 32 → line ≡ made.line
     → slice_set line made.place (48 + earlier.index % 10) ≡ race_line front end earlier
 line_is front end line made earlier is low same =
     ap (λ l. slice_set l made.place (48 + earlier.index % 10)) (same ∙ is.0.spelled)
     ∙ line_with front end is.0.event earlier made.place is.0.small low (sym is.0.begins ∙ is.1) is.0.place
 
--- a line with the tens of an event is made
+-- a line with the tens of an event is kept
 made_before : (front end : List ℕ) (made : MadeLine) (earlier : EventNo) → IsMade front end made → made.tens ≡ earlier.index / 10 → earlier.index < 2 ^ 32 → IsLineOf front end made
 made_before front end made earlier (inl none) tens low = absurd (omega (arith, none, tens, low))
 made_before front end made earlier (inr line) tens low = line

@@ -8,7 +8,7 @@ use Rattle.races_text.specs.Judged.Summaries.{summary_of_parts}
 use Rattle.races_text.specs.Judged.Listing.{begun_text}
 use Rattle.races_text.proofs.judged.listing.add_begun.Given as goal
 
--- the parts so far were added
+-- the earlier parts were added
 abbrev pub invariant-loop-part : goal.invariant-loop-part
 invariant-loop-part g l =
     (done : List Part) × (begun : List EventNo) × (l.fn.kept ≡ begun ++ events_left l.left)

@@ -7,7 +7,7 @@ use Rattle.races_text.specs.Named.Listing.{manner_of, AreSelectedOf}
 use Rattle.races_text.specs.Judged.Listing.{PartedReport, AreParted, luck_manner, luck_text, summary_of}
 use Rattle.races_text.proofs.judged.listing.add_found.Given as goal
 
--- the ranges of what is told of the reports so far were added
+-- the listed ranges of the earlier reports were added
 abbrev pub invariant-loop-receive : goal.invariant-loop-receive
 invariant-loop-receive g l =
     (l.reporter.lines ≡ l.initial.reporter.lines) × ((reports : List ReportView) × (shown : List ReportView) × (parted : List PartedReport)

@@ -5,7 +5,7 @@ use Rattle.races_text.specs.Judged.Parts.{IsPart, events_in}
 use Rattle.races_text.specs.Judged.PartsLeft.{later_events, events_left}
 use Rattle.races_text.proofs.judged.parts.next_part.Given as goal
 
--- the events that were passed are those of the part
+-- the part has the events that were passed over
 abbrev pub invariant-pieces : goal.invariant-pieces
 invariant-pieces g l = record {
   short : IsShort l.left.rest;

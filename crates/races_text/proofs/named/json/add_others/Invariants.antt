@@ -5,7 +5,7 @@ use Rattle.texts.specs.Writing.{Buffers}
 use Rattle.races_text.specs.Named.JsonText.{next_text}
 use Rattle.races_text.proofs.named.json.add_others.Given as goal
 
--- the ranges so far were added
+-- the earlier ranges were added
 abbrev pub invariant-loop-range : goal.invariant-loop-range
 invariant-loop-range g l =
     (done : List EventRange) × (l.fn.ranges ≡ done ++ l.ranges) × Buffers g.W.Out.sink l.initial.text l.text (flat_map (next_text l.events) done)

@@ -2,7 +2,7 @@ use Rattle.std.proofs.Common.{◌≡◌, length, filter}
 use Rattle.races_text.specs.Named.Kept.{is_kept_after}
 use Rattle.races_text.proofs.named.kept.next_kept.Given as goal
 
--- none that is shown was passed
+-- no shown event was passed over
 abbrev pub invariant-loop-event : goal.invariant-loop-event
 invariant-loop-event l = filter (is_kept_after l.events l.only l.passed) l.initial.coming ≡ filter (is_kept_after l.events l.only l.passed) l.coming
 

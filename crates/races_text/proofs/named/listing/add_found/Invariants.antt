@@ -6,7 +6,7 @@ use Rattle.texts.specs.Writing.{Buffers}
 use Rattle.races_text.specs.Named.Listing.{manner_of, races_text, shows_races, AreSelectedOf}
 use Rattle.races_text.proofs.named.listing.add_found.Given as goal
 
--- what is told of the reports so far was added
+-- the listed text of the earlier reports was added
 abbrev pub invariant-loop-receive : goal.invariant-loop-receive
 invariant-loop-receive g l =
     (l.reporter.lines ≡ l.initial.reporter.lines) × ((reports : List ReportView) × (shown : List ReportView) × HaveReported l.initial.reporter.lines l.reporter.line l.reporter.place reports

@@ -4,7 +4,7 @@ use Rattle.reordering.specs.declared.completion.last_sends.LastSends.{LastSends}
 use Rattle.reordering.specs.Completion.Tables.{HasPassed, AreLastSends}
 use Rattle.reordering.proofs.completion.last_sends.last_sends_of.Given as goal
 
--- what was passed, and what is kept of it
+-- the passed events, and what is kept for them
 abbrev pub invariant-loop-place : goal.invariant-loop-place
 invariant-loop-place l =
     HasPassed l.line.line.events l.place l.passed.all l.passed.by_sender × (length l.passed.by_sender ≡ l.fn.instances) × (length l.row ≡ l.place)

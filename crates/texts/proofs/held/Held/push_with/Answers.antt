@@ -3,7 +3,7 @@ use Rattle.std.proofs.Math.Seq.{take-set-lt}
 use Rattle.std.proofs.lemmas.List.{set-append_right, length-append}
 use Rattle.texts.proofs.held.Held.push_with.Goals as goal
 
--- a byte of the piece that the first bytes end with
+-- a byte of the piece with which the first bytes end
 put_in : (old piece all : List ℕ) (len place byte : ℕ) → take len all ≡ old ++ piece → len ≡ length old + length piece → place < length piece
     → take len (set all (length old + place) byte) ≡ old ++ set piece place byte
 put_in old piece all len place byte is long within =

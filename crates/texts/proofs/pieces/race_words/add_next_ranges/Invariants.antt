@@ -4,6 +4,6 @@ use Rattle.texts.specs.Writing.{Buffers}
 use Rattle.texts.specs.Pieces.RaceWords.{next_range}
 use Rattle.texts.proofs.pieces.race_words.add_next_ranges.Given as goal
 
--- what came so far was added
+-- the ranges so far were added
 abbrev pub invariant-loop-range : goal.invariant-loop-range
 invariant-loop-range g l = Buffers g.W.Out.sink l.initial.text l.text (flat_map (next_range) (take l.range-index l.ranges))
