@@ -35,9 +35,8 @@ begin kinds.Schedule text line = schedule_begin line
 begin kinds.Chart text line = line_at wants.Msc (take (line - 1) (lines_of text))
 begin _ text line = wants.Begin
 
--- what may stand at the place of a fault; it is unknown for a wrong number of instances or events
+-- what may be at the place of a fault; it is unknown for an event too many
 abbrev pub wanted : Cause → Want → Option Want
-wanted Instances want = None
 wanted LineFull want = None
 wanted _ want = Some want
 

@@ -64,12 +64,12 @@ fn begin(kind: Kind, text: &[u8], line: u64) -> Want
     }
 }
 
-/// What may stand at the place of a fault. It is unknown for a wrong number of instances or events.
+/// What may be at the place of a fault. It is unknown for an event too many.
 fn wanted(cause: Cause, want: Want) -> Option<Want>
     ensures { result ≡ wanted cause want }
 {
     match cause {
-        Cause::Instances | Cause::LineFull => None,
+        Cause::LineFull => None,
         _ => Some(want),
     }
 }

@@ -187,6 +187,8 @@ pub(crate) fn want_words(want: Want) -> &'static [u8]
         Want::Msc => b"`msc run;`",
         Want::ChartName => b"`run;`",
         Want::InstanceOrEnd => b"`instance NAME;` or `endmsc;`",
+        Want::NextInstance => b"`instance NAME;`",
+        Want::End => b"`endmsc;`",
         Want::InstanceName => b"the name of a new instance and a semicolon",
         Want::Event => b"`out`, `in`, `concurrent;` or `endinstance;`",
         Want::OpenedEvent => b"`in`",

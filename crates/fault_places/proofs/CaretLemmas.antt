@@ -89,7 +89,7 @@ pub place_is : (place : ℕ) (before from : List (List ℕ)) → IsPlaceFrom 0 p
 place_is place before [] h = omega arith
 place_is place before (word ∷ words) h = omega arith
 
-stops_form : (read : List (List ℕ) → Option Cause) (before from : List (List ℕ)) (want : Want) → ((more : List (List ℕ)) → is_past 0 (read (before ++ more)) ≡ has_form want more) → IsFaulty want from → Stops read 0 before from
+pub stops_form : (read : List (List ℕ) → Option Cause) (before from : List (List ℕ)) (want : Want) → ((more : List (List ℕ)) → is_past 0 (read (before ++ more)) ≡ has_form want more) → IsFaulty want from → Stops read 0 before from
 stops_form read before [] want l h = ap (λ words. is_past 0 (read words)) (sym (append-nil before)) ∙ l [] ∙ h
 stops_form read before (word ∷ words) want l h = λ more. l (word ∷ more) ∙ ap (λ o. behind_word o (λ behind. has_form behind more)) h
 

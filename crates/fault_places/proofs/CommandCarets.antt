@@ -6,10 +6,10 @@ use Rattle.chart.specs.Names.{name_of, instance_of}
 use Rattle.chart.specs.declared.instance.TheConstants.{MAX_INSTANCES}
 use Rattle.chart.specs.declared.name.NameError.{NameError}
 use Rattle.fault_places.proofs.CommandWalks.{name_fault, known_fault, same_fault, is_good, passes, same_early, same_later, known_early}
-use Rattle.fault_places.proofs.SpotLemmas.{spot_wrong, goes_on}
+use Rattle.fault_places.proofs.SpotLemmas.{spot_same, goes_on}
 use Rattle.fault_places.proofs.WalkLemmas.{IsPlaceFrom, place_before}
 use Rattle.fault_places.specs.Carets.{fault_of, is_past, is_end, behind_word}
-use Rattle.fault_places.specs.Spots.{first_of, behind_first, is_among, is_unknown, is_wrong, inner, spot_from}
+use Rattle.fault_places.specs.Spots.{first_of, behind_first, is_among, is_unknown, is_wrong, instead, inner, spot_from}
 use Rattle.fault_places.specs.Wants.{on, begins_command, chart_next, next}
 use Rattle.fault_places.specs.declared.spot.Spot.{Spot}
 use Rattle.fault_places.specs.declared.want.Want.{Want}
@@ -78,6 +78,7 @@ pub record Finds (n low : ℕ) (names known_words line : List (List ℕ)) (cause
   pub right : (front : List (List ℕ)) (want : Want) (index : ℕ) (word : List ℕ) → is_in_command want ≡ true → is_good low names front want word ≡ true → is_wrong cause known_words line want index word ≡ false → is_good n names front want word ≡ true
   pub wrong : (front : List (List ℕ)) (want : Want) (index : ℕ) (word : List ℕ) (words : List (List ℕ)) → is_in_command want ≡ true → is_wrong cause known_words line want index word ≡ true → is_good n names front want word ≡ true
       → passes low names front want (word ∷ words) ≡ true → passes n names front want (word ∷ words) ≡ true
+  pub same : (want : Want) (word : List ℕ) → instead cause want word ≡ want
 
 -- after the first word
 behind_of : (n : ℕ) (names front : List (List ℕ)) (want after : Want) (word : List ℕ) (words : List (List ℕ)) → next want word ≡ Some after
@@ -95,10 +96,10 @@ last_true : (x : Bool) → (x && false) ≡ true → ⊥
 last_true true h = false≢true h
 last_true false h = false≢true h
 
-stop_here : (n : ℕ) (names front known_words line : List (List ℕ)) (cause : Cause) (want : Want) (index start : ℕ) (word : List ℕ) (others : List (List ℕ)) → is_in_command want ≡ true → is_wrong cause known_words line want index word ≡ true → is_good n names front want word ≡ false
+stop_here : (n : ℕ) (names front known_words line : List (List ℕ)) (cause : Cause) (want : Want) (index start : ℕ) (word : List ℕ) (others : List (List ℕ)) → instead cause want word ≡ want → is_in_command want ≡ true → is_wrong cause known_words line want index word ≡ true → is_good n names front want word ≡ false
     → IsStop n names front want start (word ∷ others) cause (spot_from cause known_words line want index start (word ∷ others))
-stop_here n names front known_words line cause want index start word others kind w g =
-    subst (IsStop n names front want start (word ∷ others) cause) (sym (spot_wrong cause known_words line want index start word (word ∷ others) others refl w))
+stop_here n names front known_words line cause want index start word others same kind w g =
+    subst (IsStop n names front want start (word ∷ others) cause) (sym (spot_same cause known_words line want index start word (word ∷ others) others refl w same))
     (record {
       before = [];
       from = word ∷ others;
@@ -165,7 +166,7 @@ stop n low names front known_words line cause want index start (word ∷ others)
         → ((after : Want) → is_in_command after ≡ true → passes low names (front ++ word ∷ []) after others ≡ true → passes n names (front ++ word ∷ []) after others ≡ false
         → IsStop n names (front ++ word ∷ []) after (start + (length word + 1)) others cause (spot_from cause known_words line after (index + 1) (start + (length word + 1)) others))
         → IsStop n names front want start (word ∷ others) cause (spot_from cause known_words line want index start (word ∷ others))
-    by true w go = stop_here n names front known_words line cause want index start word others kind w (bad (is_good n names front want word) refl w)
+    by true w go = stop_here n names front known_words line cause want index start word others (f.same want word) kind w (bad (is_good n names front want word) refl w)
     by false w go = ahead others (next want word) refl w (f.right front want index word kind good w) h g go
 
 -- ---- names
@@ -219,8 +220,8 @@ partner_passes : (n : ℕ) (names front : List (List ℕ)) (word : List ℕ) →
 partner_passes n names front word a b c = and_from _ _ a (and_from _ _ b c)
 
 pub finds_name : (names known_words line : List (List ℕ)) (fault : NameError) → Finds 1 0 names known_words line (causes.Name fault)
-unfolding is_wrong
-finds_name names known_words line fault = record { right = right; wrong = wrong }
+unfolding is_wrong instead
+finds_name names known_words line fault = record { right = right; wrong = wrong; same = λ want word. refl }
   where
     right : (front : List (List ℕ)) (want : Want) (index : ℕ) (word : List ℕ) → is_in_command want ≡ true → is_good 0 names front want word ≡ true → is_wrong (causes.Name fault) known_words line want index word ≡ false → is_good 1 names front want word ≡ true
     right front wants.Actor index word k l w = and_from _ _ (name_good 1 word w) (known_early names word)
@@ -251,8 +252,8 @@ not-true true e = absurd (false≢true e)
 not-true false e = refl
 
 pub finds_unknown : (names known_words line : List (List ℕ)) → AreKnown names known_words → Finds 2 1 names known_words line causes.UnknownInstance
-unfolding is_wrong is_unknown
-finds_unknown names known_words line are = record { right = right; wrong = wrong }
+unfolding is_wrong is_unknown instead
+finds_unknown names known_words line are = record { right = right; wrong = wrong; same = λ want word. refl }
   where
     right : (front : List (List ℕ)) (want : Want) (index : ℕ) (word : List ℕ) → is_in_command want ≡ true → is_good 1 names front want word ≡ true → is_wrong causes.UnknownInstance known_words line want index word ≡ false → is_good 2 names front want word ≡ true
     right front wants.Actor index word k l w =
@@ -306,8 +307,8 @@ send_up names front word words h = by (not (eqb (length word) 0)) h
     by false h = absurd (false≢true h)
 
 pub finds_partner : (names known_words line : List (List ℕ)) → Finds 3 2 names known_words line causes.ToItself
-unfolding is_wrong next
-finds_partner names known_words line = record { right = right; wrong = wrong }
+unfolding is_wrong instead next
+finds_partner names known_words line = record { right = right; wrong = wrong; same = λ want word. refl }
   where
     right : (front : List (List ℕ)) (want : Want) (index : ℕ) (word : List ℕ) → is_in_command want ≡ true → is_good 2 names front want word ≡ true → is_wrong causes.ToItself known_words line want index word ≡ false → is_good 3 names front want word ≡ true
     right front wants.Actor index word k l w =

@@ -24,11 +24,11 @@ use Rattle.texts.specs.declared.fault.Cause.TheVariants as causes
 
 -- ---- lines that aren't refused for their form
 
-past_bind : {A B : Type 0} (r : Result A Cause) (f : A → Result B Cause) → is_past 0 (fault_of r) ≡ true → ((x : A) → is_past 0 (fault_of (f x)) ≡ true) → is_past 0 (fault_of (r >>= f)) ≡ true
+pub past_bind : {A B : Type 0} (r : Result A Cause) (f : A → Result B Cause) → is_past 0 (fault_of r) ≡ true → ((x : A) → is_past 0 (fault_of (f x)) ≡ true) → is_past 0 (fault_of (r >>= f)) ≡ true
 past_bind (Ok x) f h g = g x
 past_bind (Err cause) f h g = h
 
-past_choice : {A : Type 0} (b : Bool) (cause : Cause) (x : A) → is_past 0 (Some cause) ≡ true → is_past 0 (fault_of (cond b (Err cause) (Ok x))) ≡ true
+pub past_choice : {A : Type 0} (b : Bool) (cause : Cause) (x : A) → is_past 0 (Some cause) ≡ true → is_past 0 (fault_of (cond b (Err cause) (Ok x))) ≡ true
 past_choice true cause x h = h
 past_choice false cause x h = refl
 
@@ -81,7 +81,7 @@ past_alone names a action =
     past_bind {B = ActorAction} (name_or_cause a) (λ actor. known_of names actor >>= λ by. Ok (by, action)) (past_word a)
     (λ x. past_bind {B = ActorAction} (known_of names x) (λ by. Ok (by, action)) (past_known names x) (λ p. refl))
 
-past_new : (names : List (List ℕ)) (name : List ℕ) → is_past 0 (fault_of (with_name names name)) ≡ true
+pub past_new : (names : List (List ℕ)) (name : List ℕ) → is_past 0 (fault_of (with_name names name)) ≡ true
 past_new names name = by (list_any (bytes_eq name) names) (eqb (length names) MAX_INSTANCES)
   where
     by : (x y : Bool) → is_past 0 (fault_of (cond x (Err causes.Duplicate) (cond y (Err causes.Instances) (Ok (names ++ name ∷ []))))) ≡ true

@@ -1,4 +1,9 @@
+pub mod CapacityCarets
 pub mod CaretLemmas
+pub mod ChartFormCarets
+pub mod ChartForms
+pub mod ChartReads
+pub mod ChartWalks
 pub mod CheckOrders
 pub mod CommandCaretLemmas
 pub mod CommandCarets
@@ -7,6 +12,7 @@ pub mod EventLineLemmas
 pub mod FormLemmas
 pub mod LineBlocks
 pub mod NameLemmas
+pub mod ScheduleTexts
 pub mod SpotLemmas
 pub mod StandingLemmas
 pub mod WalkLemmas

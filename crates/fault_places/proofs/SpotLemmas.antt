@@ -1,7 +1,7 @@
 -- One more word of a line: whether it is among words, and where the spot is from there on.
 use Rattle.std.proofs.Common.{◌≡◌, ◌<◌, ◌+◌, ◌-◌, ℕ, zero, suc, true, false, List, [], ◌∷◌, length, refl, arith}
 use Rattle.std.specs.Prelude.{Option, None, Some, MatchOption, bytes_eq, min}
-use Rattle.fault_places.specs.Spots.{is_among, is_wrong, inner, spot_from}
+use Rattle.fault_places.specs.Spots.{is_among, is_wrong, instead, inner, spot_from}
 use Rattle.fault_places.specs.Wants.{next}
 use Rattle.fault_places.specs.declared.want.Want.{Want}
 use Rattle.texts.proofs.Parts.{Cons, words_cons}
@@ -29,8 +29,13 @@ among_next word other (suc n) words others h e b =
     rw (k, e, b) refl
 
 pub spot_wrong : (cause : Cause) (known line : List (List ℕ)) (want : Want) (index place : ℕ) (word : List ℕ) (words others : List (List ℕ)) → words ≡ word ∷ others → is_wrong cause known line want index word ≡ true
-    → spot_from cause known line want index place words ≡ record { place = place + min (inner cause) (length word); want = want }
+    → spot_from cause known line want index place words ≡ record { place = place + min (inner cause) (length word); want = instead cause want word }
 spot_wrong cause known line want index place word words others e w = rw (e, w) refl
+
+-- there may be what the form allows there
+pub spot_same : (cause : Cause) (known line : List (List ℕ)) (want : Want) (index place : ℕ) (word : List ℕ) (words others : List (List ℕ)) → words ≡ word ∷ others → is_wrong cause known line want index word ≡ true → instead cause want word ≡ want
+    → spot_from cause known line want index place words ≡ record { place = place + min (inner cause) (length word); want = want }
+spot_same cause known line want index place word words others e w s = rw (e, w, s) refl
 
 pub spot_stops : (cause : Cause) (known line : List (List ℕ)) (want : Want) (index place : ℕ) (word : List ℕ) (words others : List (List ℕ)) → words ≡ word ∷ others → is_wrong cause known line want index word ≡ false → next want word ≡ None
     → spot_from cause known line want index place words ≡ record { place = place; want = want }

@@ -1,4 +1,6 @@
 pub mod Carets
+pub mod ChartCarets
+pub mod ScheduleCarets
 pub mod EventLines
 pub mod Standings
 pub mod Spots

@@ -74,12 +74,32 @@ is_again line wants.OtherName index word = is_among word (index - 1) (behind_fir
 is_again line wants.InstanceName index word = true
 is_again line _ index word = false
 
--- it is the instance that is one too many, or the end of a chart with too few
-unfoldable pub is_too_many : Want → ℕ → List ℕ → Bool
-is_too_many wants.OtherName index word = index == MAX_INSTANCES + 1
-is_too_many wants.InstanceName index word = true
-is_too_many wants.InstanceOrEnd index word = bytes_eq word (codes "endmsc;")
-is_too_many _ index word = false
+-- it is the instance that is one too many; in a chart it is the line that begins it, or that ends a chart with too few
+unfoldable pub is_too_many : Want → ℕ → Bool
+is_too_many wants.OtherName index = index == MAX_INSTANCES + 1
+is_too_many wants.InstanceOrEnd index = true
+is_too_many _ index = false
+
+-- what may be in the place of the line that begins one instance too many, or that ends a chart with too few
+abbrev pub other_line : List ℕ → Want
+other_line word = if bytes_eq word (codes "endmsc;") then wants.NextInstance else wants.End
+
+-- what may be in the place of a word that is one instance too many, or of a line that is
+abbrev pub instead_of : Want → List ℕ → Want
+instead_of wants.OtherName word = wants.LineEnd
+instead_of wants.InstanceOrEnd word = other_line word
+instead_of want word = want
+
+-- what may be in the place of a word that has a fault of this cause
+unfoldable pub instead : Cause → Want → List ℕ → Want
+instead (causes.Name fault) want word = want
+instead causes.UnknownInstance want word = want
+instead causes.ToItself want word = want
+instead causes.Duplicate want word = want
+instead causes.Instances want word = instead_of want word
+instead causes.Capacity want word = want
+instead causes.LineFull want word = want
+instead causes.Syntax want word = want
 
 -- the number of slots of a lane is wanted
 abbrev pub is_slots : Want → Bool
@@ -92,7 +112,7 @@ is_wrong (causes.Name fault) known line want index word = is_name want && is_err
 is_wrong causes.UnknownInstance known line want index word = is_unknown known want word
 is_wrong causes.ToItself known line want index word = is_partner want
 is_wrong causes.Duplicate known line want index word = is_again line want index word
-is_wrong causes.Instances known line want index word = is_too_many want index word
+is_wrong causes.Instances known line want index word = is_too_many want index
 is_wrong causes.Capacity known line want index word = is_slots want
 is_wrong causes.LineFull known line want index word = true
 is_wrong causes.Syntax known line want index word = false
@@ -114,7 +134,7 @@ abbrev pub spot_from : Cause → List (List ℕ) → List (List ℕ) → Want �
 spot_from cause known line want index place [] = record { place = place; want = want }
 spot_from cause known line want index place (word ∷ words) =
     if is_wrong cause known line want index word
-    then record { place = place + min (inner cause) (length word); want = want }
+    then record { place = place + min (inner cause) (length word); want = instead cause want word }
     else passed place (length word) want (next want word) words
     (λ behind. spot_from cause known line behind (index + 1) (place + (length word + 1)) words)
 

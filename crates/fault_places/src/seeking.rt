@@ -1,6 +1,6 @@
 //! Whether a word has a fault of a given cause.
 ghost use Rattle.std.specs.Prelude.{◌≡◌, is_err};
-ghost use Rattle.fault_places.specs.Spots.{is_name, is_unknown, is_partner, is_again, is_too_many, is_wrong, named_by, inner};
+ghost use Rattle.fault_places.specs.Spots.{is_name, is_unknown, is_partner, is_again, is_too_many, other_line, instead, is_wrong, named_by, inner};
 ghost use Rattle.texts.specs.Lines.{words_of, name_or_cause};
 
 use crate::cutting::is_named;
@@ -82,16 +82,43 @@ fn is_again(line: &[u8], want: Want, index: usize, word: &[u8]) -> bool
     }
 }
 
-/// Whether this is the instance that is one too many, or the end of a chart with too few.
+/// Whether this is the instance that is one too many, or in a chart the line that begins it, or that ends a chart with
+/// too few.
 #[tactic(auto, unfolding(crate::specs::Spots::is_too_many))]
-fn is_too_many(want: Want, index: usize, word: &[u8]) -> bool
-    ensures { result ≡ is_too_many want index word.now }
+fn is_too_many(want: Want, index: usize) -> bool
+    ensures { result ≡ is_too_many want index }
 {
     match want {
         Want::OtherName => index == MAX_INSTANCES + 1,
-        Want::InstanceName => true,
-        Want::InstanceOrEnd => is(word, b"endmsc;"),
+        Want::InstanceOrEnd => true,
         _ => false,
+    }
+}
+
+/// What may be in the place of the line that begins one instance too many, or that ends a chart with too few.
+fn other_line(word: &[u8]) -> Want
+    ensures { result ≡ other_line word.now }
+{
+    if is(word, b"endmsc;") {
+        Want::NextInstance
+    } else {
+        Want::End
+    }
+}
+
+/// What may be in the place of a word that has a fault of this cause. If there are too many instances, or too few, it
+/// isn't what the form of the line allows there.
+#[tactic(auto, unfolding(crate::specs::Spots::instead))]
+pub(crate) fn instead(cause: Cause, want: Want, word: &[u8]) -> Want
+    ensures { result ≡ instead cause want word.now }
+{
+    match cause {
+        Cause::Instances => match want {
+            Want::OtherName => Want::LineEnd,
+            Want::InstanceOrEnd => other_line(word),
+            _ => want,
+        },
+        _ => want,
     }
 }
 
@@ -112,7 +139,7 @@ pub(crate) fn is_wrong(
         Cause::UnknownInstance => is_unknown(known, want, word),
         Cause::ToItself => is_partner(want),
         Cause::Duplicate => is_again(line, want, index, word),
-        Cause::Instances => is_too_many(want, index, word),
+        Cause::Instances => is_too_many(want, index),
         Cause::Capacity => want == Want::Slots,
         Cause::LineFull => true,
         Cause::Syntax => false,

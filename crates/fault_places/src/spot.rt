@@ -3,7 +3,7 @@ ghost use Rattle.std.specs.Prelude.{◌≡◌, ◌≤◌, length};
 ghost use Rattle.fault_places.specs.Spots.{spot_of};
 
 use crate::cutting::cut_word;
-use crate::seeking::{inner, is_wrong};
+use crate::seeking::{inner, instead, is_wrong};
 use crate::want::{Want, next};
 use texts::Cause;
 
@@ -32,7 +32,7 @@ pub fn spot_in(cause: Cause, known: &[u8], line: &[u8], begin: Want) -> Spot
         if is_wrong(cause, known, line, want, index, word) {
             return Spot {
                 place: place + inner(cause).min(word.len()),
-                want,
+                want: instead(cause, want, word),
             };
         }
         let Some(behind) = next(want, word) else {

@@ -39,6 +39,10 @@ pub enum Want {
     ChartName,
     /// `instance`, or `endmsc;`.
     InstanceOrEnd,
+    /// `instance`: the chart has too few of them to end.
+    NextInstance,
+    /// `endmsc;`: the chart has as many instances as it may have.
+    End,
     /// The name of an instance that begins, and a semicolon.
     InstanceName,
     /// The first word of an event, `concurrent;` or `endinstance;`.

@@ -6,8 +6,10 @@ pub mod ItemLemmas
 pub mod LineLemmas
 pub mod NumberLemmas
 pub mod OriginLemmas
+pub mod OwnLineLemmas
 pub mod PlacedLemmas
 pub mod PossibleLemmas
 pub mod RoundLemmas
+pub mod TakenSendLemmas
 pub mod TurnLemmas
 pub mod WalkLemmas

@@ -1,3 +1,4 @@
 pub mod ChartLines
+pub mod ChartOrder
 pub mod Drawing
 pub mod Listing

@@ -6,10 +6,13 @@
 //! - The events of a host are its lines, in their order, without the skipped lines and with the invented sends. All of
 //!   these are listed.
 //! - Each receive has the send that the rules of `log_chart` and `log_chart::cycles` give it.
+//! - The chart puts the event of a line before that of another line only if the log does ([`chart_order_law`]).
 
 mod chart_lines;
 mod drawing;
+mod laws;
 mod listing;
 
 pub use drawing::{DrawError, LogChart, draw};
+pub use laws::chart_order_law;
 pub use listing::Overtaking;

@@ -1,3 +1,4 @@
+pub mod ChartLemmas
 pub mod EndLemmas
 pub mod MessageLemmas
 pub mod OrderLemmas

@@ -1,3 +1,4 @@
+pub mod ChartOrder
 pub mod Ends
 pub mod Hearing
 pub mod Messages

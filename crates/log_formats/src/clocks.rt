@@ -8,7 +8,7 @@
 //! - So each message that follows from clocks goes to an event whose clock has the event of its send.
 //!
 //! If clocks are vector time, an event comes before another one only if its clock is less. This holds in the log
-//! ([`order_law`]), and in what is read of it by clocks alone ([`read_law`]).
+//! ([`order_law`]), in what is read of it by clocks alone ([`read_law`]), and in its chart ([`clock_chart_law`]).
 
 mod ends;
 mod heard;
@@ -18,5 +18,5 @@ mod saying;
 mod stamp;
 mod tables;
 
-pub use laws::{order_law, read_law};
+pub use laws::{clock_chart_law, order_law, read_law};
 pub use saying::{Timed, by_clocks};

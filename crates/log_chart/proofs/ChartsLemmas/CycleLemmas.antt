@@ -29,6 +29,7 @@ use Rattle.log_chart.proofs.ChartsLemmas.LineLemmas.{chart_of_log, line_is, host
 use Rattle.log_chart.proofs.ChartsLemmas.OriginLemmas.{IsBehind, behind_is}
 use Rattle.log_chart.specs.NameOrder.{by_name}
 use Rattle.log_chart.proofs.NameOrderLemmas.{are_up_to}
+use Rattle.log_chart.proofs.ChartsLemmas.OwnLineLemmas.{own_lines_rise}
 use Rattle.log_chart.proofs.ChartsLemmas.PlacedLemmas.{Placed, placed, items_placed, IsOf, placed_are, IsUp, placed_up}
 use Rattle.log_chart.proofs.ChartsLemmas.PlacedLemmas.IsOf.{head, own, after}
 use Rattle.log_chart.proofs.ChartsLemmas.RoundLemmas.{no_cycle}
@@ -238,3 +239,32 @@ module _ (n : ℕ) (from to : ℕ → ℕ) (log : List Entry) (lanes : AreOfLane
 
   pub never_cyclic : HasNone (kept log) → IsCyclic (chart_of_log n log) → ⊥
   never_cyclic none (e, way) = never_sooner Lines none (stands_at e) e (sooner_before e e way)
+
+  -- an event of a line of the log belongs to this line
+  own_stands : (e : Place) (x : Item) (a : ℕ) → ith (line_of n log e.instance) e.index ≡ Some x → x.line ≡ Some a → stands_at e ≡ Some a
+  own_stands e x a x_is is =
+      let w = placed_at e x x_is in
+      ap stands_of w.1 ∙ go w.0 w.2 (placed_are n (by_name n log) (are_up_to n log) Lines (begun Lines) e.instance e.index w.0 w.1)
+    where
+      go : (w : Placed) → w.item ≡ x → IsOf n Lines (begun Lines) e.instance w → w.stands ≡ Some a
+      go w same (head p r low high there item none) = absurd (let none_is = ap (λ (i : Item). i.line) (sym item ∙ same) ∙ is in cc none_is)
+      go w same (own y y_in y_host item stands) = stands ∙ ap (λ (i : Item). i.line) (sym item ∙ same) ∙ is
+      go w same (after y r y_in y_host there item stands) = absurd (let none_is = ap (λ (i : Item). i.line) (sym item ∙ same) ∙ is in cc none_is)
+
+  -- two events of a host that are lines of the log
+  own_less : (e f : Place) (x y : Item) (a b : ℕ) → ith (line_of n log e.instance) e.index ≡ Some x → ith (line_of n log f.instance) f.index ≡ Some y → x.line ≡ Some a → y.line ≡ Some b
+      → e.instance ≡ f.instance → e.index < f.index → a < b
+  own_less e f x y a b x_is y_is x_line y_line same less =
+      let w = placed_at e x x_is in
+      let v = placed_at f y y_is in
+      own_lines_rise (by_name n log) (kept log) (begun (kept log)) f.instance e.index f.index w.0 v.0 a b (kept_rises log)
+      (subst (λ q. ith (Host q) e.index ≡ Some w.0) same w.1) v.1 less (ap (λ (i : Item). i.line) w.2 ∙ x_line) (ap (λ (i : Item). i.line) v.2 ∙ y_line)
+
+  pub logged_before : (e f : Place) (x y : Item) (a b : ℕ) → ith (line_of n log e.instance) e.index ≡ Some x → ith (line_of n log f.instance) f.index ≡ Some y → x.line ≡ Some a → y.line ≡ Some b
+      → Before (chart_of_log n log) e f → Comes (kept log) a b
+  logged_before e f x y a b x_is y_is x_line y_line way =
+      go (subst (λ s. IsSooner Lines s (Some b) e f) (own_stands e x a x_is x_line) (subst (λ s. IsSooner Lines (stands_at e) s e f) (own_stands f y b y_is y_line) (sooner_before e f way)))
+    where
+      go : Comes Lines a b ⊎ ((a ≡ b) × (e.instance ≡ f.instance) × (e.index < f.index)) → Comes Lines a b
+      go (inl comes) = comes
+      go (inr its) = absurd (let less = own_less e f x y a b x_is y_is x_line y_line its.1 its.2 in omega (arith, its.0, less))

@@ -52,15 +52,15 @@ items_placed hosts lines given q =
     ∙ ap₂ (λ (a b : List Item). a ++ b) (item_back None (heads_in (heads given q) hosts)) (lines_placed given q lines)
 
 -- a fact of each element of a list, and of each with each later one
-abbrev Each : (Placed → Type 0) → List Placed → Type 0
+abbrev pub Each : (Placed → Type 0) → List Placed → Type 0
 Each P [] = Unit {0}
 Each P (w ∷ ws) = P w × Each P ws
 
-abbrev Pairs : (Placed → Placed → Type 0) → List Placed → Type 0
+abbrev pub Pairs : (Placed → Placed → Type 0) → List Placed → Type 0
 Pairs R [] = Unit {0}
 Pairs R (w ∷ ws) = Each (R w) ws × Pairs R ws
 
-each_append : (P : Placed → Type 0) (xs ys : List Placed) → Each P xs → Each P ys → Each P (xs ++ ys)
+pub each_append : (P : Placed → Type 0) (xs ys : List Placed) → Each P xs → Each P ys → Each P (xs ++ ys)
 each_append P [] ys first rest = rest
 each_append P (w ∷ xs) ys first rest = (first.0, each_append P xs ys first.1 rest)
 
@@ -70,11 +70,11 @@ each_at P [] (suc i) w all is = absurd (none-some w is)
 each_at P (v ∷ ws) (suc zero) w all is = subst P (same_Some v w is) all.0
 each_at P (v ∷ ws) (suc (suc i)) w all is = each_at P ws (suc i) w all.1 is
 
-pairs_append : (R : Placed → Placed → Type 0) (xs ys : List Placed) → Pairs R xs → Pairs R ys → Each (λ w. Each (R w) ys) xs → Pairs R (xs ++ ys)
+pub pairs_append : (R : Placed → Placed → Type 0) (xs ys : List Placed) → Pairs R xs → Pairs R ys → Each (λ w. Each (R w) ys) xs → Pairs R (xs ++ ys)
 pairs_append R [] ys first rest across = rest
 pairs_append R (w ∷ xs) ys first rest across = (each_append (R w) xs ys first.0 across.0, pairs_append R xs ys first.1 rest across.1)
 
-pairs_at : (R : Placed → Placed → Type 0) (ws : List Placed) (i j : ℕ) (w v : Placed) → Pairs R ws → ith ws i ≡ Some w → ith ws j ≡ Some v → i < j → R w v
+pub pairs_at : (R : Placed → Placed → Type 0) (ws : List Placed) (i j : ℕ) (w v : Placed) → Pairs R ws → ith ws i ≡ Some w → ith ws j ≡ Some v → i < j → R w v
 pairs_at R ws zero j w v all w_is v_is less = absurd (none-some w w_is)
 pairs_at R [] (suc i) j w v all w_is v_is less = absurd (none-some w w_is)
 pairs_at R (u ∷ ws) (suc i) zero w v all w_is v_is less = absurd (none-some v v_is)

@@ -1,8 +1,9 @@
 -- Turns of freeing: each frees one more receive.
 use Rattle.std.proofs.Common.{◌≡◌, ℕ, zero, suc, ◌+◌, ◌<◌, ◌≤◌, Bool, true, false, cond, List, [], ◌∷◌, None, Some, length, set, get_or, refl, sym, ap, ◌∙◌, subst, arith}
-use Rattle.std.specs.Prelude.{All, AllPairs, Contains}
+use Rattle.std.specs.Prelude.{All, AllPairs, Contains, slice_get}
 use Rattle.std.proofs.lemmas.Bool.{false≢true}
 use Rattle.std.proofs.lemmas.List.Elements.{All-cons, All-nil, All-head, All-tail, All-filter, All-contains, All-weaker}
+use Rattle.std.proofs.lemmas.Option.{slice_get-get_or}
 use Rattle.chart.specs.Histories.{AreTwo}
 use Rattle.log_chart.specs.Chains.{first_of}
 use Rattle.log_chart.specs.Entries.{is_send, takes, HaveStreams}
@@ -50,6 +51,13 @@ lines_of_from left n (e ∷ log) =
 
 pub kept_lines_of : (log : List Entry) → All (IsLineOf log 0) (kept log)
 kept_lines_of log = All-filter (λ x. stays (fate_of (matched log) x)) (IsLineOf log 0) (matched log) (lines_of_from (sends_from 0 log) 0 log)
+
+-- a line that stays has the entry with its number
+pub kept_entry : (log : List Entry) (x : LogLine) → Contains (kept log) x → slice_get log x.number ≡ Some x.entry
+kept_entry log x x_in =
+    let w = All-contains (IsLineOf log 0) (kept log) x (kept_lines_of log) x_in in
+    let same : x.number ≡ w.1 = omega (arith, w.4) in
+    ap (slice_get log) same ∙ slice_get-get_or log w.1 w.0 w.2 ∙ ap Some (w.3 ∙ sym w.5)
 
 -- the same in the words of this crate's contracts
 above_all : (n : ℕ) (lines : List LogLine) → IsAbove n lines → (k : ℕ) (d : LogLine) → k < length lines → n < (get_or lines k d).number

@@ -1,4 +1,5 @@
 //! Laws of logs whose clocks are vector time.
+ghost use Rattle.log_formats.specs.Clocks.ChartOrder.{ClockChartLaw};
 ghost use Rattle.log_formats.specs.Clocks.ReadOrder.{ReadLaw};
 ghost use Rattle.log_formats.specs.Clocks.VectorTime.{OrderLaw};
 
@@ -13,4 +14,10 @@ pub fn order_law()
 /// their id.
 pub fn read_law()
     ensures { ReadLaw }
+{}
+
+/// In the chart of such a log an event of the log is before another one only if their clocks say so, whichever receives
+/// are freed and whichever sends are invented.
+pub fn clock_chart_law()
+    ensures { ClockChartLaw }
 {}

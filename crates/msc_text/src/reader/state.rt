@@ -4,7 +4,7 @@ use chart::Name;
 
 /// How far a coregion has come.
 #[derive(Clone, Copy, Debug)]
-pub(crate) enum Region {
+pub enum Region {
     /// No coregion is open.
     Closed,
     /// A coregion is open, and has no receive yet.
@@ -15,7 +15,7 @@ pub(crate) enum Region {
 
 /// The state of the reader between two lines: what it has read so far.
 #[derive(Clone, Copy, Debug)]
-pub(crate) enum State {
+pub enum State {
     /// Nothing.
     Start,
     /// The first line of the text, and whole instances.
@@ -32,7 +32,7 @@ pub(crate) enum State {
 
 /// What a line means.
 #[derive(Clone, Copy, Debug)]
-pub(crate) enum Saying {
+pub enum Saying {
     /// The chart begins.
     Begin,
     /// The instance with this name begins.

@@ -1,0 +1,113 @@
+-- What the caret of a fault in a chart's text promises, over the definitions that read its lines (this project's profile of
+-- the text of ITU-T Z.120).
+use Rattle.std.specs.Prelude.{◌≡◌, ℕ, ◌+◌, ◌-◌, Bool, true, false, List, [], ◌∷◌, ◌++◌, length, take, drop, min, Option, Some, Err, codes}
+use Rattle.std.specs.List.{AllByRecursion}
+use Rattle.chart.specs.Names.{IsName}
+use Rattle.chart.specs.Words.{Name, Text}
+use Rattle.fault_places.specs.Carets.{fault_of, is_past, turn, has_form, IsPlace, GoesOn, Stops, Takes}
+use Rattle.fault_places.specs.Spots.{first_of, inner, spot_of}
+use Rattle.fault_places.specs.Standings.{line_at, first_or}
+use Rattle.fault_places.specs.declared.spot.Spot.{Spot}
+use Rattle.fault_places.specs.declared.want.Want.{Want}
+use Rattle.fault_places.specs.declared.want.Want.TheVariants as wants
+use Rattle.msc_text.specs.Reader.LastWords.{semi}
+use Rattle.msc_text.specs.Reader.Reading.{names_after, look_from, names_in}
+use Rattle.msc_text.specs.Reader.Steps.{step_by}
+use Rattle.msc_text.specs.declared.reader.state.State.{State}
+use Rattle.msc_text.specs.declared.reader.state.State.TheVariants as states
+use Rattle.msc_text.specs.declared.reader.state.Region.TheVariants as regions
+use Rattle.texts.specs.Faults.{◌>>=◌}
+use Rattle.texts.specs.Lines.{lines_of, end_of, words_of}
+use Rattle.texts.specs.declared.fault.Cause.{Cause}
+use Rattle.texts.specs.declared.fault.Cause.TheVariants as causes
+use Rattle.texts.specs.declared.fault.Fault.TheVariants.{Line}
+
+-- Readers of a line, by its words.
+
+-- what may be at the beginning of a line in this state
+abbrev pub want_of : State → Want
+want_of states.Start = wants.Msc
+want_of states.Outside = wants.InstanceOrEnd
+want_of (states.Inside own events regions.Closed) = wants.Event
+want_of (states.Inside own events regions.Empty) = wants.OpenedEvent
+want_of (states.Inside own events regions.Held) = wants.HeldEvent
+want_of states.Done = wants.ChartEnd
+
+-- the fault of a line with these words in this state, after instances with these names, as the first look finds it
+abbrev pub line_fault : List Name → State → List Text → Option Cause
+line_fault names state words = fault_of (step_by state words >>= λ step. names_after names step.0)
+
+-- a line of a chart isn't refused for its form exactly if each of its words may be where it is
+abbrev pub ChartFormLaw : Type 0
+ChartFormLaw = (names : List Name) (state : State) (words : List Text)
+    → is_past 0 (line_fault names state words) ≡ has_form (want_of state) words
+
+-- The caret.
+
+-- each word that may be after these words, by this description, begins a line that passes the checks up to this turn
+abbrev pub MayBe : (List Text → Option Cause) → ℕ → List Text → Want → Type 0
+MayBe read n before wants.Msc = Takes read n before (codes "msc")
+MayBe read n before wants.ChartName = Takes read n before (codes "run;")
+MayBe read n before wants.InstanceOrEnd = AllByRecursion (Takes read n before) (codes "instance" ∷ codes "endmsc;" ∷ [])
+MayBe read n before wants.InstanceName = (name : Name) → IsName name → Takes read n before (semi name)
+MayBe read n before wants.Event = AllByRecursion (Takes read n before) (
+    codes "out" ∷ codes "in" ∷ codes "concurrent;" ∷ codes "endinstance;" ∷ []
+    )
+MayBe read n before wants.OpenedEvent = Takes read n before (codes "in")
+MayBe read n before wants.HeldEvent = AllByRecursion (Takes read n before) (codes "in" ∷ codes "endconcurrent;" ∷ [])
+MayBe read n before wants.Sent = (name : Name) → IsName name → Takes read n before name
+MayBe read n before wants.Received = (name : Name) → IsName name → Takes read n before name
+MayBe read n before wants.To = Takes read n before (codes "to")
+MayBe read n before wants.From = Takes read n before (codes "from")
+MayBe read n before wants.Receiver = (name : Name) → IsName name → Takes read n before (semi name)
+MayBe read n before wants.Sender = (name : Name) → IsName name → Takes read n before (semi name)
+MayBe read n before wants.LineEnd = is_past n (read before) ≡ true
+MayBe read n before _ = Unit {0}
+
+-- some line may come in this state: none after the end of the chart
+abbrev pub may_go_on : State → Bool
+may_go_on states.Done = false
+may_go_on _ = true
+
+-- The caret of a fault of this cause is at the first word with which a line can't pass the checks up to its turn. With
+-- each word that may be there a line can pass them.
+pub record IsChartCaret (read : List Text → Option Cause) (state : State) (cause : Cause) (words : List Text) (spot : Spot) : Type 0 where
+  pub before : List Text
+  pub from : List Text
+  pub are : words ≡ before ++ from
+  pub word : ℕ
+  pub at_word : IsPlace word before from
+  pub place : spot.place ≡ word + min (inner cause) (length (first_of from))
+  pub goes_on : may_go_on state ≡ true → GoesOn read (turn cause) before
+  pub stops : Stops read (turn cause) before from
+  pub may_be : MayBe read (turn cause) before spot.want
+
+-- The text.
+
+-- the lines above the line with this number, from 1
+abbrev pub lines_above : Text → ℕ → List Text
+lines_above bytes number = take (number - 1) (lines_of bytes)
+
+-- the line with this number, or the text after the last line feed
+abbrev pub line_in : Text → ℕ → Text
+line_in bytes number = first_or (end_of bytes) (drop (number - 1) (lines_of bytes))
+
+-- the first look reads these lines from the top, and goes on after them in this state, with these names
+pub record AreRead (above : List Text) (names : List Name) (state : State) : Type 0 where
+  pub go_on : (lines : List Text) (rest : Text)
+      → look_from [] states.Start 1 (above ++ lines) rest ≡ look_from names state (length above + 1) lines rest
+
+-- where the first look finds a fault of this cause
+pub record IsFaultAt (first bytes : Text) (number : ℕ) (cause : Cause) : Type 0 where
+  pub names : List Name
+  pub state : State
+  pub read : AreRead (lines_above bytes number) names state
+  pub begin : line_at wants.Msc (lines_above bytes number) ≡ want_of state
+  pub fault : line_fault names state (words_of (line_in bytes number)) ≡ Some cause
+  pub caret : IsChartCaret (line_fault names state) state cause (words_of (line_in bytes number))
+      (spot_of cause first (line_in bytes number) (line_at wants.Msc (lines_above bytes number)))
+
+-- a line that is refused for its form, whatever the first line of the text is taken for
+abbrev pub ChartFormCaretLaw : Type 0
+ChartFormCaretLaw = (first bytes : Text) (number : ℕ) → names_in bytes ≡ Err (Line number causes.Syntax)
+    → IsFaultAt first bytes number causes.Syntax
