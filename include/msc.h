@@ -25,10 +25,10 @@
  *   - All calls use one allocator. No call is made in a signal handler, nor in a forked child of a process with
  *     threads.
  *
- * ANSWERS. No call waits. 0 is done. 1 means that no message waits. 2 means that none waits and none will come, since
- * the lane is closed. A number below 0 is a refusal: -N for the refusal FN, -100 for a misuse. A misuse is a null
- * pointer, a handle wrongly empty or wrongly in use, posts of two boards, or a wrong number of names. A refused call
- * changes nothing, except that the post may have seen more. msc_refusal_text gives each answer in words.
+ * ANSWERS. No call waits. 0 is done. 1 means that no message waits. 2 means that none waits and none will come. A
+ * number below 0 is a refusal: -N for the refusal FN, -100 for a misuse. A misuse is a null pointer, a handle wrongly
+ * empty or in use, posts of two boards, or a wrong number of names. A refused call changes nothing, except that the
+ * post may have seen more. Which of several refusals is first: docs/reference/refusals.md. In words: msc_refusal_text.
  */
 #ifndef MSC_H
 #define MSC_H

@@ -157,19 +157,19 @@ borne_at left_out left closed_out closed posts answer answered after same_left s
 
 untaken : (it : Gathered) (old : List (Option Kept)) (room : List ℕ) (error : Refusal) (new : List (Option Kept)) → TakesPosts old (Err error) new → CarriesGathered it old room (Err error) it new room
 untaken it old room why.Misuse new its = (record { rest = refl; left = refl; out_is = refl }, its.0, its.1)
-untaken it old room why.OtherBoard new its = (record { rest = refl; left = refl; out_is = refl }, its.0, its.1)
+untaken it old room why.OtherBoard new its = (record { rest = refl; left = refl; out_is = refl }, its.0, its.1.0)
 untaken it old room why.NotAllPosts new its = (record { rest = refl; left = refl; out_is = refl }, its.0, record { seats = []; kept = its.1; lacking = tt })
-untaken it old room why.Memory new its = (record { rest = refl; left = refl; out_is = refl }, no_lists old new its.0 its.1)
-untaken it old room (why.Naming error) new its = absurd its
-untaken it old room why.BodyTooLong new its = absurd its
-untaken it old room why.NoInstance new its = absurd its
-untaken it old room why.NoEvent new its = absurd its
-untaken it old room why.NameTwice new its = absurd its
-untaken it old room (why.Opening error) new its = absurd its
-untaken it old room (why.Sending error) new its = absurd its
-untaken it old room (why.Taking error) new its = absurd its
-untaken it old room (why.Closing error) new its = absurd its
-untaken it old room (why.Region error) new its = absurd its
+untaken it old room why.Memory new its = (record { rest = refl; left = refl; out_is = refl }, no_lists old new its.0 its.1.0)
+untaken it old room (why.Naming error) new its = absurd its.1
+untaken it old room why.BodyTooLong new its = absurd its.1
+untaken it old room why.NoInstance new its = absurd its.1
+untaken it old room why.NoEvent new its = absurd its.1
+untaken it old room why.NameTwice new its = absurd its.1
+untaken it old room (why.Opening error) new its = absurd its.1
+untaken it old room (why.Sending error) new its = absurd its.1
+untaken it old room (why.Taking error) new its = absurd its.1
+untaken it old room (why.Closing error) new its = absurd its.1
+untaken it old room (why.Region error) new its = absurd its.1
 
 -- the posts weren't taken out
 pub carry_refused : (it : Gathered) (old : List (Option Kept)) (room : List ℕ) (result : Result ℕ Refusal) (error : Refusal) (new : List (Option Kept)) → IsErrAnd result (λ e. e ≡ error) → TakesPosts old (Err error) new

@@ -1,5 +1,5 @@
 -- The effect of a meeting of posts that were taken out of handles.
-use Rattle.std.proofs.Common.{◌≡◌, zero, suc, List, [], ◌∷◌, map, refl, sym, ap, ◌∙◌, subst}
+use Rattle.std.proofs.Common.{◌≡◌, zero, suc, List, [], ◌∷◌, map, length, refl, sym, ap, ◌∙◌, subst}
 use Rattle.std.specs.Prelude.{slice_get, true, Option, None, Some, Ok, Err, Result}
 use Rattle.chart.specs.declared.history.Occurrence.{Occurrence}
 use Rattle.board.specs.Views.{PostView}
@@ -65,7 +65,7 @@ seats_kept (state ∷ seats) (suc i) kept there = seats_kept seats i kept there
 
 -- the posts are put back
 pub met_again : (chairs : List Chair) (posts new : List PostView) (olds news : List (Option Kept)) (answer : Result (Unit {0}) Refusal) → AreFit chairs posts → olds ≡ kept_seats (seats_with chairs posts)
-    → KeepPosts olds → MeetsParked posts answer new → news ≡ kept_seats (seats_with chairs new) → Meets olds answer news
+    → (KeepPosts olds × (length olds ≡ 0 → ⊥)) → MeetsParked posts answer new → news ≡ kept_seats (seats_with chairs new) → Meets olds answer news
 met_again chairs posts new olds news (Ok done) fit kept keep its put = record {
   seats = seats_with chairs posts;
   kept = kept;

@@ -73,11 +73,17 @@ pub record AreTaken (old : List (Option Kept)) (chairs : List Chair) (posts : Li
   pub fit : AreFit chairs posts
   pub empty : AreEmpty new
 
+-- The first of these that applies keeps posts from being taken out of handles (docs/reference/refusals.md): that there
+-- are no handles, F15; that one of them keeps no post, which is a misuse; memory for the lists, F6; and that the posts
+-- are of two boards, as far as that can be told, which is a misuse too.
+abbrev pub IsFirstOfTaking : List (Option Kept) → Refusal → Type 0
+IsFirstOfTaking old why.NotAllPosts = old ≡ []
+IsFirstOfTaking old why.Misuse = IsOneNoPost old
+IsFirstOfTaking old why.Memory = KeepPosts old × (length old ≡ 0 → ⊥)
+IsFirstOfTaking old why.OtherBoard = KeepPosts old × (length old ≡ 0 → ⊥)
+IsFirstOfTaking old _ = ⊥
+
 -- what taking the posts out of handles answers
 abbrev pub TakesPosts : List (Option Kept) → Result Taken Refusal → List (Option Kept) → Type 0
 TakesPosts old (Ok it) new = AreTaken old it.chairs.items it.posts.items new × (length old ≡ 0 → ⊥)
-TakesPosts old (Err why.Misuse) new = (new ≡ old) × IsOneNoPost old
-TakesPosts old (Err why.NotAllPosts) new = (new ≡ old) × (old ≡ [])
-TakesPosts old (Err why.OtherBoard) new = (new ≡ old) × KeepPosts old
-TakesPosts old (Err why.Memory) new = (new ≡ old) × KeepPosts old
-TakesPosts old (Err _) new = ⊥
+TakesPosts old (Err refusal) new = (new ≡ old) × IsFirstOfTaking old refusal

@@ -35,25 +35,20 @@ abbrev pub AreSeated : BoardView → List (Option Kept) → Type 0
 AreSeated board all = (i : ℕ) (kept : Option Kept) → slice_get all i ≡ Some kept
     → kept ≡ Some (Post (seated (new_post board (suc i))))
 
+-- The first of these that applies refuses to open a board (docs/reference/refusals.md): that a handle is in use, which
+-- is a misuse; that no board has so many instances, F8, or lanes of so many slots, F9; and memory, F6.
+abbrev pub IsFirstOfOpening : ℕ → List (Option Kept) → Refusal → Type 0
+IsFirstOfOpening k old why.Misuse = IsOneFull old
+IsFirstOfOpening k old (why.Opening error) = AreEmpty old × IsUnmade (length old) k error
+IsFirstOfOpening k old why.Memory = AreEmpty old × IsSized (length old) k
+IsFirstOfOpening k old _ = ⊥
+
 -- what opening a board answers: its lanes have k slots, and it has an instance for each of the handles, which kept
 -- nothing
 abbrev pub Opens : ℕ → List (Option Kept) → Result (Unit {0}) Refusal → List (Option Kept) → Type 0
 Opens k old (Ok done) new = AreEmpty old × IsSized (length old) k × (length new ≡ length old)
     × (table : TableId) × AreSeated (record { table = table; size = length old; capacity = k }) new
-Opens k old (Err why.Misuse) new = (new ≡ old) × IsOneFull old
-Opens k old (Err (why.Opening error)) new = (new ≡ old) × IsUnmade (length old) k error
-Opens k old (Err why.Memory) new = (new ≡ old) × IsSized (length old) k
-Opens k old (Err (why.Naming error)) new = ⊥
-Opens k old (Err why.BodyTooLong) new = ⊥
-Opens k old (Err why.NoInstance) new = ⊥
-Opens k old (Err why.NoEvent) new = ⊥
-Opens k old (Err why.NotAllPosts) new = ⊥
-Opens k old (Err why.OtherBoard) new = ⊥
-Opens k old (Err why.NameTwice) new = ⊥
-Opens k old (Err (why.Sending error)) new = ⊥
-Opens k old (Err (why.Taking error)) new = ⊥
-Opens k old (Err (why.Closing error)) new = ⊥
-Opens k old (Err (why.Region error)) new = ⊥
+Opens k old (Err refusal) new = (new ≡ old) × IsFirstOfOpening k old refusal
 
 -- what boxes with these posts keep, in their order
 abbrev pub seats_of : List PostView → List Kept

@@ -1,5 +1,5 @@
 -- What a receive of several messages over a handle answers, and how they are described (this project's profile).
-use Rattle.std.specs.Prelude.{◌≡◌, ℕ, List, [], length, map, Option, None, Some, Result, Ok, Err}
+use Rattle.std.specs.Prelude.{◌≡◌, ◌≤◌, ℕ, List, length, map, Option, None, Some, Result, Ok, Err}
 use Rattle.std.specs.Global.{Vec}
 use Rattle.board.specs.declared.answer.Arrival.{Arrival}
 use Rattle.board.specs.declared.answer.TakenMany.TheVariants as taken
@@ -15,7 +15,7 @@ use Rattle.c_board.specs.declared.refusal.Refusal.TheVariants as why
 use Rattle.c_board.specs.Copying.{put_over}
 use Rattle.c_board.specs.Receiving.{arrived_of}
 use Rattle.c_board.specs.PostStates.{PostStateView, Keeps}
-use Rattle.c_board.specs.Sending.{IsNoInstance}
+use Rattle.c_board.specs.Sending.{IsNoInstance, MayBeInstance}
 
 -- the messages stay in the handle; each is described, in their order, and they are counted
 pub record AreOutput (arrivals : List Arrival) (from : ℕ) (room : List Arrived) (count : ℕ) (new : PostStateView)
@@ -24,6 +24,16 @@ pub record AreOutput (arrivals : List Arrival) (from : ℕ) (room : List Arrived
   pub many : count ≡ length arrivals
   pub stay : new.came ≡ arrivals
   pub last : new.last ≡ from
+
+-- The first of these that applies refuses a receive of several messages over a seated post (docs/reference/refusals.md):
+-- that no instance has the number, F14; that there is no room to tell of one, which is a misuse; and the first of what the
+-- post's own call refuses.
+abbrev pub IsFirstOfTakeMany : PostStateView → ℕ → ℕ → Refusal → PostStateView → Type 0
+IsFirstOfTakeMany old from most why.NoInstance new = (new ≡ old) × IsNoInstance from
+IsFirstOfTakeMany old from most why.Misuse new = (new ≡ old) × MayBeInstance from × (most ≡ 0)
+IsFirstOfTakeMany old from most (why.Taking error) new = MayBeInstance from × (1 ≤ most) × Keeps old new
+    × Sound old.post new.post × TakesMany old.post from most (Err error) new.post
+IsFirstOfTakeMany old from most _ new = ⊥
 
 -- what a receive of several messages answers for a seated post: the same as the post's own call, for at most as many as
 -- there are places for descriptions
@@ -35,11 +45,8 @@ SeatTakesMany old from room (Ok Nothing) new output = Keeps old new × (output �
     × TakesMany old.post from (length room) (Ok taken.Nothing) new.post
 SeatTakesMany old from room (Ok Ended) new output = Keeps old new × (output ≡ room) × Sound old.post new.post
     × TakesMany old.post from (length room) (Ok taken.Ended) new.post
-SeatTakesMany old from room (Err (why.Taking error)) new output = Keeps old new × (output ≡ room) × Sound old.post new.post
-    × TakesMany old.post from (length room) (Err error) new.post
-SeatTakesMany old from room (Err why.NoInstance) new output = (new ≡ old) × (output ≡ room) × IsNoInstance from
-SeatTakesMany old from room (Err why.Misuse) new output = (new ≡ old) × (output ≡ room) × (room ≡ [])
-SeatTakesMany old from room (Err _) new output = ⊥
+SeatTakesMany old from room (Err refusal) new output = (output ≡ room)
+    × IsFirstOfTakeMany old from (length room) refusal new
 
 -- the same for what a handle keeps
 abbrev pub KeptTakesMany : Kept → ℕ → List Arrived → Result FoundMany Refusal → Kept → List Arrived → Type 0

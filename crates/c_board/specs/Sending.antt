@@ -17,30 +17,36 @@ use Rattle.c_board.specs.PostStates.{PostStateView, Keeps}
 abbrev pub IsNoInstance : ℕ → Type 0
 IsNoInstance number = (number < 1) ⊎ (MAX_INSTANCES < number)
 
+-- it is one of these; whether the board has such an instance is asked later
+abbrev pub MayBeInstance : ℕ → Type 0
+MayBeInstance number = (1 ≤ number) × (number ≤ MAX_INSTANCES)
+
 -- the bytes make a message
 pub record IsMessage (name body : List ℕ) : Type 0 where
   pub is_name : IsName name
   pub short : length body ≤ MAX_BODY
 
+-- The first of these that applies refuses the bytes of a message (docs/reference/refusals.md): the first fault of the
+-- name, F1 to F4; that the body is too long, F5; memory for the body, F6.
+abbrev pub IsFirstOfMessage : List ℕ → List ℕ → Refusal → Type 0
+IsFirstOfMessage name body (why.Naming error) = name_of name ≡ Err error
+IsFirstOfMessage name body why.BodyTooLong = IsName name × (MAX_BODY < length body)
+IsFirstOfMessage name body why.Memory = IsMessage name body
+IsFirstOfMessage name body _ = ⊥
+
+-- The first of these that applies refuses a send over a seated post (docs/reference/refusals.md): that no instance has
+-- the number, F14; what refuses the bytes of the message, F1 to F6; and the first of what the post's own send refuses.
+abbrev pub IsFirstOfSend : PostStateView → ℕ → List ℕ → List ℕ → Refusal → PostStateView → Type 0
+IsFirstOfSend old to name body why.NoInstance new = (new ≡ old) × IsNoInstance to
+IsFirstOfSend old to name body (why.Sending error) new = MayBeInstance to × IsMessage name body × Keeps old new
+    × Sound old.post new.post × Stays old.post new.post × IsUnsent old.post to 1 error new.post
+IsFirstOfSend old to name body refusal new = (new ≡ old) × MayBeInstance to × IsFirstOfMessage name body refusal
+
 -- what a send answers for a seated post: the same as the post's own send, if the bytes make a message
 abbrev pub SeatSends : PostStateView → ℕ → List ℕ → List ℕ → Result EventNo Refusal → PostStateView → Type 0
 SeatSends old to name body (Ok event) new = IsMessage name body × Keeps old new × Sound old.post new.post
     × IsSent old.post to (record { name = name; body = body }) (record { event = event }) new.post
-SeatSends old to name body (Err (why.Naming error)) new = (new ≡ old) × (name_of name ≡ Err error)
-SeatSends old to name body (Err why.BodyTooLong) new = (new ≡ old) × (MAX_BODY < length body)
-SeatSends old to name body (Err why.Memory) new = (new ≡ old) × IsMessage name body
-SeatSends old to name body (Err why.NoInstance) new = (new ≡ old) × IsNoInstance to
-SeatSends old to name body (Err (why.Sending error)) new = IsMessage name body × Keeps old new × Sound old.post new.post
-    × Stays old.post new.post × IsUnsent old.post to 1 error new.post
-SeatSends old to name body (Err why.Misuse) new = ⊥
-SeatSends old to name body (Err why.NoEvent) new = ⊥
-SeatSends old to name body (Err why.NotAllPosts) new = ⊥
-SeatSends old to name body (Err why.OtherBoard) new = ⊥
-SeatSends old to name body (Err why.NameTwice) new = ⊥
-SeatSends old to name body (Err (why.Opening error)) new = ⊥
-SeatSends old to name body (Err (why.Taking error)) new = ⊥
-SeatSends old to name body (Err (why.Closing error)) new = ⊥
-SeatSends old to name body (Err (why.Region error)) new = ⊥
+SeatSends old to name body (Err refusal) new = IsFirstOfSend old to name body refusal new
 
 -- a call that needs a post finds none in the handle, and changes nothing
 abbrev pub IsNoPost : {A : Type 0} → Option Kept → Result A Refusal → Option Kept → Type 0
@@ -62,17 +68,4 @@ HandleSends (Some old) to name body result new = (kept : Kept) × (new ≡ Some 
 -- the message with these bytes, or why they make none
 abbrev pub MakesMessage : List ℕ → List ℕ → Result Content Refusal → Type 0
 MakesMessage name body (Ok message) = (message ≡ record { name = name; body = body }) × IsMessage name body
-MakesMessage name body (Err (why.Naming error)) = name_of name ≡ Err error
-MakesMessage name body (Err why.BodyTooLong) = MAX_BODY < length body
-MakesMessage name body (Err why.Memory) = IsMessage name body
-MakesMessage name body (Err why.Misuse) = ⊥
-MakesMessage name body (Err why.NoInstance) = ⊥
-MakesMessage name body (Err why.NoEvent) = ⊥
-MakesMessage name body (Err why.NotAllPosts) = ⊥
-MakesMessage name body (Err why.OtherBoard) = ⊥
-MakesMessage name body (Err why.NameTwice) = ⊥
-MakesMessage name body (Err (why.Opening error)) = ⊥
-MakesMessage name body (Err (why.Sending error)) = ⊥
-MakesMessage name body (Err (why.Taking error)) = ⊥
-MakesMessage name body (Err (why.Closing error)) = ⊥
-MakesMessage name body (Err (why.Region error)) = ⊥
+MakesMessage name body (Err refusal) = IsFirstOfMessage name body refusal

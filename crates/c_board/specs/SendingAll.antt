@@ -11,7 +11,7 @@ use Rattle.c_board.specs.declared.kept.Kept.TheVariants.{Post, Board, Away}
 use Rattle.c_board.specs.declared.refusal.Refusal.{Refusal}
 use Rattle.c_board.specs.declared.refusal.Refusal.TheVariants as why
 use Rattle.c_board.specs.PostStates.{PostStateView, Keeps}
-use Rattle.c_board.specs.Sending.{IsMessage, IsNoInstance, IsNoPost, MakesMessage}
+use Rattle.c_board.specs.Sending.{IsMessage, IsNoInstance, MayBeInstance, IsNoPost, MakesMessage}
 
 -- the messages whose names and bodies are one after another
 abbrev pub contents_in : List ℕ → List MessageLengths → List Content
@@ -43,15 +43,20 @@ ReadsMessages all (Ok messages) = (messages.items ≡ all) × AreMessages all
 ReadsMessages all (Err why.Memory) = Unit {0}
 ReadsMessages all (Err refusal) = IsFirstRefused all refusal
 
+-- The first of these that applies refuses a send of several messages over a seated post (docs/reference/refusals.md):
+-- that no instance has the number, F14; memory for their list, F6; of the first message that is refused what refuses its
+-- bytes, F1 to F6; and the first of what the post's own call refuses.
+abbrev pub IsFirstOfSendAll : PostStateView → ℕ → List Content → Refusal → PostStateView → Type 0
+IsFirstOfSendAll old to all why.NoInstance new = (new ≡ old) × IsNoInstance to
+IsFirstOfSendAll old to all (why.Sending error) new = MayBeInstance to × AreMessages all × Keeps old new
+    × Sound old.post new.post × Stays old.post new.post × IsUnsent old.post to (length all) error new.post
+IsFirstOfSendAll old to all refusal new = (new ≡ old) × MayBeInstance to × ReadsMessages all (Err refusal)
+
 -- what a send of these messages answers for a seated post: the same as the post's own call
 abbrev pub SeatSendsAll : PostStateView → ℕ → List Content → Result ℕ Refusal → PostStateView → Type 0
 SeatSendsAll old to all (Ok event) new = AreMessages all × Keeps old new × Sound old.post new.post
     × (sents : List Sent) × AreSent old.post to all sents new.post × (event ≡ first_event sents)
-SeatSendsAll old to all (Err why.NoInstance) new = (new ≡ old) × IsNoInstance to
-SeatSendsAll old to all (Err why.Memory) new = new ≡ old
-SeatSendsAll old to all (Err (why.Sending error)) new = AreMessages all × Keeps old new × Sound old.post new.post
-    × Stays old.post new.post × IsUnsent old.post to (length all) error new.post
-SeatSendsAll old to all (Err refusal) new = (new ≡ old) × IsFirstRefused all refusal
+SeatSendsAll old to all (Err refusal) new = IsFirstOfSendAll old to all refusal new
 
 abbrev pub KeptSendsAll : Kept → ℕ → List Content → Result ℕ Refusal → Kept → Type 0
 KeptSendsAll (Post old) to all result new = (state : PostStateView) × (new ≡ Post state) × SeatSendsAll old to all result state

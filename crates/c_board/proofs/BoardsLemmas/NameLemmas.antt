@@ -1,5 +1,5 @@
 -- Names that are read one after another.
-use Rattle.std.proofs.Common.{◌≡◌, ℕ, zero, suc, ◌+◌, ◌<◌, List, [], ◌∷◌, ◌++◌, length, take, drop, refl, sym, ap, ◌∙◌, subst, append_assoc, get_or}
+use Rattle.std.proofs.Common.{◌≡◌, ℕ, zero, suc, ◌+◌, ◌<◌, List, [], ◌∷◌, ◌++◌, length, take, drop, refl, sym, ap, ◌∙◌, inl, subst, append_assoc, get_or}
 use Rattle.std.proofs.lemmas.Option.{slice_get-get_or}
 use Rattle.std.specs.Prelude.{IsErrAnd, slice_get, None, Some, Result, Ok, Err}
 use Rattle.chart.specs.Names.{IsName}
@@ -38,20 +38,7 @@ names_next names new word all its added i name at = go names all i (subst (λ (n
 -- the word is refused
 pub word_refused : (words : List (List ℕ)) (names rest new : List (List ℕ)) (word : List ℕ) (refusal : Refusal) → words ≡ names ++ word ∷ rest
     → ((i : ℕ) (name : List ℕ) → slice_get names i ≡ Some name → IsName name) → AddsName names word (Err refusal) new → ReadsNames words (Err refusal)
-word_refused words names rest new word (why.Naming error) splits all its = (names, word, record { rest = rest; splits = splits; names = all }, its)
-word_refused words names rest new word why.NameTwice splits all its = (names, word, record { rest = rest; splits = splits; names = all }, its.1)
-word_refused words names rest new word why.Memory splits all its = (names, word, record { rest = rest; splits = splits; names = all }, its)
-word_refused words names rest new word why.Misuse splits all its = absurd its
-word_refused words names rest new word why.BodyTooLong splits all its = absurd its
-word_refused words names rest new word why.NoInstance splits all its = absurd its
-word_refused words names rest new word why.NoEvent splits all its = absurd its
-word_refused words names rest new word why.NotAllPosts splits all its = absurd its
-word_refused words names rest new word why.OtherBoard splits all its = absurd its
-word_refused words names rest new word (why.Opening error) splits all its = absurd its
-word_refused words names rest new word (why.Sending error) splits all its = absurd its
-word_refused words names rest new word (why.Taking error) splits all its = absurd its
-word_refused words names rest new word (why.Closing error) splits all its = absurd its
-word_refused words names rest new word (why.Region error) splits all its = absurd its
+word_refused words names rest new word refusal splits all its = (names, word, record { rest = rest; splits = splits; names = all }, its)
 
 pub length-words : (bytes lengths : List ℕ) → length (words_in bytes lengths) ≡ length lengths
 length-words bytes [] = refl
@@ -59,30 +46,40 @@ length-words bytes (many ∷ more) = ap suc (length-words (drop many bytes) more
 
 -- so the text is refused
 pub names_refused : (refusal : Refusal) (chart : List LineView) (names : List (List ℕ)) (room : List ℕ) → length names ≡ length chart → ReadsNames names (Err refusal) → WritesText chart names room (Err refusal) room
-names_refused (why.Naming error) chart names room each its = (refl, each, its)
-names_refused why.NameTwice chart names room each its = (refl, each, its)
-names_refused why.Memory chart names room each its = (refl, each)
-names_refused why.Misuse chart names room each its = absurd its
-names_refused why.BodyTooLong chart names room each its = absurd its
-names_refused why.NoInstance chart names room each its = absurd its
-names_refused why.NoEvent chart names room each its = absurd its
-names_refused why.NotAllPosts chart names room each its = absurd its
-names_refused why.OtherBoard chart names room each its = absurd its
-names_refused (why.Opening error) chart names room each its = absurd its
-names_refused (why.Sending error) chart names room each its = absurd its
-names_refused (why.Taking error) chart names room each its = absurd its
-names_refused (why.Closing error) chart names room each its = absurd its
-names_refused (why.Region error) chart names room each its = absurd its
+names_refused why.Misuse chart names room each its = absurd its.3
+names_refused why.Memory chart names room each its = (refl, (each, inl its))
+names_refused (why.Naming error) chart names room each its = (refl, (each, its))
+names_refused why.NameTwice chart names room each its = (refl, (each, its))
+names_refused why.BodyTooLong chart names room each its = absurd its.3
+names_refused why.NoInstance chart names room each its = absurd its.3
+names_refused why.NoEvent chart names room each its = absurd its.3
+names_refused why.NotAllPosts chart names room each its = absurd its.3
+names_refused why.OtherBoard chart names room each its = absurd its.3
+names_refused (why.Opening error) chart names room each its = absurd its.3
+names_refused (why.Sending error) chart names room each its = absurd its.3
+names_refused (why.Taking error) chart names room each its = absurd its.3
+names_refused (why.Closing error) chart names room each its = absurd its.3
+names_refused (why.Region error) chart names room each its = absurd its.3
+
+-- the next name lies here
+pub word_here : (bytes lengths : List ℕ) (names : List (List ℕ)) (word : List ℕ) (start many n : ℕ) → words_in bytes lengths ≡ names ++ words_in (drop start bytes) (drop n lengths)
+    → n < length lengths → many ≡ get_or lengths n 0 → word ≡ take many (drop start bytes) → words_in bytes lengths ≡ names ++ word ∷ words_in (drop (start + length word) bytes) (drop (n + 1) lengths)
+word_here bytes lengths names word start many n so_far less is word_is_it =
+    let next : drop n lengths ≡ many ∷ drop (n + 1) lengths = drop_at lengths n many (slice_get-get_or lengths n 0 less ∙ ap (λ (x : ℕ). Some x) (sym is)) in
+    subst (λ (w : List ℕ). words_in bytes lengths ≡ names ++ w ∷ words_in (drop (start + length w) bytes) (drop (n + 1) lengths)) (sym word_is_it) (next_word bytes lengths (drop (n + 1) lengths) names start many n so_far next)
 
 -- one more name
 pub words_more : (bytes lengths : List ℕ) (names new : List (List ℕ)) (word : List ℕ) (start many n : ℕ) → words_in bytes lengths ≡ names ++ words_in (drop start bytes) (drop n lengths)
     → n < length lengths → many ≡ get_or lengths n 0 → word ≡ take many (drop start bytes) → new ≡ names ++ word ∷ [] → words_in bytes lengths ≡ new ++ words_in (drop (start + length word) bytes) (drop (n + 1) lengths)
 words_more bytes lengths names new word start many n so_far less is word_is_it added =
-    let next : drop n lengths ≡ many ∷ drop (n + 1) lengths = drop_at lengths n many (slice_get-get_or lengths n 0 less ∙ ap (λ (x : ℕ). Some x) (sym is)) in
-    subst (λ (w : List ℕ). words_in bytes lengths ≡ names ++ w ∷ words_in (drop (start + length w) bytes) (drop (n + 1) lengths)) (sym word_is_it) (next_word bytes lengths (drop (n + 1) lengths) names start many n so_far next)
+    word_here bytes lengths names word start many n so_far less is word_is_it
     ∙ sym (append_assoc names (word ∷ []) (words_in (drop (start + length word) bytes) (drop (n + 1) lengths))) ∙ ap (λ (ns : List (List ℕ)). ns ++ words_in (drop (start + length word) bytes) (drop (n + 1) lengths)) (sym added)
 
 -- a refusal that is passed on
 pub text_refused : (chart : List LineView) (names : List (List ℕ)) (room : List ℕ) (result : Result ℕ Refusal) (error : Refusal) → IsErrAnd result (λ e. e ≡ error) → WritesText chart names room (Err error) room → WritesText chart names room result room
 text_refused chart names room (Ok many) error never its = absurd never
 text_refused chart names room (Err e) error same its = subst (λ (x : Refusal). WritesText chart names room (Err x) room) (sym same) its
+
+pub names_on : (words : List (List ℕ)) (result : Result (List (List ℕ)) Refusal) (error : Refusal) → IsErrAnd result (λ e. e ≡ error) → ReadsNames words (Err error) → ReadsNames words result
+names_on words (Ok names) error never its = absurd never
+names_on words (Err e) error same its = subst (λ (x : Refusal). ReadsNames words (Err x)) (sym same) its

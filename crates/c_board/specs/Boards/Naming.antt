@@ -10,26 +10,31 @@ abbrev pub words_in : List ℕ → List ℕ → List (List ℕ)
 words_in bytes [] = []
 words_in bytes (many ∷ more) = take many bytes ∷ words_in (drop many bytes) more
 
+-- The first of these that applies refuses a name beside others (docs/reference/refusals.md): its first fault, F1 to F4;
+-- that another instance has it, F22; and memory, F6.
+abbrev pub IsFirstOfName : List (List ℕ) → List ℕ → Refusal → Type 0
+IsFirstOfName others word (why.Naming error) = name_of word ≡ Err error
+IsFirstOfName others word why.NameTwice = IsName word × Contains others word
+IsFirstOfName others word why.Memory = IsName word × (Contains others word → ⊥)
+IsFirstOfName others word _ = ⊥
+
 -- a name is added
 abbrev pub AddsName : List (List ℕ) → List ℕ → Result (Unit {0}) Refusal → List (List ℕ) → Type 0
 AddsName old word (Ok done) new = (new ≡ old ++ word ∷ []) × IsName word
-AddsName old word (Err (why.Naming error)) new = name_of word ≡ Err error
-AddsName old word (Err why.NameTwice) new = IsName word × Contains old word
-AddsName old word (Err why.Memory) new = IsName word
-AddsName old word (Err _) new = ⊥
+AddsName old word (Err refusal) new = IsFirstOfName old word refusal
+
+-- all of these are names
+abbrev pub AreAllNames : List (List ℕ) → Type 0
+AreAllNames words = (i : ℕ) (name : List ℕ) → slice_get words i ≡ Some name → IsName name
 
 -- the word is the first refused one: those before it are names
 pub record IsFirst (words : List (List ℕ)) (before : List (List ℕ)) (word : List ℕ) : Type 0 where
   pub rest : List (List ℕ)
   pub splits : words ≡ before ++ word ∷ rest
-  pub names : (i : ℕ) (name : List ℕ) → slice_get before i ≡ Some name → IsName name
+  pub names : AreAllNames before
 
 -- these words are the names, or why they aren't
 abbrev pub ReadsNames : List (List ℕ) → Result (List (List ℕ)) Refusal → Type 0
-ReadsNames words (Ok names) = (names ≡ words) × ((i : ℕ) (name : List ℕ) → slice_get words i ≡ Some name → IsName name)
-ReadsNames words (Err (why.Naming error)) = (before : List (List ℕ)) × (word : List ℕ) × IsFirst words before word
-    × (name_of word ≡ Err error)
-ReadsNames words (Err why.NameTwice) = (before : List (List ℕ)) × (word : List ℕ) × IsFirst words before word
-    × Contains before word
-ReadsNames words (Err why.Memory) = (before : List (List ℕ)) × (word : List ℕ) × IsFirst words before word × IsName word
-ReadsNames words (Err _) = ⊥
+ReadsNames words (Ok names) = (names ≡ words) × AreAllNames words
+ReadsNames words (Err refusal) = (before : List (List ℕ)) × (word : List ℕ) × IsFirst words before word
+    × IsFirstOfName before word refusal

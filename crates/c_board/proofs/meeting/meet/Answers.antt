@@ -35,4 +35,4 @@ returns c =
     let chairs = c.in_ok-chairs.field-0.chairs.items in
     let posts = c.in_ok-chairs.field-0.posts.items in
     met_again chairs posts c.meet_parked-posts.result.posts.items (kept_by c.args.handles.now) (kept_by c.put_posts.new.handles) c.meet_parked-posts.result.answer taken.fit taken.seats
-    (subst KeepPosts (sym taken.seats) (seats_kept (seats_with chairs posts))) c.meet_parked-posts.ensures c.put_posts.ensures
+    (subst KeepPosts (sym taken.seats) (seats_kept (seats_with chairs posts)), c.in_ok-chairs.ensures.1) c.meet_parked-posts.ensures c.put_posts.ensures

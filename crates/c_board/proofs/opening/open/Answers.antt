@@ -1,8 +1,13 @@
 use Rattle.std.proofs.Common.{ℕ, sym, ap, ◌∙◌, subst}
 use Rattle.board.specs.Known.{IsSized}
-use Rattle.c_board.specs.Opening.{all_of}
+use Rattle.c_board.specs.Opening.{all_of, kept_by}
 use Rattle.c_board.proofs.KeptLists.{are_seated, length-kept_by}
+use Rattle.c_board.proofs.OpeningLemmas.{none_opened}
 use Rattle.c_board.proofs.opening.open.Goals as goal
+
+pub returns-in_err-boxes : goal.returns-in_err-boxes
+returns-in_err-boxes c = none_opened c.args.capacity _ (kept_by c.args.handles.now) c.from_residual.result c.in_err-boxes.field-0.0 c.from_residual.ensures.1 (length-kept_by c.args.handles.now)
+    (c.are_empty.ensures.yes c.if-not-are_empty.false) c.in_err-boxes.ensures
 
 pub returns : goal.returns
 returns c =

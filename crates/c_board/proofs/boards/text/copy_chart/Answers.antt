@@ -1,4 +1,4 @@
-use Rattle.std.proofs.Common.{◌≡◌, ◌∙◌, ℕ, List, length, refl, sym, ap, subst}
+use Rattle.std.proofs.Common.{◌≡◌, ◌∙◌, ℕ, List, length, refl, sym, ap, inr, subst}
 use Rattle.c_board.specs.Boards.Naming.{words_in}
 use Rattle.c_board.specs.Copying.{put_over}
 use Rattle.c_board.proofs.BoardsLemmas.NameLemmas.{length-words, names_refused, text_refused}
@@ -33,4 +33,6 @@ returns-in-Some c =
     }
 
 pub returns : goal.returns
-returns c = (refl, length-words c.args.names.now c.args.lengths.now ∙ c.if-lengths-lines.false ∙ ap length c.lines.ensures.value)
+returns c =
+    let each = length-words c.args.names.now c.args.lengths.now ∙ c.if-lengths-lines.false ∙ ap length c.lines.ensures.value in
+    (refl, (each, inr (subst AreNames c.in_ok-names.ensures.0 c.len.ensures.names, c.in_ok-names.ensures.1)))
