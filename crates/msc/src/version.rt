@@ -1,5 +1,6 @@
 //! The library's version.
 ghost use Rattle.std.specs.Prelude.{◌≡◌};
+ghost use Rattle.msc.specs.Version.{library_version};
 
 /// The parts of the file `VERSION`.
 const MAJOR: u32 = 1;
@@ -11,7 +12,7 @@ const PATCH: u32 = 0;
 /// The version as one number: major × 10,000 + minor × 100 + patch.
 #[unsafe(no_mangle)]
 pub extern "C" fn msc_version() -> u32
-    ensures { result ≡ 10000 }
+    ensures { result ≡ library_version }
 {
     MAJOR * 10000 + MINOR * 100 + PATCH
 }
