@@ -13,7 +13,7 @@ from typing import NamedTuple
 
 from chart_texts import Event
 from imported_logs import Answer, File, Options, read_log
-from log_charts import ONE_ENDED, LogChart, chart_of_log, diagnostics, is_one_ended
+from log_charts import ONE_ENDED, LogChart, chart_of_log, diagnostics, host_diagnostics, is_one_ended
 from luck import BEGUN, LUCK, words_of_races
 from names import Refused
 
@@ -134,7 +134,7 @@ def status_of(made: LogChart, shown: Shown) -> int:
 def answer_of(made: LogChart, shown: Shown) -> Answer:
     """What is answered to a log that comes to a chart."""
     if is_one_ended(made):
-        return Answer(2, b"", Refused("F52", behind=[ONE_ENDED]).text)
+        return Answer(2, b"", Refused("F52", behind=[ONE_ENDED, *host_diagnostics(made)]).text)
     races = judged_races(made, shown)
     lines = race_objects(races) if shown.as_json else race_lines(made, races)
     return Answer(status_of(made, shown), "".join(line + "\n" for line in lines).encode(), diagnostics_of(made, shown))

@@ -209,16 +209,34 @@ def unmatched_diagnostics(places: list[str], lines: int) -> list[str]:
 def read_diagnostics(made: LogChart) -> list[str]:
     """How many events are read, and which hosts have no line of their own."""
     passed = [entry for entry in made.log.passed() if entry.host != entry.peer]
-    with_lines = {entry.host for entry in passed}
     hosts = len(made.hosts)
     several = f"{len(passed)} events of {hosts} hosts are read"
     first = f"1 event of {hosts} hosts is read" if len(passed) == 1 else several
+    return [first, *lineless_diagnostics(made)]
+
+
+def with_lines_in(made: LogChart) -> set[str]:
+    """The hosts with lines of their own."""
+    return {entry.host for entry in made.log.passed() if entry.host != entry.peer}
+
+
+def lineless_diagnostics(made: LogChart) -> list[str]:
+    """The hosts without a line of their own, and those that the log may call by two words."""
+    with_lines = with_lines_in(made)
+    peers = {entry.peer for entry in made.log.passed() if entry.host != entry.peer}
     lineless = [host for host in made.hosts if host not in with_lines]
-    alike = alike_hosts(made, lineless, with_lines, {entry.peer for entry in passed})
-    told = [f"{made.names[host]} has no line of its own" for host in lineless]
-    for host, peer in ((made.names[host], made.names[peer]) for host, peer in alike):
-        told.append(f"{peer} may be {host}, which no line names as a peer: --peer {host}={peer}?")
-    return [first, *told]
+    lines = [f"{made.names[host]} has no line of its own" for host in lineless]
+    for host, peer in alike_hosts(made, lineless, with_lines, peers):
+        one, other = made.names[host], made.names[peer]
+        lines.append(f"{other} may be {one}, which no line names as a peer: --peer {one}={other}?")
+    return lines
+
+
+def host_diagnostics(made: LogChart) -> list[str]:
+    """The hosts with lines of their own, those without, and those that the log may call by two words."""
+    with_lines = with_lines_in(made)
+    lined = [f"{made.names[host]} has lines of its own" for host in made.hosts if host in with_lines]
+    return lined + lineless_diagnostics(made)
 
 
 def is_short_for(short: str, word: str) -> bool:

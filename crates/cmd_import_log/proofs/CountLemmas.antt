@@ -1,4 +1,4 @@
--- How many lines a log's chart has, and that what is told names no others.
+-- The number of lines of a log's chart. The warnings and refusals name no other instance.
 use Rattle.std.proofs.Common.{◌≡◌, ℕ, suc, ◌+◌, ◌≤◌, Bool, true, false, cond, List, [], ◌∷◌, None, Some, length, refl, ap, ◌∙◌, arith}
 use Rattle.std.specs.Prelude.{All, is_none, nat_lt}
 use Rattle.std.proofs.lemmas.List.Elements.{All-nil, All-cons, All-append}
@@ -20,7 +20,7 @@ lines_whole log p (items ∷ lines) = ap suc (lines_whole log (suc p) lines)
 pub chart_whole : (hosts : ℕ) (log : List Entry) → length (chart_from log 1 (host_lines hosts log)) ≡ hosts
 chart_whole hosts log = lines_whole log 1 (host_lines hosts log) ∙ hosts_count hosts log
 
--- the events that are invented are of those lines
+-- the invented events are of those lines
 abbrev IsUpTo : ℕ → EventNo → Type 0
 IsUpTo n e = e.instance ≤ n
 
@@ -42,7 +42,7 @@ lines_up_to n p (items ∷ lines) up =
 pub invented_up_to : (hosts : ℕ) (log : List Entry) → All (IsUpTo hosts) (all_invented 1 (host_lines hosts log))
 invented_up_to hosts log = let whole = hosts_count hosts log in lines_up_to hosts 1 (host_lines hosts log) (omega (arith, whole))
 
--- the first that is full is one of them
+-- the first line that is full is one of them
 some_same : {m k : ℕ} → Some m ≡ Some k → m ≡ k
 some_same e = cc e
 

@@ -1,4 +1,4 @@
--- The chart of lines by names, where names, hosts and entries are known by equations.
+-- The chart of lines, if equations state its names, hosts and entries.
 use Rattle.std.proofs.Common.{◌≡◌, ℕ, ◌≤◌, List, ◌++◌, None, length, take, drop, sym, ap, ◌∙◌, subst, subst₂}
 use Rattle.std.proofs.Math.Seq.{take-append_seam}
 use Rattle.std.specs.Prelude.{All}
@@ -17,7 +17,7 @@ use Rattle.cmd_import_log.specs.declared.drawing.Beside.{Beside}
 use Rattle.cmd_import_log.specs.declared.drawing.LogDrawing.{LogDrawing}
 use Rattle.cmd_import_log.proofs.CountLemmas.{chart_whole, invented_up_to}
 
--- a list that was written over as a slice
+-- a list that was overwritten through a slice
 pub written_back : {A : Type 0} (old new : List A) (n : ℕ) → n ≡ length old → length new ≡ length old → take n (new ++ drop (length new) old) ≡ new
 written_back old new n all same = ap (λ k. take k (new ++ drop (length new) old)) (all ∙ sym same) ∙ take-append_seam new (drop (length new) old)
 

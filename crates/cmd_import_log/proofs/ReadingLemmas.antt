@@ -1,4 +1,4 @@
--- The chart of what texts say, by that of its lines by names.
+-- The chart of texts, from the chart of their lines.
 use Rattle.std.proofs.Common.{◌≡◌, ℕ, List, subst, subst₂, Ok, Err}
 use Rattle.std.specs.Prelude.{Result}
 use Rattle.log_lines.specs.Names.Naming.{NamedView}

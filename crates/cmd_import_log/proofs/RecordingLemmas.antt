@@ -1,6 +1,6 @@
--- The recording of what texts say, by that of its lines by names, and what it keeps.
+-- The recording of texts, from the recording of their lines, and facts about it.
 use Rattle.std.proofs.Common.{◌≡◌, ℕ, ◌≤◌, List, Option, Some, length, map, refl, sym, ap, ◌∙◌, subst, subst₂, arith, Ok, Err}
-use Rattle.std.specs.Prelude.{Result, AllPairs, IfOk, vec_len}
+use Rattle.std.specs.Prelude.{Result, AllPairs, IfOk}
 use Rattle.std.proofs.lemmas.List.{length-map}
 use Rattle.log_chart.specs.Cycles.Freeing.{Settles, done, turn, freed}
 use Rattle.log_chart.proofs.CyclesLemmas.SettleLemmas.{freed_length}
@@ -30,7 +30,7 @@ use Rattle.cmd_import_log.specs.declared.error.LogImportError.{LogImportError}
 use Rattle.cmd_import_log.specs.declared.error.LogImportError.TheVariants.{Memory, BadPattern, NotALog, NoReceive, Instances, ToItself, LineFull}
 use Rattle.cmd_import_log.specs.declared.recording.LogRecording.{LogRecording}
 
--- a chart, and the entries that it was drawn of
+-- a chart, and the entries that it was made from
 abbrev IsOfEntries : List Entry → Beside → NamedView → LogDrawing → Type 0
 IsOfEntries settled b n d = (its : IsNamedDrawing b n d) × (its.settled ≡ settled)
 
@@ -61,14 +61,14 @@ module _ (o : OptionsView) (texts : List (List ℕ)) (log : LogView) (is_log : I
   records_as (Err (ToItself place)) b n logged be ne se refused = record { log = log; is_log = is_log; refused = subst (λ (y : NamedView). IsRefused y (ToItself place)) ne refused }
   records_as (Err (LineFull name)) b n logged be ne se refused = record { log = log; is_log = is_log; refused = subst (λ (y : NamedView). IsRefused y (LineFull name)) ne refused }
 
--- what is told of the matches of the expression that is kept is what the texts tell
+-- the declarations in the matches of the kept expression are those of the texts
 pub observes_as : {E : Type 0} (text : List ℕ) (o : OptionsView) (texts : List (List ℕ)) (kept : Option Expression) (e : Expression) (result : Result Observations E) → kept ≡ Some e → IsKept (Pattern text) kept
     → IfOk result (λ observed. observations_view observed ≡ pattern_observed e.groups e.more (regex_pattern e.regex) o.peers o.range texts)
     → IfOk result (λ observed. Observes (Pattern text) o texts (observations_view observed))
 observes_as text o texts kept e (Ok observed) is its same = (e, subst (IsKept (Pattern text)) is its, same)
 observes_as text o texts kept e (Err failed) is its same = tt
 
--- there are words for each line
+-- each line has words
 settled_length : (log out : List Entry) → Settles log out → length out ≡ length log
 settled_length log out (done none) = refl
 settled_length log out (turn k first rest) = settled_length (freed k log) out rest ∙ freed_length k log
@@ -88,7 +88,7 @@ words_for_all o texts r its =
     ∙ sym (matched_length drawing.settled)
     ∙ sym (ap length recorded.lines)
 
--- what receives would have taken stands by their lines
+-- what receives would have taken is in the order of their lines
 abbrev AreRising : ObservationsView → Type 0
 AreRising t = AllPairs (λ a b. a.line ≤ b.line) t.taken
 
@@ -100,13 +100,3 @@ observed_rises ShiViz o texts observed is = subst AreRising (sym is) (λ i j d b
 pub taken_rises : (o : OptionsView) (texts : List (List ℕ)) (r : LogRecording) → IsRecordingOf o texts r → AllPairs (λ a b. a.line ≤ b.line) (lent_of r).taken
 taken_rises o texts r its =
     subst (λ (l : List TakenView). AllPairs (λ a b. a.line ≤ b.line) l) (sym its.recording.recorded.taken) (observed_rises o.form o texts its.observed its.observes)
-
--- the same of what was answered
-pub records_words : (o : OptionsView) (texts : List (List ℕ)) (result : Result LogRecording LogImportError) → Records result o texts → IfOk result (λ r. vec_len r.words ≡ vec_len r.lines)
-records_words o texts (Ok r) its = r.words.ok.0 ∙ words_for_all o texts r its ∙ sym r.lines.ok.0
-records_words o texts (Err e) its = tt
-
-pub records_taken : (o : OptionsView) (texts : List (List ℕ)) (result : Result LogRecording LogImportError) → Records result o texts
-    → IfOk result (λ r. AllPairs (λ a b. a.line ≤ b.line) (lent_of r).taken)
-records_taken o texts (Ok r) its = taken_rises o texts r its
-records_taken o texts (Err e) its = tt

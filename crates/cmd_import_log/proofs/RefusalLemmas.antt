@@ -1,4 +1,4 @@
--- Why a log has no chart, by why drawing it fails.
+-- The refusal of a log, from the reason why its chart can't be made.
 use Rattle.std.proofs.Common.{◌≡◌, ℕ, List, length, refl, sym, ap, ◌∙◌, subst, subst₂, inr}
 use Rattle.log_chart.specs.Charts.Drawing.{IsRefusalOf}
 use Rattle.log_chart.specs.declared.charts.drawing.DrawError.{DrawError}
@@ -10,19 +10,19 @@ use Rattle.cmd_import_log.specs.Entries.{entries_in, names_in}
 use Rattle.cmd_import_log.specs.declared.error.LogImportError.{LogImportError}
 use Rattle.cmd_import_log.proofs.CountLemmas.{first_up_to}
 
--- the instance that is told is one of the hosts
+-- the instance that the refusal names is one of the hosts
 pub of_among : (hosts : ℕ) (old new : List Entry) (e : DrawError) → IsRefusalOf hosts old new e → IsOfAmong hosts e
 of_among hosts old new Memory refused = tt
 of_among hosts old new Instances refused = tt
 of_among hosts old new (LineFull p) refused = first_up_to hosts new p refused.1
 
--- lines by names are refused as their entries are
+-- lines are refused like their entries
 pub refused_by : (n : NamedView) (new : List Entry) (e : DrawError) → IsRefusalOf (length (names_in n)) (entries_in n) new e → IsRefused n (refusal_of (names_in n) e)
 refused_by n new Memory refused = tt
 refused_by n new Instances refused = inr refused
 refused_by n new (LineFull p) refused = record { settled = new; settles = refused.0; instance = p; is_first = refused.1; named = refl }
 
--- the same, where names, hosts and entries are known by equations
+-- the same, if equations state names, hosts and entries
 pub refused_as : (n : NamedView) (names : List (List ℕ)) (hosts : ℕ) (old new : List Entry) (e : DrawError) (r : LogImportError) → names ≡ names_in n → hosts ≡ length names → old ≡ entries_in n
     → r ≡ refusal_of names e → IsRefusalOf hosts old new e → IsRefused n r
 refused_as n names hosts old new e r is whole entries its refused =

@@ -1,4 +1,4 @@
--- The chart of a log, and what is told of it.
+-- The chart of a log, and its warnings.
 use Rattle.std.specs.Prelude.{◌≡◌, ℕ, true, false, ◌<◌, ◌≤◌, ◌⊎◌, List, [], ◌∷◌, ◌++◌, length, map, Option, None, Some, Result, Ok, Err, if◌then◌else◌}
 use Rattle.chart.specs.Charts.{chart_lines, IsPossible}
 use Rattle.diagram_labels.specs.Renaming.{renamed_view, renamed_from}
@@ -31,19 +31,18 @@ use Rattle.cmd_import_log.specs.declared.drawing.Settled.{Settled}
 use Rattle.cmd_import_log.specs.declared.error.LogImportError.{LogImportError}
 use Rattle.cmd_import_log.specs.declared.error.LogImportError.TheVariants as errors
 
--- a line of a file, as it is told
+-- a line of a file, as warnings name it
 abbrev pub log_place : EntryPlace → Place
 log_place p = record { text = p.file; line = p.line }
 
 abbrev pub log_overtaking : ChartOvertaking → Overtaking
 log_overtaking o = record { line = log_place o.line; overtaken = log_place o.overtaken }
 
--- the labels whose names have to be told, each with its name
+-- the labels whose names need a warning, each with its name
 abbrev pub renames_of : Labelling → List (List ℕ × List ℕ)
 renames_of l = renamed_from [] l.labels l.names
 
--- what was read of a log beside its events, where these receives have words for what they would have taken that are
--- spelled otherwise
+-- what was read from a log, apart from its events, with these receives that have misspelled words `takes=`
 abbrev pub beside_with : Option Others → LogView → Beside
 beside_with misspelled log = record {
   lines = log.lines;
@@ -53,22 +52,28 @@ beside_with misspelled log = record {
   misspelled = misspelled;
 }
 
--- the same, where such words don't count
+-- the same, if such words don't matter
 abbrev pub beside : LogView → Beside
 beside log = beside_with None log
 
--- with those of these hosts that have none
+-- the list with these hosts, without those that have a line of their own
 abbrev pub with_lineless : List NamedLine → List (List ℕ) → List (List ℕ) → List (List ℕ)
 with_lineless lines found [] = found
 with_lineless lines found (name ∷ names) =
     with_lineless lines (if has_line lines name then found else found ++ name ∷ []) names
 
--- this is told of what was read beside a log's events, of its lines by names, of the names of its instances, and of its
--- chart
+-- the list with these hosts, without those that have none
+abbrev pub with_lined : List NamedLine → List (List ℕ) → List (List ℕ) → List (List ℕ)
+with_lined lines found [] = found
+with_lined lines found (name ∷ names) =
+    with_lined lines (if has_line lines name then found ++ name ∷ [] else found) names
+
+-- the warnings about what was read, about the lines, about the names of instances, and about the chart
 pub record AreDiagnosticsOf (b : Beside) (n : NamedView) (called : List (List ℕ)) (built : LogChart) (diagnostics : Diagnostics) : Type 0 where
   pub lines : diagnostics.lines ≡ b.lines
   pub events : diagnostics.events ≡ length n.lines
   pub lineless : diagnostics.lineless.items ≡ with_lineless n.lines [] n.hosts.names
+  pub lined : diagnostics.lined.items ≡ with_lined n.lines [] n.hosts.names
   pub alike : diagnostics.alike.items ≡ with_alike n.lines n.hosts.names [] (with_lineless n.lines [] n.hosts.names)
   pub others : diagnostics.others ≡ b.others
   pub own : diagnostics.own ≡ n.own
@@ -84,8 +89,7 @@ pub record AreDiagnosticsOf (b : Beside) (n : NamedView) (called : List (List �
   pub hosts : map renamed_view diagnostics.hosts.items ≡ renames_of n.hosts
   pub messages : map renamed_view diagnostics.messages.items ≡ renames_of n.messages
 
--- the chart is that of the entries of lines by names, whose receives are freed, and what is told is told of it; it is
--- possible
+-- the chart is that of the entries of lines, with some receives freed. Some run has it, and the warnings are about it
 pub record IsNamedDrawing (b : Beside) (n : NamedView) (d : LogDrawing) : Type 0 where
   pub settled : List Entry
   pub faultless : fault_in n ≡ None
@@ -97,27 +101,28 @@ pub record IsNamedDrawing (b : Beside) (n : NamedView) (d : LogDrawing) : Type 0
   pub possible : IsPossible (length d.chart) (chart_lines d.chart)
   pub diagnostics : AreDiagnosticsOf b n (names_in n) built d.diagnostics
 
--- the chart is that of lines by names, whose entries these are once receives are freed
+-- the chart is that of lines, whose entries these are once receives are freed
 abbrev pub IsSettled : Beside → NamedView → Settled → Type 0
 IsSettled b n s = (d : IsNamedDrawing b n s.drawing) × (d.settled ≡ s.entries.items)
 
--- why lines by names have no chart, where drawing it fails so
+-- the refusal of lines whose chart can't be made for this reason
 abbrev pub refusal_of : List (List ℕ) → DrawError → LogImportError
 refusal_of names draws.Memory = errors.Memory
 refusal_of names draws.Instances = errors.Instances
 refusal_of names (draws.LineFull p) = errors.LineFull (name_at names p)
 
--- the instance that is told is among so many
+-- the instance that the refusal names is at most the n-th
 abbrev pub IsOfAmong : ℕ → DrawError → Type 0
 IsOfAmong n draws.Memory = Unit {0}
 IsOfAmong n draws.Instances = Unit {0}
 IsOfAmong n (draws.LineFull p) = p ≤ n
 
--- a line has one host too many, or there are too few
+-- a line has one host too many, or there are too few hosts
 abbrev pub AreUnfit : NamedView → Type 0
 AreUnfit n = (fault_in n ≡ Some faults.Instances) ⊎ (length (names_in n) < 2)
 
--- of these entries, whose receives are freed, with instances of these names this one is the first with too many events
+-- the first instance with too many events has this name, for these entries with some receives freed, and instances
+-- with these names
 pub record IsFull (names : List (List ℕ)) (entries : List Entry) (name : List ℕ) : Type 0 where
   pub settled : List Entry
   pub settles : Settles entries settled
@@ -125,7 +130,7 @@ pub record IsFull (names : List (List ℕ)) (entries : List Entry) (name : List 
   pub is_first : first_full 1 (host_lines (length names) settled) ≡ Some instance
   pub named : name ≡ name_at names instance
 
--- the lines by names have no chart
+-- the lines have no chart, for this reason
 abbrev pub IsRefused : NamedView → LogImportError → Type 0
 IsRefused n errors.Memory = Unit {0}
 IsRefused n (errors.BadPattern place fault) = ⊥
@@ -139,28 +144,28 @@ abbrev pub DrawsNamed : Result LogDrawing LogImportError → Beside → NamedVie
 DrawsNamed (Ok d) b n = IsNamedDrawing b n d
 DrawsNamed (Err e) b n = IsRefused n e
 
--- the lines of a log by names
+-- the lines of a log, whose hosts and messages have names
 abbrev pub named_in : OptionsView → LogView → NamedView
 named_in o log = named o.hosts o.peers log.read.logged
 
--- the texts say this, and some line is a receive
+-- the texts have these contents, and some line is a receive
 pub record IsLog (o : OptionsView) (texts : List (List ℕ)) (log : LogView) : Type 0 where
   pub says : Says o.form o.range texts log
   pub received : has_receive log.read.logged ≡ true
 
--- the chart is that of what the texts say, and so is what is told
+-- the chart is that of the texts, and the warnings are about it
 pub record IsDrawingOf (o : OptionsView) (texts : List (List ℕ)) (d : LogDrawing) : Type 0 where
   pub log : LogView
   pub is_log : IsLog o texts log
   pub drawing : IsNamedDrawing (beside log) (named_in o log) d
 
--- the texts say a log that has no chart
+-- the texts are a log that has no chart
 pub record IsRefusedLog (o : OptionsView) (texts : List (List ℕ)) (error : LogImportError) : Type 0 where
   pub log : LogView
   pub is_log : IsLog o texts log
   pub refused : IsRefused (named_in o log) error
 
--- the texts say no message in so many lines, of which these aren't read
+-- the texts have no message in this number of lines, and these lines don't match
 pub record IsNoLog (o : OptionsView) (texts : List (List ℕ)) (lines : ℕ) (others : Option Others) : Type 0 where
   pub log : LogView
   pub says : Says o.form o.range texts log
@@ -168,7 +173,7 @@ pub record IsNoLog (o : OptionsView) (texts : List (List ℕ)) (lines : ℕ) (ot
   pub counted : lines ≡ log.lines
   pub unread : others ≡ log.read.others
 
--- the texts say so many events in so many lines, of which these aren't read, and none is a receive
+-- the texts have these numbers of events and of lines, these lines don't match, and no event is a receive
 pub record IsWithoutReceive (o : OptionsView) (texts : List (List ℕ)) (sends lines : ℕ) (others : Option Others) : Type 0 where
   pub log : LogView
   pub says : Says o.form o.range texts log

@@ -1,4 +1,5 @@
--- What is told behind F39: why an expression isn't read, in the words of Rust's regex crate, or which group it lacks.
+-- The second line after F39: the fault of an expression, in the words of Rust's regex crate, or the group that it
+-- lacks.
 use Rattle.std.specs.Prelude.{ℕ, ◌++◌, List, None, Some, codes}
 use Rattle.log_formats.specs.declared.patterns.expression.Fault.{Fault}
 use Rattle.log_formats.specs.declared.patterns.expression.Fault.TheVariants.{Unreadable, TooLarge, Lacks}
@@ -7,7 +8,7 @@ use Rattle.log_formats.specs.declared.patterns.missing.Group.TheVariants as grou
 use Rattle.regex_syntax.specs.declared.error.ErrorKind.{ErrorKind}
 use Rattle.regex_syntax.specs.declared.error.ErrorKind.TheVariants.{CaptureLimitExceeded, ClassEscapeInvalid, ClassRangeInvalid, ClassRangeLiteral, ClassUnclosed, DecimalInvalid, EscapeHexEmpty, EscapeHexInvalid, EscapeHexInvalidDigit, EscapeUnexpectedEof, EscapeUnrecognized, FlagDanglingNegation, FlagDuplicate, FlagRepeatedNegation, FlagUnexpectedEof, FlagUnrecognized, GroupNameDuplicate, GroupNameEmpty, GroupNameInvalid, GroupNameUnexpectedEof, GroupUnclosed, GroupUnopened, InvalidUtf8, NestLimitExceeded, OutOfMemory, RepetitionCountDecimalEmpty, RepetitionCountInvalid, RepetitionCountUnclosed, RepetitionMissing, SpecialWordBoundaryUnclosed, SpecialWordBoundaryUnrecognized, SpecialWordOrRepetitionUnexpectedEof, UnicodeClassInvalid, UnicodeNotAllowed, UnicodePropertyNotFound, UnicodePropertyValueNotFound, UnsupportedBackreference}
 
--- why the grammar refuses a text, for the later kinds of faults, of which the last one is left
+-- the message for a fault of the later kinds, with that of the last kind for any other
 unfoldable pub later_message : ErrorKind → List ℕ
 later_message GroupNameUnexpectedEof = codes "unclosed capture group name"
 later_message GroupUnclosed = codes "unclosed group"
@@ -29,7 +30,7 @@ later_message UnicodePropertyValueNotFound = codes "Unicode property value not f
 later_message UnsupportedBackreference = codes "backreferences are not supported"
 later_message kind = codes "look-around, including look-ahead and look-behind, is not supported"
 
--- and for all
+-- the message for a fault of any kind
 unfoldable pub message_of : ErrorKind → List ℕ
 message_of CaptureLimitExceeded = codes "exceeded the maximum number of capturing groups"
 message_of ClassEscapeInvalid = codes "invalid escape sequence found in character class"
@@ -67,12 +68,12 @@ group_word groups.Event = codes "event"
 unfoldable pub lacks_text : List ℕ → List ℕ
 lacks_text word = codes "no group is named " ++ (word ++ codes "\n")
 
--- that no group has one of these names, one for each of two sets that may be meant
+-- that no group has one of these two names, each of one set of groups that may be meant
 unfoldable pub lacks_either_text : List ℕ → List ℕ → List ℕ
 lacks_either_text word besides =
     codes "no group is named " ++ (word ++ (codes " (for src, dst, name) or " ++ (besides ++ codes " (for host, dir, peer, name)\n")))
 
--- what is wrong with an expression
+-- the line about an expression's fault
 unfoldable pub fault_text : Fault → List ℕ
 fault_text (Unreadable kind) = message_of kind ++ codes "\n"
 fault_text TooLarge = codes "the expression is too large\n"

@@ -1,4 +1,4 @@
--- What is answered to the import of a log.
+-- The answer to the import of a log.
 use Rattle.std.specs.Prelude.{◌≡◌, ℕ, List, codes, Some, None, Result, Ok, Err}
 use Rattle.cmd_base.specs.Answers.{Exit, refusal, exit_of}
 use Rattle.cmd_base.specs.Refusals.{labelled_text}
@@ -15,7 +15,7 @@ use Rattle.cmd_import_log.specs.declared.importing.LogWriteError.{LogWriteError}
 use Rattle.cmd_import_log.specs.declared.importing.LogWriteError.TheVariants.{Log, Write}
 
 module _ {S : Type 0} (sink : S → Sink) where
-  -- the text of the chart was written that the texts say; or a beginning of it, where a put failed; or nothing, where the
+  -- the text of the texts' chart was written, or the beginning of it if a put failed. Nothing was written if the
   -- texts are refused or memory ran out
   abbrev pub Imports : S → S → Result Diagnostics LogWriteError → OptionsView → List (List ℕ) → Type 0
   Imports old new (Ok diagnostics) o texts = (d : LogDrawing) × IsDrawingOf o texts d × (diagnostics ≡ d.diagnostics)
@@ -24,7 +24,7 @@ module _ {S : Type 0} (sink : S → Sink) where
   Imports old new (Err Write) o texts = (d : LogDrawing) × IsDrawingOf o texts d
       × Breaks sink old new (chart_text d.diagnostics.names d.chart)
 
--- what is told of a chart that was written, where these are the names of several files, or none of one
+-- the warnings about a chart that was written. `files` has the names of several files, and is empty for one
 abbrev pub diagnostics_exit : List (List ℕ) → Diagnostics → Exit
 diagnostics_exit files diagnostics = record { status = 0; diagnostics = Some (diagnostics_text files diagnostics) }
 
@@ -33,6 +33,6 @@ abbrev pub log_write_error_text : List (List ℕ) → LogWriteError → List ℕ
 log_write_error_text files Write = labelled_text (codes "F24 Write") None
 log_write_error_text files (Log error) = log_refusal_text files error
 
--- what is said of an import
+-- the status of an import, and its text on standard error
 abbrev pub imported_exit : List (List ℕ) → Result Diagnostics LogWriteError → Exit
 imported_exit files = exit_of (diagnostics_exit files) (λ error. refusal (log_write_error_text files error))

@@ -6,7 +6,7 @@ use Rattle.cmd_import_log.specs.declared.options.Form.{Form}
 use Rattle.cmd_import_log.specs.declared.options.Form.TheVariants as forms
 use Rattle.cmd_import_log.specs.declared.options.Options.{Options}
 
--- in plain words, as an expression says, or as logs for ShiViz are
+-- in plain words, by an expression, or as in logs for ShiViz
 pub data FormView : Type 0 where
   Plain : FormView
   Pattern : List ℕ → FormView
@@ -17,7 +17,7 @@ form_view forms.Plain = Plain
 form_view (forms.Pattern text) = Pattern text.now
 form_view forms.ShiViz = ShiViz
 
--- the form of its lines, those that are read, the hosts that come first, and those with other words
+-- the form of the lines, the range that is read, the first hosts, and the hosts with other words
 pub record OptionsView : Type 0 where
   pub form : FormView
   pub range : LineRange

@@ -1,5 +1,5 @@
--- What the texts of a log say, given which lines an expression matches and what its groups are (the regex crate's word).
-use Rattle.std.specs.Prelude.{◌≡◌, ℕ, ◌+◌, ◌==◌, ◌&&◌, Bool, true, false, List, [], ◌∷◌, Option, None, Some, length, if◌then◌else◌}
+-- The contents of a log's texts, given the matches of an expression and their groups, as the regex crate finds them.
+use Rattle.std.specs.Prelude.{◌≡◌, ℕ, ◌==◌, ◌&&◌, Bool, true, false, List, [], ◌∷◌, Option, None, Some, if◌then◌else◌}
 use Rattle.regex.specs.Bytes.{regex_pattern}
 use Rattle.log_formats.specs.Clocks.Saying.{by_clocks, is_timed}
 use Rattle.std.specs.List.{list_any}
@@ -20,7 +20,7 @@ use Rattle.cmd_import_log.specs.declared.error.LogImportError.{LogImportError}
 use Rattle.cmd_import_log.specs.declared.error.LogImportError.TheVariants as errors
 use Rattle.cmd_import_log.specs.declared.reading.ReadLog.{ReadLog}
 
--- some line says a receive
+-- some line is a receive
 abbrev pub is_receive : Act → Bool
 is_receive Send = false
 is_receive Receive = true
@@ -28,7 +28,7 @@ is_receive Receive = true
 abbrev pub has_receive : List LoggedEventView → Bool
 has_receive logged = list_any (λ s. is_receive s.event.act) logged
 
--- what is read, of how many lines, whether messages were captured, and whether clocks tell of some
+-- what is read, the number of lines, whether messages were captured, and whether clocks imply some
 pub record LogView : Type 0 where
   pub read : ReadView
   pub lines : ℕ
@@ -49,17 +49,17 @@ clocked_log range texts = record {
   is_timed = is_timed (shiviz_read range texts);
 }
 
--- the event above is said by the line at this place
+-- the previous event is of the line at this place
 abbrev pub is_of_line : Option Place → Place → Bool
 is_of_line None place = false
 is_of_line (Some above) place = above.text == place.text && above.line == place.line
 
--- a line says two events: the send and the receive of a captured message
+-- a line has two events: the send and the receive of a captured message
 abbrev pub is_captured : Option Place → List LoggedEventView → Bool
 is_captured above [] = false
 is_captured above (s ∷ logged) = if is_of_line above s.place then true else is_captured (Some s.place) logged
 
--- what an expression finds
+-- the contents that an expression finds
 abbrev pub found : Expression → LineRange → List (List ℕ) → ReadView
 found e range texts = pattern_read e.groups e.more (regex_pattern e.regex) range texts
 
@@ -71,24 +71,24 @@ pattern_log e range texts = record {
   is_timed = is_timed (found e range texts);
 }
 
--- the texts say this in these lines by the expression of a text
+-- the lines of the texts in this range have these contents, by the expression with this text
 abbrev pub IsReadBy : List ℕ → LineRange → List (List ℕ) → LogView → Type 0
 IsReadBy text range texts log = (e : Expression) × IsExpression text e × (log ≡ pattern_log e range texts)
 
--- the texts say this in these lines
+-- the lines of the texts in this range have these contents
 abbrev pub Says : FormView → LineRange → List (List ℕ) → LogView → Type 0
 Says Plain range texts log = log ≡ plain_log range texts
 Says (Pattern text) range texts log = IsReadBy text range texts log
 Says ShiViz range texts log = log ≡ clocked_log range texts
 
--- the expression is kept by which the texts are read, if they are read by one
+-- the expression that reads the texts is kept, if there is one
 abbrev pub IsKept : FormView → Option Expression → Type 0
 IsKept Plain e = Unit {0}
 IsKept (Pattern text) None = ⊥
 IsKept (Pattern text) (Some e) = IsExpression text e
 IsKept ShiViz e = Unit {0}
 
--- a text is no expression, since it has this fault at this place; or memory ran out
+-- the text is no expression, since it has this fault at this place; or memory ran out
 abbrev pub IsBadExpression : List ℕ → LogImportError → Type 0
 IsBadExpression text errors.Memory = Unit {0}
 IsBadExpression text (errors.BadPattern place fault) = IsFault text place fault
@@ -98,7 +98,7 @@ IsBadExpression text errors.Instances = ⊥
 IsBadExpression text (errors.ToItself place) = ⊥
 IsBadExpression text (errors.LineFull name) = ⊥
 
--- no expression is needed, so only memory may have run out
+-- no expression is needed, so memory ran out
 abbrev pub IsMemory : LogImportError → Type 0
 IsMemory errors.Memory = Unit {0}
 IsMemory (errors.BadPattern place fault) = ⊥
@@ -108,7 +108,7 @@ IsMemory errors.Instances = ⊥
 IsMemory (errors.ToItself place) = ⊥
 IsMemory (errors.LineFull name) = ⊥
 
--- the texts aren't read
+-- the texts can't be read
 abbrev pub IsBadForm : FormView → LogImportError → Type 0
 IsBadForm Plain error = IsMemory error
 IsBadForm (Pattern text) error = IsBadExpression text error

@@ -1,4 +1,5 @@
--- The recording of a log: its lines as its chart has them, and what it tells beside them (this project's profile of logs).
+-- The recording of a log: its lines as the chart has them, and what it declares about choices and arrivals (this
+-- project's profile of logs).
 use Rattle.std.specs.Prelude.{◌≡◌, ℕ, ◌&&◌, Bool, false, not, List, length, map, Result, Ok, Err}
 use Rattle.regex.specs.Bytes.{regex_pattern}
 use Rattle.log_formats.specs.Patterns.Expressions.{IsExpression}
@@ -21,7 +22,7 @@ use Rattle.cmd_import_log.specs.declared.drawing.Beside.{Beside}
 use Rattle.cmd_import_log.specs.declared.error.LogImportError.{LogImportError}
 use Rattle.cmd_import_log.specs.declared.recording.LogRecording.{LogRecording}
 
--- what is lent of a recording
+-- a recording, as its judge borrows it
 abbrev pub lent_of : LogRecording → RecordingView
 lent_of r = record {
   lines = r.lines.items;
@@ -31,23 +32,23 @@ lent_of r = record {
   arrivals = r.arrivals.items;
 }
 
--- its lines are events in the order in which their hosts had them: no messages were captured, and no clocks told of some
+-- its lines are in the order in which their hosts had the events: no message was captured, and clocks imply none
 abbrev pub is_known : FormView → Beside → Bool
 is_known ShiViz b = false
 is_known form b = not b.is_captured && not b.is_timed
 
--- this is what the texts tell beside messages: in plain words, or by an expression
+-- what the texts declare beside messages, in plain words or by an expression
 abbrev pub Observes : FormView → OptionsView → List (List ℕ) → ObservationsView → Type 0
 Observes Plain o texts observed = observed ≡ observed_in o.peers o.range texts
 Observes (Pattern text) o texts observed =
     (e : Expression) × IsExpression text e × (observed ≡ pattern_observed e.groups e.more (regex_pattern e.regex) o.peers o.range texts)
 Observes ShiViz o texts observed = observed ≡ no_observations
 
--- the arrivals that are told, where the log's entries are these
+-- the arrivals of a log with these entries
 abbrev pub arrivals_of : OptionsView → List LoggedEventView → List Entry → ObservationsView → List Arrival
 arrivals_of o logged entries observed = arrivals_in (keys_in o.peers logged) (map (λ e. e.stream) entries) observed.arrived
 
--- beside its chart the recording has this, where these are the log's events, and its entries once receives are freed
+-- what the recording has beside its chart, for a log with these events and, once receives are freed, these entries
 pub record IsRecorded (o : OptionsView) (logged : List LoggedEventView) (settled : List Entry) (observed : ObservationsView) (r : LogRecording) : Type 0 where
   pub lines : r.lines.items ≡ matched settled
   pub hosts : r.hosts.items ≡ host_lines (length r.drawing.diagnostics.names) settled
@@ -55,7 +56,7 @@ pub record IsRecorded (o : OptionsView) (logged : List LoggedEventView) (settled
   pub taken : map taken_view r.taken.items ≡ observed.taken
   pub arrivals : r.arrivals.items ≡ arrivals_of o logged settled observed
 
--- the recording is that of lines by names, and of what was read and is told beside them
+-- the recording is that of these lines, of what else was read, and of these declarations
 pub record IsNamedRecording (b : Beside) (n : NamedView) (o : OptionsView) (logged : List LoggedEventView) (observed : ObservationsView) (r : LogRecording) : Type 0 where
   pub drawing : IsNamedDrawing b n r.drawing
   pub recorded : IsRecorded o logged drawing.settled observed r
@@ -65,7 +66,7 @@ abbrev pub RecordsNamed : Result LogRecording LogImportError → Beside → Name
 RecordsNamed (Ok r) b n o logged observed = IsNamedRecording b n o logged observed r
 RecordsNamed (Err e) b n o logged observed = IsRefused n e
 
--- the recording is that of what the texts say
+-- the recording is that of the texts
 pub record IsRecordingOf (o : OptionsView) (texts : List (List ℕ)) (r : LogRecording) : Type 0 where
   pub log : LogView
   pub is_log : IsLog o texts log
@@ -73,7 +74,7 @@ pub record IsRecordingOf (o : OptionsView) (texts : List (List ℕ)) (r : LogRec
   pub observes : Observes o.form o texts observed
   pub recording : IsNamedRecording (beside_with observed.misspelled log) (named_in o log) o log.read.logged observed r
 
--- texts without a recording are those without a chart
+-- the texts have no recording exactly if they have no chart
 abbrev pub Records : Result LogRecording LogImportError → OptionsView → List (List ℕ) → Type 0
 Records (Ok r) o texts = IsRecordingOf o texts r
 Records (Err e) o texts = IsRefusalOf o texts e

@@ -1,10 +1,14 @@
 -- The lines of a log's refusals.
 use Rattle.std.specs.Prelude.{ℕ, ◌==◌, ◌++◌, List, Option, codes, decimal, None, Some, if◌then◌else◌}
+use Rattle.std.specs.List.{flat_map}
 use Rattle.cmd_base.specs.Refusals.{labelled_text}
 use Rattle.log_formats.specs.declared.patterns.expression.Fault.{Fault}
 use Rattle.log_lines.specs.declared.read.Others.{Others}
+use Rattle.cmd_import_log.specs.Answers.AlikeHosts.{alike_text}
 use Rattle.cmd_import_log.specs.Answers.DiagnosticLines.{others_of_text}
 use Rattle.cmd_import_log.specs.Answers.Diagnostics.{one_ended_note}
+use Rattle.cmd_import_log.specs.Answers.EventsRead.{lineless_text, lined_text}
+use Rattle.cmd_import_log.specs.declared.answers.diagnostics.Diagnostics.{Diagnostics}
 use Rattle.cmd_import_log.specs.Faults.{fault_text}
 use Rattle.cmd_import_log.specs.declared.error.LogImportError.{LogImportError}
 use Rattle.cmd_import_log.specs.declared.error.LogImportError.TheVariants as errors
@@ -17,19 +21,20 @@ full_text name = codes "refused: F7 LineFull " ++ (name ++ codes "\n")
 unfoldable pub place_text : ℕ → List ℕ
 place_text place = codes "refused: F39 BadPattern " ++ (decimal place ++ codes "\n")
 
--- and behind it what is wrong with the expression
+-- the line of F39, and the line about the expression's fault
 unfoldable pub bad_pattern_text : ℕ → Fault → List ℕ
 bad_pattern_text place fault = place_text place ++ fault_text fault
 
 unfoldable pub no_log_line : List ℕ
 no_log_line = codes "refused: F38 NotALog\n"
 
--- the line of F38, and behind it which lines aren't read, where these are the names of several files, or none of one
+-- the line of F38, and the line about lines that don't match. `files` has the names of several files, and is empty
+-- for one
 unfoldable pub no_log_text : List (List ℕ) → ℕ → Option Others → List ℕ
 no_log_text files lines others =
     no_log_line ++ others_of_text files lines (codes "lines doesn't match") (codes "lines don't match") others
 
--- how many lines say a message, though none is a receive
+-- the number of lines with messages, none of which is a receive
 unfoldable pub one_send_text : List ℕ
 one_send_text = codes "1 line matches, and it isn't a receive\n"
 
@@ -42,7 +47,8 @@ sends_text sends = if sends == 1 then one_send_text else several_sends_text send
 unfoldable pub no_receive_line : List ℕ
 no_receive_line = codes "refused: F51 NoReceive\n"
 
--- the line of F51, behind it what is read, and which lines aren't, where these are the names of several files, or none of one
+-- the line of F51, the number of lines that match, and the line about those that don't. `files` has the names of
+-- several files, and is empty for one
 unfoldable pub no_receive_text : List (List ℕ) → ℕ → ℕ → Option Others → List ℕ
 no_receive_text files sends lines others =
     no_receive_line
@@ -51,11 +57,14 @@ no_receive_text files sends lines others =
 unfoldable pub one_end_line : List ℕ
 one_end_line = codes "refused: F52 OneEnd\n"
 
--- the line of F52, and why
-unfoldable pub one_end_text : List ℕ
-one_end_text = one_end_line ++ one_ended_note
+-- the line of F52, and the reason. Then come the hosts with lines of their own, those without, and those that the log may
+-- name by two words
+unfoldable pub one_end_text : Diagnostics → List ℕ
+one_end_text t =
+    one_end_line
+    ++ (one_ended_note ++ (flat_map lined_text t.lined.items ++ (flat_map lineless_text t.lineless.items ++ flat_map alike_text t.alike.items)))
 
--- what is told of a log's refusal
+-- the text of a log's refusal
 abbrev pub log_refusal_text : List (List ℕ) → LogImportError → List ℕ
 log_refusal_text files errors.Memory = labelled_text (codes "F6 Memory") None
 log_refusal_text files (errors.BadPattern place fault) = bad_pattern_text place fault

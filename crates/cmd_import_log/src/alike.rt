@@ -1,4 +1,4 @@
-//! Hosts that a log may call by two words.
+//! Hosts that a log may name by two words.
 ghost use Rattle.std.specs.Prelude.{◌≡◌, [], IfOk};
 ghost use Rattle.cmd_import_log.specs.Alike.{comes_in, is_short_for, are_alike, is_peer, may_be, first_alike, with_alike};
 
@@ -8,7 +8,7 @@ use chart::Name;
 use log_lines::names::NamedLine;
 use std::alloc::{AllocError, Global};
 
-/// Whether the bytes of one name come in the other, in their order.
+/// Whether the bytes of one name occur in the other, in the same order.
 fn comes_in(short: &[u8], word: &[u8]) -> bool
     ensures { result ≡ comes_in short.now word.now }
 {
@@ -56,7 +56,7 @@ fn is_peer(lines: &[NamedLine], name: &Name) -> bool
     lines.iter().any(|line| line.peer == *name)
 }
 
-/// Whether a host has lines, none names it as a peer, and its name is like this one.
+/// Whether a host has lines of its own, no line names it as a peer, and its name is like this one.
 fn may_be(lines: &[NamedLine], peer: &Name, host: &Name) -> bool
     ensures { result ≡ may_be lines.now peer.now host.now }
 {
@@ -78,7 +78,8 @@ fn first_alike(lines: &[NamedLine], peer: &Name, hosts: &[Name]) -> Option<Name>
     None
 }
 
-/// Of these hosts without a line of their own those that lines name as peers, each with the first host that it may be.
+/// From these hosts without a line of their own, takes those that lines name as peers. Each has the first host that
+/// it may be.
 pub(crate) fn alike_hosts(
     alloc: Global,
     lines: &[NamedLine],

@@ -1,9 +1,9 @@
-//! What is told of a chart that was drawn from a log.
+//! The warnings about a chart that was made from a log.
 //!
-//! What is promised ([`write_diagnostics`]): exactly the text of what is told was written, or where a write failed
-//! a beginning of it: how many lines don't match, what is left out, which receives are freed and which sends are
-//! invented, and each name that isn't its word. A line is told by its number, and by its file's name too where
-//! there are several.
+//! [`write_diagnostics`] writes exactly the text of the warnings, or the beginning of it if a write fails. The
+//! warnings count the lines that don't match. They list the skipped messages, the freed receives, the invented sends,
+//! and the names that differ from their words. A line is named by its number, and also by its file if there are
+//! several.
 
 mod alike;
 mod diagnostic_lines;
@@ -13,8 +13,10 @@ mod overtaking;
 mod spot;
 
 pub use alike::Alike;
+pub(crate) use alike::add_all_alike;
 pub(crate) use diagnostic_lines::add_others_of;
 pub(crate) use diagnostics::add_one_ended_note;
 pub use diagnostics::{Diagnostics, write_diagnostics};
+pub(crate) use events_read::{add_all_lined, add_all_lineless};
 pub use overtaking::Overtaking;
 pub use spot::Spot;

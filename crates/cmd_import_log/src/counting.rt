@@ -1,4 +1,4 @@
-//! How many lines of a log's texts are read.
+//! The number of lines that are read of a log's texts.
 ghost use Rattle.std.specs.Prelude.{◌≡◌, map, IfOk};
 ghost use Rattle.cmd_import_log.specs.Counting.{count_of_lines, lines_within, lines_read};
 ghost use Rattle.texts.specs.Lines.{lines_of, end_of};
@@ -7,7 +7,7 @@ use log_lines::LineRange;
 use std::alloc::AllocError;
 use texts::next_line;
 
-/// How many lines a text has. What follows the last line feed is one too, unless it is empty.
+/// The number of lines of a text. The text after the last line feed is a line too, unless it is empty.
 #[tactic(auto, unfolding(crate::specs::Counting::count_of_lines))]
 fn count_of_lines(text: &[u8]) -> u64
     ensures { result ≡ count_of_lines text.now }
@@ -21,7 +21,7 @@ fn count_of_lines(text: &[u8]) -> u64
     if rest.is_empty() { count } else { count + 1 }
 }
 
-/// How many of them are in the range.
+/// The number of these lines that are in the range.
 #[tactic(auto, unfolding(crate::specs::Counting::lines_within))]
 fn lines_within(range: LineRange, text: &[u8]) -> u64
     ensures { result ≡ lines_within range text.now }
@@ -30,7 +30,7 @@ fn lines_within(range: LineRange, text: &[u8]) -> u64
     last.saturating_sub(range.first.saturating_sub(1))
 }
 
-/// How many lines of these texts are in the range. Where the count would not fit, it fails.
+/// The number of lines of these texts that are in the range. It fails if the number doesn't fit.
 pub(crate) fn lines_read(range: LineRange, texts: &[&[u8]]) -> Result<u64, AllocError>
     ensures { IfOk result (λ lines. lines ≡ lines_read range (map (λ text. text.now) texts.now)) }
 {

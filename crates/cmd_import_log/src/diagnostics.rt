@@ -1,8 +1,8 @@
-//! What is told of a log's chart.
+//! The parts of the warnings about a log's chart.
 ghost use Rattle.std.specs.Prelude.{◌≡◌, [], map, IfOk};
 ghost use Rattle.diagram_labels.specs.Renaming.{renamed_view};
 ghost use Rattle.cmd_import_log.specs.Alike.{has_line};
-ghost use Rattle.cmd_import_log.specs.Drawing.{log_place, log_overtaking, with_lineless, renames_of};
+ghost use Rattle.cmd_import_log.specs.Drawing.{log_place, log_overtaking, with_lineless, with_lined, renames_of};
 
 use crate::answers::Overtaking;
 use chart::Name;
@@ -11,7 +11,7 @@ use log_lines::Place;
 use log_lines::names::NamedLine;
 use std::alloc::{AllocError, Global};
 
-/// A line of the log as it is told.
+/// A line of the log, as warnings name it.
 pub(crate) fn log_place(place: &log_chart::Place) -> Place
     ensures { result ≡ log_place place.now }
 {
@@ -21,7 +21,7 @@ pub(crate) fn log_place(place: &log_chart::Place) -> Place
     }
 }
 
-/// Lines of the log as they are told.
+/// Lines of the log, as warnings name them.
 pub(crate) fn places_of(
     alloc: Global,
     places: &[log_chart::Place],
@@ -40,7 +40,7 @@ fn overtaking_of(overtaking: &log_chart::charts::Overtaking) -> Overtaking
     }
 }
 
-/// Messages that overtake as they are told.
+/// The overtaking messages, as warnings name them.
 pub(crate) fn overtakings_of(
     alloc: Global,
     overtakings: &[log_chart::charts::Overtaking],
@@ -60,7 +60,7 @@ pub(crate) fn has_line(lines: &[NamedLine], name: &Name) -> bool
     lines.iter().any(|line| line.host == *name)
 }
 
-/// The hosts that have no line of their own, by the names of all.
+/// The hosts without a line of their own, among all these.
 pub(crate) fn lineless_hosts(
     alloc: Global,
     lines: &[NamedLine],
@@ -77,7 +77,24 @@ pub(crate) fn lineless_hosts(
     Ok(lineless)
 }
 
-/// Those of the labels whose names aren't their words.
+/// The hosts with a line of their own, among all these.
+pub(crate) fn lined_hosts(
+    alloc: Global,
+    lines: &[NamedLine],
+    hosts: &[Name],
+) -> Result<Vec<Name>, AllocError>
+    ensures { IfOk result (λ lined. lined.items ≡ with_lined lines.now [] hosts.now) }
+{
+    let mut lined = Vec::new(alloc);
+    for name in hosts {
+        if has_line(lines, name) {
+            lined.push(*name)?;
+        }
+    }
+    Ok(lined)
+}
+
+/// The labels whose names differ from their words.
 pub(crate) fn renamed_in(alloc: Global, labels: &LabelNames) -> Result<Vec<Renamed>, AllocError>
     ensures { IfOk result (λ diagnostics. map renamed_view diagnostics.items ≡ renames_of labels.now) }
 {

@@ -1,4 +1,4 @@
-//! The chart of a log, and what is told of it.
+//! The chart of a log, and its warnings.
 ghost use Rattle.std.specs.Prelude.{◌≡◌, ◌≤◌, length, map, All, IfOk, IfErr};
 ghost use Rattle.chart.specs.Charts.{chart_lines, IsPossible};
 ghost use Rattle.log_chart.specs.Charts.Drawing.{IsLogChart, IsRefusalOf};
@@ -12,7 +12,7 @@ ghost use Rattle.cmd_import_log.specs.Options.{options_view};
 
 use crate::alike::alike_hosts;
 use crate::answers::Diagnostics;
-use crate::diagnostics::{lineless_hosts, overtakings_of, places_of, renamed_in};
+use crate::diagnostics::{lined_hosts, lineless_hosts, overtakings_of, places_of, renamed_in};
 use crate::entries::entries_in;
 use crate::error::LogImportError;
 use crate::messages::messages_in;
@@ -27,14 +27,14 @@ use log_lines::names::{NamedLog, named};
 use std::alloc::{AllocError, Global};
 use texts::named as name_of;
 
-/// The chart that a log says, and what is told of it, with a name for each line of the chart.
+/// The chart of a log, and its warnings. There is a name for each line of the chart.
 #[derive(Debug, Drop)]
 pub struct LogDrawing {
     pub chart: Chart,
     pub diagnostics: Diagnostics,
 }
 
-/// Why a log of hosts of these names has no chart.
+/// The refusal of a log with hosts of these names.
 fn refusal(names: &Names, error: DrawError) -> LogImportError
     requires { IsOfAmong (length names.now) error }
     ensures { result ≡ refusal_of names.now error }
@@ -46,19 +46,19 @@ fn refusal(names: &Names, error: DrawError) -> LogImportError
     }
 }
 
-/// What was read of a log beside its events.
+/// What was read from a log, apart from its events.
 #[derive(Clone, Copy, Debug)]
 pub(crate) struct Beside {
-    /// Of how many lines it was read.
+    /// The number of lines that were read.
     pub lines: u64,
     pub others: Option<Others>,
     pub is_captured: bool,
     pub is_timed: bool,
-    /// Receives with words that begin with `takes=` and are spelled otherwise, where these words count.
+    /// Receives with words that begin with `takes=` and are misspelled, if such words matter.
     pub misspelled: Option<Others>,
 }
 
-/// The chart, with what is told of it.
+/// The chart and its warnings.
 fn with_diagnostics(
     alloc: Global,
     beside: Beside,
@@ -78,6 +78,7 @@ fn with_diagnostics(
         is_one_ended,
     } = built;
     let lineless = lineless_hosts(alloc, &named.lines, named.hosts.names())?;
+    let lined = lined_hosts(alloc, &named.lines, named.hosts.names())?;
     let alike = alike_hosts(alloc, &named.lines, named.hosts.names(), &lineless)?;
     Ok(LogDrawing {
         chart,
@@ -85,6 +86,7 @@ fn with_diagnostics(
             lines: beside.lines,
             events: named.lines.len() as u64,
             lineless,
+            lined,
             alike,
             others: beside.others,
             own: named.own,
@@ -103,14 +105,14 @@ fn with_diagnostics(
     })
 }
 
-/// The chart of a log, with what is told of it, and the log's entries, receives of which are freed.
+/// The chart of a log, its warnings, and the log's entries, with some receives freed.
 #[derive(Drop)]
 pub(crate) struct Settled {
     pub drawing: LogDrawing,
     pub entries: Vec<Entry>,
 }
 
-/// The chart of the lines by names, and their entries.
+/// The chart of these lines, whose hosts and messages have names, and the entries of the lines.
 pub(crate) fn settled_of(
     alloc: Global,
     beside: Beside,
@@ -131,7 +133,7 @@ pub(crate) fn settled_of(
     Ok(Settled { drawing, entries })
 }
 
-/// The chart of the lines by names.
+/// The chart of these lines.
 fn drawing_of(alloc: Global, beside: Beside, named: &NamedLog) -> Result<LogDrawing, LogImportError>
     ensures draws { DrawsNamed result beside (named_view named.now) }
     ensures named { IfOk result (λ d. length d.diagnostics.names ≡ length d.chart) }
@@ -143,11 +145,10 @@ fn drawing_of(alloc: Global, beside: Beside, named: &NamedLog) -> Result<LogDraw
     }
 }
 
-/// The chart that the texts of a log say. It is possible.
+/// The chart of the texts of a log. Some run has it.
 ///
-/// F39 refuses an expression that is none, F38 texts in which no line says a message, F51 those in
-/// which none says a receive, then F8, F13 and F7 a log
-/// without a chart. F6 may come at any point.
+/// F39 refuses an invalid expression, F38 texts without a message, and F51 texts without a receive. F8, F13 and F7
+/// then refuse a log without a chart. F6 is possible at any point.
 pub fn drawing_in(
     alloc: Global,
     options: Options<'_>,

@@ -1,4 +1,4 @@
-//! The entries of a log, of its lines by names.
+//! The entries of a log, made from its lines.
 ghost use Rattle.std.specs.Prelude.{◌≡◌, None, length, map, IfOk, OnOk, IfErr};
 ghost use Rattle.log_chart.specs.Entries.{HaveStreams};
 ghost use Rattle.log_chart.specs.Cycles.Freeing.{AreAmong, HaveLanes};
@@ -13,7 +13,7 @@ use log_lines::Place;
 use log_lines::names::{NamedLine, NamedLog};
 use std::alloc::{AllocError, Global};
 
-/// A line of a log as its entries have it.
+/// The place of a line, as entries have it.
 fn entry_place(place: Place) -> log_chart::Place
     ensures { result ≡ entry_place place }
 {
@@ -23,7 +23,7 @@ fn entry_place(place: Place) -> log_chart::Place
     }
 }
 
-/// What a line says.
+/// The event of a line.
 fn host_event_of(line: &NamedLine) -> HostEvent
     ensures { result ≡ host_event_of line.now }
 {
@@ -37,15 +37,15 @@ fn host_event_of(line: &NamedLine) -> HostEvent
     }
 }
 
-/// What all lines say.
+/// The events of all lines.
 fn host_events(alloc: Global, lines: &[NamedLine]) -> Result<Vec<HostEvent>, AllocError>
     ensures { IfOk result (λ events. events.items ≡ map host_event_of lines.now) }
 {
     lines.iter().map(|line| host_event_of(line)).collect(alloc)
 }
 
-/// The entries of these lines, where the hosts come in the order of their names. F8: there are more than 32. F13: a
-/// host is its own peer.
+/// The entries of these lines. The hosts are in the order of their names in this log. F8: there are more than 32
+/// hosts. F13: a host is its own peer.
 pub(crate) fn entries_in(alloc: Global, named: &NamedLog) -> Result<Log, LogImportError>
     ensures names { IfOk result (λ log. log.names ≡ names_in (named_view named.now)) }
     ensures entries { IfOk result (λ log. log.entries.items ≡ entries_in (named_view named.now)) }

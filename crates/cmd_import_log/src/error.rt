@@ -1,4 +1,4 @@
-//! Why a log has no chart.
+//! The refusals of logs.
 ghost use Rattle.std.specs.Prelude.{◌≡◌};
 ghost use Rattle.cmd_import_log.specs.declared.error.LogImportError.TheVariants.{Memory};
 
@@ -7,18 +7,19 @@ use log_formats::patterns::Fault;
 use log_lines::{Others, Place};
 use std::alloc::{AllocError, AllocFailed};
 
-/// Why a log has no chart: its first refusal, or that memory ran out.
+/// The reason why a log has no chart: its first refusal, or no memory.
 #[derive(Clone, Copy, Debug, PartialEq, Eq)]
 pub enum LogImportError {
     /// F6: a growth was refused.
     Memory,
-    /// F39: the expression has this fault, which begins at this place, counted in bytes from 1, or is told of the one
-    /// behind its end.
+    /// F39: the expression has this fault. It begins at this place, counted in bytes from 1. For a fault of the whole
+    /// expression this is the place after its end.
     BadPattern(usize, Fault),
-    /// F38: none of so many lines of the files says a message. Of these lines aren't read, if any.
+    /// F38: none of the lines has a message. The fields are the number of lines of the files, and the lines that
+    /// don't match.
     NotALog(u64, Option<Others>),
-    /// F51: so many lines say a message, and none is a receive. Of so many lines of the files these aren't read, if
-    /// any.
+    /// F51: lines have messages, and none is a receive. The fields are the number of these lines, that of all lines
+    /// of the files, and the lines that don't match.
     NoReceive(u64, u64, Option<Others>),
     /// F8: there are fewer than two hosts, or more than 32.
     Instances,

@@ -1,4 +1,4 @@
-//! What is told of an expression that can't be read, in the words of Rust's regex crate.
+//! The second line after F39: the fault of an expression, in the words of Rust's regex crate.
 ghost use Rattle.std.specs.Prelude.{◌≡◌};
 ghost use Rattle.texts.specs.Writing.{Adds};
 ghost use Rattle.cmd_import_log.specs.Faults.{later_message, message_of, group_word, lacks_text, lacks_either_text, fault_text};
@@ -8,7 +8,7 @@ use regex_syntax::ErrorKind;
 use texts::pieces::{Piece, add_pieces};
 use texts::{Out, TextBuffer, WriteError};
 
-/// Why the grammar refuses a text, for the later kinds of faults, of which the last one is left.
+/// The message for a fault of the later kinds, with that of the last kind for any other.
 #[tactic(auto, unfolding(crate::specs::Faults::later_message))]
 fn later_message(kind: ErrorKind) -> &'static [u8]
     ensures { result.now ≡ later_message kind }
@@ -41,7 +41,7 @@ fn later_message(kind: ErrorKind) -> &'static [u8]
     }
 }
 
-/// Why the grammar refuses a text.
+/// The message for a fault that the grammar finds.
 #[tactic(auto, unfolding(crate::specs::Faults::message_of))]
 fn message_of(kind: ErrorKind) -> &'static [u8]
     ensures { result.now ≡ message_of kind }
@@ -103,7 +103,7 @@ fn add_lacks<V: Out>(text: &mut TextBuffer<'_, V>, word: &[u8]) -> Result<(), Wr
     )
 }
 
-/// Adds that no group has one of these names, one for each of two sets.
+/// Adds that no group has one of these two names. Each is of one set of groups.
 #[tactic(auto, unfolding(crate::specs::Faults::lacks_either_text))]
 fn add_lacks_either<'a, V: Out>(
     text: &mut TextBuffer<'_, V>,
@@ -124,7 +124,7 @@ fn add_lacks_either<'a, V: Out>(
     )
 }
 
-/// Adds what is wrong with an expression.
+/// Adds the line about an expression's fault.
 #[tactic(auto, unfolding(crate::specs::Faults::fault_text))]
 pub(crate) fn add_fault<V: Out>(
     text: &mut TextBuffer<'_, V>,

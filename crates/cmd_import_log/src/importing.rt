@@ -15,16 +15,16 @@ use cmd_base::refused_by;
 use std::alloc::Global;
 use texts::Out;
 
-/// Why no chart was written.
+/// The reason why no chart was written.
 #[derive(Clone, Copy, Debug, PartialEq, Eq)]
 pub enum LogWriteError {
-    /// The log isn't read or has no chart, or memory ran out.
+    /// The log is refused, or memory ran out.
     Log(LogImportError),
     /// F24: a write failed.
     Write,
 }
 
-/// Reads the log and writes its chart. All memory is taken before the first byte is written.
+/// Reads the log and writes its chart. It allocates all memory before it writes the first byte.
 fn translate<W: Out>(
     alloc: Global,
     options: Options<'_>,
@@ -44,7 +44,7 @@ fn translate<W: Out>(
     }
 }
 
-/// Prints the line of a refusal, and answers the exit status.
+/// Prints the line of a refusal, and returns the exit status.
 fn refused<V: Out>(files: &[&[u8]], error: &LogWriteError, err: &mut V) -> u8
     ensures status { result ≡ 2 }
     ensures line { Tried V.sink err.old err.new (log_write_error_text (map (λ file. file.now) files.now) error.now) }
@@ -55,7 +55,7 @@ fn refused<V: Out>(files: &[&[u8]], error: &LogWriteError, err: &mut V) -> u8
     }
 }
 
-/// Tells what the chart isn't, and answers the exit status.
+/// Prints the warnings, and returns the exit status.
 fn print_diagnostics<V: Out>(files: &[&[u8]], diagnostics: &Diagnostics, err: &mut V) -> u8
     requires { All (λ e. e.instance ≤ length diagnostics.now.names) diagnostics.now.invented.items }
     ensures status { result ≡ 0 }
@@ -65,10 +65,10 @@ fn print_diagnostics<V: Out>(files: &[&[u8]], diagnostics: &Diagnostics, err: &m
     0
 }
 
-/// Writes the text of the chart that the texts of a log say, of which these are the names where there are several, and
-/// none where there is one. On `err` is told what isn't in the chart, and what of it isn't in the log. Writes the line
-/// of a refusal to `err`. Answers the exit status: 0 where it was written, 2 after a refusal. Nothing is written to
-/// `out` before a refusal, but where writing to it failed (F24). A failed write to `err` changes nothing.
+/// Writes the text of a log's chart to `out`, and its warnings to `err`. The log has these texts. `files` has their
+/// names if there are several, and is empty for one. A refusal's line goes to `err`. The exit status is 0 if the
+/// chart was written, and 2 after a refusal. Nothing is written to `out` before a refusal, unless writing to it
+/// failed (F24). A failed write to `err` changes nothing.
 pub fn import<W: Out, V: Out>(
     alloc: Global,
     options: Options<'_>,

@@ -1,12 +1,13 @@
-//! Logs of messages, read whole, and what `mscview import` answers to them.
+//! Whole logs of messages, and the output of `mscview import` for them.
 //!
-//! What is promised ([`import`]), given which lines an expression matches and what its groups are: with status 0
-//! exactly the text of the chart was written that the log comes to, a possible one, and standard error tells what
-//! of the log isn't in it, and what of it isn't in the log. With status 2 the refusal's line was written, or a
-//! beginning of it where standard error failed, and nothing went to the output before it, unless a write failed
-//! (F24).
+//! These are the promises of [`import`], given the matches of an expression and their groups:
 //!
-//! [`answers`] writes what is told of a log's chart.
+//! - With status 0 it wrote exactly the text of the log's chart, which some run has. The warnings on standard error
+//!   list what the chart lacks of the log, and what the log lacks of the chart.
+//! - With status 2 it wrote the refusal's line, or the beginning of it if standard error failed. Nothing was written
+//!   to the output before, unless a write failed (F24).
+//!
+//! [`answers`] writes the warnings.
 #![tactic(auto)]
 
 mod alike;

@@ -1,4 +1,4 @@
-//! What the texts of a log say of messages, where they say of both of its ends something.
+//! The messages of a log's texts, at least one of which is received.
 ghost use Rattle.std.specs.Prelude.{◌≡◌, map, IfOk, IfErr};
 ghost use Rattle.log_lines.specs.Events.{logged_event_view};
 ghost use Rattle.cmd_import_log.specs.Drawing.{IsLog, IsRefusalOf};
@@ -20,7 +20,7 @@ fn is_receive(act: Act) -> bool
     }
 }
 
-/// Whether some line says a receive.
+/// Whether some line is a receive.
 fn has_receive(logged: &[LoggedEvent<'_>]) -> bool
     ensures { result ≡ has_receive (map logged_event_view logged.now) }
 {
@@ -32,10 +32,10 @@ fn has_receive(logged: &[LoggedEvent<'_>]) -> bool
     false
 }
 
-/// What the texts of a log say, some line of which is a receive.
+/// The messages of a log's texts, some line of which is a receive.
 ///
-/// F39 refuses an expression that is none, F38 texts in which no line says a message, and F51 those in which none says
-/// a receive. F6 may come at any point.
+/// F39 refuses an invalid expression, F38 texts without a message, and F51 texts without a receive. F6 is possible at
+/// any point.
 pub(crate) fn messages_in<'a>(
     alloc: Global,
     options: &Options<'a>,

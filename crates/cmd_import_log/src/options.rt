@@ -7,9 +7,9 @@ use log_lines::names::Peer;
 pub enum Form<'a> {
     /// In plain words: `HOST DIR [to or from] PEER NAME [ID] [REST]`.
     Plain,
-    /// As this expression says.
+    /// By this expression.
     Pattern(&'a str),
-    /// As logs for ShiViz are.
+    /// As in logs for ShiViz.
     ShiViz,
 }
 
@@ -19,8 +19,8 @@ pub struct Options<'a> {
     pub form: Form<'a>,
     /// The lines of each file that are read.
     pub range: LineRange,
-    /// Hosts that are the first instances, as the log calls them.
+    /// Hosts that are the first instances, as the log names them.
     pub hosts: &'a [&'a [u8]],
-    /// Hosts that the log calls by other words.
+    /// Hosts that the log names by other words.
     pub peers: &'a [Peer<'a>],
 }

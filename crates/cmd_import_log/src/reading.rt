@@ -1,4 +1,4 @@
-//! What the bytes of a log say.
+//! The contents of a log.
 ghost use Rattle.std.specs.Prelude.{◌≡◌, None, map, IfOk, IfErr};
 ghost use Rattle.log_lines.specs.Events.{logged_event_view};
 ghost use Rattle.log_formats.specs.Patterns.Expressions.{IsExpression};
@@ -13,21 +13,21 @@ use log_formats::patterns::{BadExpression, Expression, read_by};
 use log_lines::{LineRange, LoggedEvent, Place, Read, read_plain, read_shiviz};
 use std::alloc::{AllocError, Global};
 
-/// What is read of a log.
+/// The contents of a log, as read.
 #[derive(Drop)]
 pub(crate) struct ReadLog<'a> {
     pub read: Read<'a>,
-    /// Of how many lines it is read.
+    /// The number of lines that were read.
     pub lines: u64,
-    /// Whether its messages were captured, so that only their order at the tap is known.
+    /// Whether messages were captured. Then only their order at the tap is known.
     pub is_captured: bool,
-    /// Whether clocks tell of messages.
+    /// Whether clocks imply messages.
     pub is_timed: bool,
-    /// By which it is read, if by one.
+    /// The expression that reads the lines, if there is one.
     pub expression: Option<Expression>,
 }
 
-/// What the texts say in plain words.
+/// The contents of texts in plain words.
 fn plainly<'a>(
     alloc: Global,
     range: LineRange,
@@ -45,7 +45,7 @@ fn plainly<'a>(
     })
 }
 
-/// What they say as logs for ShiViz do.
+/// The contents of texts in the form of logs for ShiViz.
 fn with_clocks<'a>(
     alloc: Global,
     range: LineRange,
@@ -65,7 +65,7 @@ fn with_clocks<'a>(
     })
 }
 
-/// Whether the event above is said by the line at this place.
+/// Whether the previous event is of the line at this place.
 fn is_of_line(above: Option<Place>, place: Place) -> bool
     ensures { result ≡ is_of_line above place }
 {
@@ -75,7 +75,7 @@ fn is_of_line(above: Option<Place>, place: Place) -> bool
     }
 }
 
-/// Whether a line says two events, which are the send and the receive of a captured message.
+/// Whether a line has two events: the send and the receive of a captured message.
 fn is_captured(logged: &[LoggedEvent<'_>]) -> bool
     ensures { result ≡ is_captured None (map logged_event_view logged.now) }
 {
@@ -89,7 +89,7 @@ fn is_captured(logged: &[LoggedEvent<'_>]) -> bool
     false
 }
 
-/// The expression of this text. F39: it is none.
+/// The expression with this text. F39: the text is no expression.
 fn expression_in(alloc: Global, text: &str) -> Result<Expression, LogImportError>
     ensures ok { IfOk result (IsExpression text.now) }
     ensures err { IfErr result (IsBadExpression text.now) }
@@ -101,7 +101,7 @@ fn expression_in(alloc: Global, text: &str) -> Result<Expression, LogImportError
     }
 }
 
-/// What they say by an expression.
+/// The contents of texts that an expression reads.
 fn by_pattern<'a>(
     alloc: Global,
     pattern: &str,
@@ -126,7 +126,7 @@ fn by_pattern<'a>(
     })
 }
 
-/// What the texts of a log say. F39: its expression is none.
+/// The contents of a log's texts. F39: the expression is invalid.
 pub(crate) fn read_log<'a>(
     alloc: Global,
     form: Form<'_>,

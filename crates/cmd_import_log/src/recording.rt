@@ -1,9 +1,11 @@
-//! The recording of a log: its chart, and what it tells beside it.
-ghost use Rattle.std.specs.Prelude.{◌≡◌, ◌≤◌, length, vec_len, map, All, AllPairs, IfOk};
+//! The recording of a log: its chart, and what the log declares about choices and arrivals.
+ghost use Rattle.std.specs.Prelude.{◌≡◌, ◌≤◌, length, map, All, IfOk};
+ghost use Rattle.chart.specs.Charts.{IsNumbered};
 ghost use Rattle.log_lines.specs.Events.{logged_event_view};
 ghost use Rattle.log_lines.specs.Names.Naming.{named_view};
 ghost use Rattle.log_lines.specs.Takes.Observations.{observations_view};
 ghost use Rattle.log_chart.specs.Entries.{HaveStreams};
+ghost use Rattle.race_verdicts.specs.Luck.Recorded.{IsRecording};
 ghost use Rattle.race_verdicts.specs.Recordings.{recording_view};
 ghost use Rattle.cmd_import_log.specs.Options.{Pattern, form_view, options_view};
 ghost use Rattle.cmd_import_log.specs.Reading.{IsKept};
@@ -22,11 +24,11 @@ use log_lines::takes::{Arrived, Observations, arrivals_in, keys_in, read_observe
 use race_verdicts::{Arrival, LineWords, Recording, Taken};
 use std::alloc::{AllocError, Global};
 
-/// The chart that a log says, with what is told of it, and what the log tells beside it.
+/// The chart of a log with its warnings, and what the log declares about choices and arrivals.
 #[derive(Drop)]
 pub struct LogRecording<'a> {
     pub drawing: LogDrawing,
-    /// The log's lines, each receive with the send that it takes.
+    /// The log's lines. Each receive has the send that it takes.
     pub lines: Vec<LogLine>,
     /// The events of each host, as the chart has them.
     pub hosts: Vec<HostLine>,
@@ -34,9 +36,9 @@ pub struct LogRecording<'a> {
     pub words: Vec<LineWords<'a>>,
     /// What receives would have taken, in the order of their lines.
     pub taken: Vec<Taken<'a>>,
-    /// What arrived, in the order of the log.
+    /// The arrivals, in the order of the log.
     pub arrivals: Vec<Arrival>,
-    /// Whether its lines are events in the order in which their hosts had them, so that luck is known of its races.
+    /// Whether its lines are in the order in which their hosts had the events. Then luck is known.
     pub is_known: bool,
 }
 
@@ -55,7 +57,7 @@ impl<'a> LogRecording<'a> {
     }
 }
 
-/// What the texts tell beside messages by an expression, if there is one.
+/// What the texts declare beside messages, if an expression reads them.
 fn observed_by_pattern<'a>(
     alloc: Global,
     options: &Options<'a>,
@@ -72,7 +74,7 @@ fn observed_by_pattern<'a>(
     }
 }
 
-/// What the texts tell beside messages, in plain words or by an expression.
+/// What the texts declare beside messages, in plain words or by an expression.
 fn observed_of<'a>(
     alloc: Global,
     options: &Options<'a>,
@@ -89,7 +91,7 @@ fn observed_of<'a>(
     }
 }
 
-/// Whether luck is known of the races of a log of this form, beside whose events this was read.
+/// Whether luck is known for a log of this form, with these other contents.
 fn is_known(form: Form<'_>, beside: Beside) -> bool
     ensures { result ≡ is_known (form_view form.entry) beside }
 {
@@ -99,7 +101,7 @@ fn is_known(form: Form<'_>, beside: Beside) -> bool
     }
 }
 
-/// The arrivals that are told of a log with these events and entries.
+/// The arrivals of a log with these events and entries.
 fn arrivals_of<'a>(
     alloc: Global,
     options: &Options<'a>,
@@ -148,7 +150,7 @@ fn recorded<'a>(
     })
 }
 
-/// The recording of the lines by names, with these events, where this is told beside them.
+/// The recording of these lines and events, with these declarations.
 fn recording_of<'a>(
     alloc: Global,
     options: &Options<'a>,
@@ -166,12 +168,11 @@ fn recording_of<'a>(
     Ok(recorded(alloc, options, logged, settled, observed, is_known)?)
 }
 
-/// The recording that the texts of a log say: its chart is the one of [`drawing_in`](crate::drawing_in), and there is
-/// none exactly where that has none.
+/// The recording of a log's texts. Its chart is that of [`drawing_in`](crate::drawing_in). There is no recording
+/// exactly if there is no chart.
 ///
-/// F39 refuses an expression that is none, F38 texts in which no line says a message, F51 those in
-/// which none says a receive, then F8, F13 and F7 a log
-/// without a chart. F6 may come at any point.
+/// F39 refuses an invalid expression, F38 texts without a message, and F51 texts without a receive. F8, F13 and F7
+/// then refuse a log without a chart. F6 is possible at any point.
 pub fn recording_in<'a>(
     alloc: Global,
     options: Options<'a>,
@@ -180,8 +181,8 @@ pub fn recording_in<'a>(
     ensures records { Records result (options_view options.entry) (map (λ text. text.now) texts.now) }
     ensures named { IfOk result (λ r. length r.drawing.diagnostics.names ≡ length r.drawing.chart) }
     ensures invented { IfOk result (λ r. All (λ e. e.instance ≤ length r.drawing.diagnostics.names) r.drawing.diagnostics.invented.items) }
-    ensures words { IfOk result (λ r. vec_len r.words ≡ vec_len r.lines) }
-    ensures taken { IfOk result (λ r. AllPairs (λ a b. a.line ≤ b.line) (lent_of r).taken) }
+    ensures keeps { IfOk result (λ r. IsRecording r.drawing.chart (lent_of r)) }
+    ensures numbered { IfOk result (λ r. IsNumbered r.drawing.chart) }
 {
     let ReadLog {
         read,

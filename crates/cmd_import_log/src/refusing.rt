@@ -5,7 +5,9 @@ ghost use Rattle.cmd_base.specs.Refusals.{Tried};
 ghost use Rattle.cmd_import_log.specs.Refusals.{full_text, place_text, bad_pattern_text, no_log_line, no_log_text, no_receive_line, one_end_line};
 ghost use Rattle.cmd_import_log.specs.Refusals.{one_send_text, several_sends_text, sends_text, no_receive_text, one_end_text, log_refusal_text};
 
-use crate::answers::{add_one_ended_note, add_others_of};
+use crate::answers::{
+    Diagnostics, add_all_alike, add_all_lined, add_all_lineless, add_one_ended_note, add_others_of,
+};
 use crate::error::LogImportError;
 use crate::faults::add_fault;
 use chart::Name;
@@ -39,7 +41,7 @@ fn write_full<V: Out>(name: &[u8], err: &mut V) -> Result<(), WriteError>
     text.finish()
 }
 
-/// Prints the line of F7, and answers the exit status.
+/// Prints the line of F7, and returns the exit status.
 fn refused_full<V: Out>(name: &Name, err: &mut V) -> u8
     ensures status { result ≡ 2 }
     ensures line { Tried V.sink err.old err.new (full_text name.now) }
@@ -63,7 +65,7 @@ fn add_place<V: Out>(text: &mut TextBuffer<'_, V>, place: usize) -> Result<(), W
     )
 }
 
-/// Adds the line of F39 and what is wrong with the expression.
+/// Adds the line of F39, and the line about the expression's fault.
 #[tactic(auto, using(texts::proofs::Writes::joining), unfolding(crate::specs::Refusals::bad_pattern_text))]
 fn add_pattern<V: Out>(
     text: &mut TextBuffer<'_, V>,
@@ -85,7 +87,7 @@ fn write_pattern<V: Out>(place: usize, fault: Fault, err: &mut V) -> Result<(), 
     text.finish()
 }
 
-/// Prints the line of F39 and what is wrong with the expression, and answers the exit status.
+/// Prints the line of F39 and the line about the expression's fault, and returns the exit status.
 fn refused_pattern<V: Out>(place: usize, fault: Fault, err: &mut V) -> u8
     ensures status { result ≡ 2 }
     ensures line { Tried V.sink err.old err.new (bad_pattern_text place fault) }
@@ -101,7 +103,7 @@ fn add_no_log_line<V: Out>(text: &mut TextBuffer<'_, V>) -> Result<(), WriteErro
     text.add(b"refused: F38 NotALog\n")
 }
 
-/// Adds the line of F38 and which lines aren't read.
+/// Adds the line of F38, and the line about lines that don't match.
 #[tactic(auto, using(texts::proofs::Writes::joining), unfolding(crate::specs::Refusals::no_log_text))]
 fn add_no_log<V: Out>(
     text: &mut TextBuffer<'_, V>,
@@ -136,7 +138,7 @@ fn write_no_log<V: Out>(
     text.finish()
 }
 
-/// Prints the line of F38 and which lines aren't read, and answers the exit status.
+/// Prints the line of F38 and the line about lines that don't match, and returns the exit status.
 fn refused_no_log<V: Out>(files: &[&[u8]], lines: u64, others: Option<Others>, err: &mut V) -> u8
     ensures status { result ≡ 2 }
     ensures line { Tried V.sink err.old err.new (no_log_text (map (λ file. file.now) files.now) lines others) }
@@ -165,7 +167,7 @@ fn add_several_sends<V: Out>(text: &mut TextBuffer<'_, V>, sends: u64) -> Result
     )
 }
 
-/// Adds how many lines say a message, though none is a receive.
+/// Adds the number of lines with messages, none of which is a receive.
 fn add_sends<V: Out>(text: &mut TextBuffer<'_, V>, sends: u64) -> Result<(), WriteError>
     ensures { Adds V.sink text.old text.new result (sends_text sends) }
 {
@@ -183,7 +185,7 @@ fn add_no_receive_line<V: Out>(text: &mut TextBuffer<'_, V>) -> Result<(), Write
     text.add(b"refused: F51 NoReceive\n")
 }
 
-/// Adds the line of F51, how many lines match and which don't.
+/// Adds the line of F51, the number of lines that match, and the line about those that don't.
 #[tactic(auto, using(texts::proofs::Writes::joining), unfolding(crate::specs::Refusals::no_receive_text))]
 fn add_no_receive<V: Out>(
     text: &mut TextBuffer<'_, V>,
@@ -221,7 +223,8 @@ fn write_no_receive<V: Out>(
     text.finish()
 }
 
-/// Prints the line of F51, how many lines match and which don't, and answers the exit status.
+/// Prints the line of F51, the number of lines that match and the line about those that don't. Returns the exit
+/// status.
 fn refused_no_receive<V: Out>(
     files: &[&[u8]],
     sends: u64,
@@ -243,37 +246,45 @@ fn add_one_end_line<V: Out>(text: &mut TextBuffer<'_, V>) -> Result<(), WriteErr
     text.add(b"refused: F52 OneEnd\n")
 }
 
-/// Adds the line of F52, and why.
+/// Adds the line of F52 and why, and the hosts of the log: those with lines of their own, those without, and those that
+/// it may call by two words.
 #[tactic(auto, using(texts::proofs::Writes::joining), unfolding(crate::specs::Refusals::one_end_text))]
-fn add_one_end<V: Out>(text: &mut TextBuffer<'_, V>) -> Result<(), WriteError>
-    ensures { Adds V.sink text.old text.new result (one_end_text) }
+fn add_one_end<V: Out>(
+    text: &mut TextBuffer<'_, V>,
+    diagnostics: &Diagnostics,
+) -> Result<(), WriteError>
+    ensures { Adds V.sink text.old text.new result (one_end_text diagnostics.now) }
 {
     add_one_end_line(text)?;
-    add_one_ended_note(text)
+    add_one_ended_note(text)?;
+    add_all_lined(text, &diagnostics.lined)?;
+    add_all_lineless(text, &diagnostics.lineless)?;
+    add_all_alike(text, &diagnostics.alike)
 }
 
 #[tactic(auto, using(texts::proofs::Writes::joining))]
-fn write_one_end<V: Out>(err: &mut V) -> Result<(), WriteError>
-    ensures { Wrote V.sink err.old err.new result one_end_text }
+fn write_one_end<V: Out>(diagnostics: &Diagnostics, err: &mut V) -> Result<(), WriteError>
+    ensures { Wrote V.sink err.old err.new result (one_end_text diagnostics.now) }
 {
     let mut text = TextBuffer::new(err);
-    add_one_end(&mut text)?;
+    add_one_end(&mut text, diagnostics)?;
     text.finish()
 }
 
-/// Prints the line of F52 and why: where a log has one end of each message, no race is claimed. Answers the exit
-/// status, which is 2 whether or not this could be written.
-pub fn refused_one_end<V: Out>(err: &mut V) -> u8
+/// Prints the line of F52 and why: if a log has one end of each message, no race is claimed. The hosts follow, those
+/// with lines of their own and those without, and those that the log may call by two words. Returns the exit status,
+/// which is 2 whether or not all of it could be written.
+pub fn refused_one_end<V: Out>(diagnostics: &Diagnostics, err: &mut V) -> u8
     ensures status { result ≡ 2 }
-    ensures line { Tried V.sink err.old err.new one_end_text }
+    ensures line { Tried V.sink err.old err.new (one_end_text diagnostics.now) }
 {
-    let _ = write_one_end(err);
+    let _ = write_one_end(diagnostics, err);
     2
 }
 
-/// Prints the line of a log's refusal, behind F38 and F51 which lines aren't read, and behind F39 what is wrong. The
-/// files are the names of several, or none of one. Answers the exit status, which is 2 whether or not this could be
-/// written.
+/// Prints the line of a log's refusal. After F38 and F51 a further line counts those that don't match, and after F39
+/// one reports the fault. `files` has the names of several files, and is empty for one. Returns the exit status,
+/// which is 2 whether or not this could be written.
 pub fn refused_log<V: Out>(files: &[&[u8]], error: &LogImportError, err: &mut V) -> u8
     ensures status { result ≡ 2 }
     ensures line { Tried V.sink err.old err.new (log_refusal_text (map (λ file. file.now) files.now) error.now) }

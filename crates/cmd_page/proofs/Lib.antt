@@ -1,3 +1,4 @@
+pub mod JudgedLemmas
 pub mod MarksLemmas
 pub mod RaceLemmas
 pub mod TextLemmas

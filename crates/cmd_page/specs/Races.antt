@@ -1,28 +1,32 @@
 -- The races of a page.
-use Rattle.std.specs.Prelude.{◌≡◌, ℕ, nat_lt, Bool, true, false, List, ◌++◌, length, slice_get, Option, None, Some}
+use Rattle.std.specs.Prelude.{◌≡◌, ℕ, nat_lt, Bool, true, false, List, length, slice_get, Option, None, Some}
 use Rattle.chart.specs.declared.event.Event.{Event}
+use Rattle.chart.specs.declared.instance.EventNo.{EventNo}
+use Rattle.chart.specs.declared.ranges.EventRange.{EventRange}
 use Rattle.chart.specs.Charts.{chart_lines}
-use Rattle.chart.specs.Events.{ith}
 use Rattle.cmd_base.specs.Files.{Named}
 use Rattle.texts.specs.Instances.{name_at}
 use Rattle.cmd_page.specs.declared.text.race.Answers.{Answers}
 use Rattle.cmd_page.specs.declared.text.race.Race.{Race}
-use Rattle.races_text.specs.Named.PlainText.{last_of, range_text}
-use Rattle.races_text.specs.Named.Words.{word_text, text_at}
-use Rattle.races_text.specs.declared.named.words.Word.TheVariants as words
+use Rattle.race_verdicts.specs.declared.verdict.Verdict.{Verdict}
+use Rattle.races_text.specs.Named.PlainText.{last_of, race_text}
+use Rattle.races_text.specs.Judged.PlainText.{race_text as judged_text}
 use Rattle.cmd_page.specs.declared.answers.answers.Subject.{Subject}
 use Rattle.cmd_page.specs.declared.marks.pairs.RaceRange.{RaceRange}
 use Rattle.cmd_page.specs.Answers.Answering.{plus, AreAnswers}
 use Rattle.cmd_page.specs.Marks.Marking.{AreMarks}
 
--- a race by the names of its messages, as `mscview races` tells it: INSTANCE: RECEIVE may come before RANGE
-unfoldable pub title_text : List (List ℕ) → List Event → RaceRange → List ℕ
-title_text names events race = name_at names race.receive.instance ++ (word_text words.Colon
-    ++ (text_at names race.receive.index (ith events race.receive.index) ++ (word_text words.MayCome
-    ++ range_text names events race.earlier)))
+-- a race by the names of its messages, as `mscview races` lists it without the end of the line: INSTANCE: RECEIVE may
+-- come before RANGE. If the verdict is known, ; WORD follows
+abbrev pub listed_text : List (List ℕ) → List Event → EventNo → EventRange → Option Verdict → List ℕ
+listed_text names events receive range None = race_text names events receive range
+listed_text names events receive range (Some verdict) = judged_text names events receive (record { range = range; verdict = verdict })
 
--- what is asked of a race: of its receive, and of the first of its earlier events. So many lines stand above the rows of
--- what says why it is one.
+abbrev pub title_text : List (List ℕ) → List Event → RaceRange → List ℕ
+title_text names events race = listed_text names events race.receive race.earlier race.verdict
+
+-- the question about a race: it is about the receive and the first of its earlier events. `above` counts the lines
+-- above the rows in the output of `why`
 pub record IsSubject (bytes : List ℕ) (names : List (List ℕ)) (events : List Event) (race : RaceRange) (above : ℕ)
     (of : Subject) : Type 0 where
   pub file : of.bytes.now ≡ bytes
@@ -36,12 +40,12 @@ pub record IsSubject (bytes : List ℕ) (names : List (List ℕ)) (events : List
   pub receive : of.receive ≡ race.receive.index
   pub rows : of.above ≡ above
 
--- the answers are to that
+-- the explanation is that of this race
 abbrev pub IsAnswered : List ℕ → List (List ℕ) → List Event → RaceRange → ℕ → Answers → Type 0
 IsAnswered bytes names events race above answers =
     (of : Subject) × IsSubject bytes names events race above of × AreAnswers of answers
 
--- they are told, or not
+-- the explanation is there, or it isn't
 abbrev pub HasAnswers : Bool → List ℕ → List (List ℕ) → List Event → RaceRange → ℕ → Option Answers → Type 0
 HasAnswers false bytes names events race above None = Unit {0}
 HasAnswers false bytes names events race above (Some answers) = ⊥
@@ -58,12 +62,12 @@ pub record IsPageRace (explained : Bool) (bytes : List ℕ) (named : Named) (of 
   pub answers : HasAnswers explained bytes named.0 (chart_lines named.1 of.receive.instance) of
       (plus (length race.before.items) (length race.also.items)) race.answers
 
--- the first n of them, of which so many are told in full
+-- the first n races of a page. The first `explained` are described in full
 pub record AreFirst (bytes : List ℕ) (named : Named) (explained : ℕ) (of : List RaceRange) (n : ℕ) (races : List Race) : Type 0 where
   pub whole : length races ≡ n
   pub each : (place : ℕ) (race : Race) → slice_get races place ≡ Some race → (pair : RaceRange)
       → slice_get of place ≡ Some pair → IsPageRace (nat_lt place explained) bytes named pair race
 
--- all of them
+-- all races of a page
 abbrev pub AreRaces : List ℕ → Named → ℕ → List RaceRange → List Race → Type 0
 AreRaces bytes named explained of races = AreFirst bytes named explained of (length of) races

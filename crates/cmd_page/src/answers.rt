@@ -1,8 +1,8 @@
-//! What a page tells of a race: what `mscview why`, `mscview witness` and `mscview mend` leave of its two events,
-//! and which rows of it are shown.
+//! The explanation of a race on a page: the output of `mscview why`, `mscview witness` and `mscview mend` for its two
+//! events, and the rows of it that are shown.
 //!
-//! What is promised of [`answers_of`], unless an allocation is refused: each text is what its command leaves of the
-//! file's bytes, and the rows that are shown are those round the two events.
+//! Unless an allocation is refused, [`answers_of`] returns the output of each command for the file's bytes. The rows
+//! that are shown are those round the two events.
 
 mod answers;
 mod collected;

@@ -1,20 +1,21 @@
-//! What `mscview page` does with the bytes of a file: the page of its chart, and what it says where it can't.
+//! What `mscview page` writes for the bytes of a file: the page of its chart, or a refusal.
 //!
-//! What is promised of [`write_page_of`]: the bytes of the file and a title decide the output's bytes.
+//! The bytes of the file and a title decide the output of [`write_page_of`].
 //!
-//! - With status 0 exactly the text of a page was written. It is of the chart that the file says, which is
-//!   possible. Its picture is what `mscview draw` writes of the file. It has each range of earlier events of each
-//!   receive's report, by the names of its messages, with what has to come before the receive. Those that are told
-//!   in full have what `mscview why`, `mscview witness` and `mscview mend` leave of the receive and the range's
-//!   first event.
-//! - With status 2 the refusal's line was written, or a beginning of it where standard error failed, and nothing went
-//!   to the output before it, unless a write failed (F24).
+//! - With status 0 it wrote exactly the text of a page. Some run has the file's chart. The picture is the output of
+//!   `mscview draw` for the file. The page lists each range of earlier events in each receive's report, by the names
+//!   of its messages. Each has the events that must come before the receive. A race that is described in full has the
+//!   output of `mscview why`, `mscview witness` and `mscview mend`. These are for the receive and the range's first
+//!   event.
+//! - With status 2 it wrote the refusal's line, or the beginning of it if standard error failed. Nothing was written
+//!   to the output before, unless a write failed (F24).
 //!
-//! Of [`show_drawn`] the same is promised with the text of a chart in place of the file's bytes. Where a
-//! [`Heading`] tells whose turn it is, the picture is what `mscview draw` writes of the chart in this order.
+//! [`show_drawn`] promises the same with the text of a chart in place of the file's bytes. If a [`Heading`] has
+//! turns, the picture is the output of `mscview draw` for the chart in this order. If it has races with verdicts, the
+//! page lists these, with the words of `mscview races --from log`.
 //!
-//! [`marks`] has what a page marks, [`text`] its text, [`answers`] what is said of each race; [`imports`] and
-//! [`logs`] make pages of diagrams and of logs.
+//! [`marks`] has the numbers that a page marks, [`text`] its text, and [`answers`] the explanation of each race.
+//! [`imports`] and [`logs`] make pages of diagrams and of logs.
 #![tactic(auto)]
 
 pub mod answers;

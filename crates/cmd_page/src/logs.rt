@@ -1,14 +1,16 @@
-//! What `mscview page --from log` does with the bytes of a log, and what it says where it can't.
+//! What `mscview page --from log` writes for the bytes of a log, and its refusals.
 //!
-//! What is promised of [`page_of_log`], given which lines an expression matches and what its groups are: the bytes
-//! of the texts, the options of their reading and a title decide the output's bytes.
+//! The bytes of the texts, the options and a title decide the output of [`page_of_log`]. This presupposes the matches
+//! of an expression and their groups.
 //!
-//! - With status 0 exactly the page was written that `mscview page` writes of the text that `mscview import` writes
-//!   of the same texts. Standard error tells what an import tells.
-//! - A log that has one end of each message is refused (F52): no receive takes a send of it.
-//! - With status 2 the refusal's line was written, or a beginning of it where standard error failed, and nothing went
-//!   to the output before it, unless a write failed (F24).
+//! - With status 0 it wrote exactly the page that `mscview page` writes for the chart of `mscview import`. If luck is
+//!   known, its races are those that `mscview races --from log` writes, with the same words. Standard error has the
+//!   warnings of an import.
+//! - A log with one end of each message is refused (F52): no receive takes a send of it.
+//! - With status 2 it wrote the refusal's line, or the beginning of it if standard error failed. Nothing was written
+//!   to the output before, unless a write failed (F24).
 
+mod judged;
 mod showing;
 
 pub use showing::{PageError, page_of_log};

@@ -1,11 +1,11 @@
-//! The races of a page, and what it marks of each, as numbers.
+//! The races of a page, and the events that it marks for each, as numbers.
 //!
-//! What is promised, unless an allocation is refused: the races are one for each range of earlier events of each
-//! receive's report ([`pairs_of`]). Of a receive all is known that has to come before it: of each line so many
-//! first events, and earlier receives from its sender ([`marks_of`]).
+//! Unless an allocation is refused, there is a race for each range of earlier events in each receive's report
+//! ([`pairs_of`]). [`marks_of`] returns all events that must come before a receive: a number of first events for each
+//! line, and the earlier receives from its sender.
 
 mod marks;
 mod pairs;
 
 pub use marks::{Marks, line_of, marks_of};
-pub use pairs::{MOST_BYTES, MOST_EXPLAINED, RaceRange, explained_of, pairs_of};
+pub use pairs::{MOST_BYTES, MOST_EXPLAINED, RaceRange, explained_of, pairs_of, races_in};

@@ -15,19 +15,20 @@ use chart::{Event, Names};
 use closure::Closure;
 use cmd_base::Source;
 use cmd_base::pairs::Asked;
-use races_text::named::{Word, add_event_at, add_name, add_range, add_word, event_at, last_of};
+use races_text::judged;
+use races_text::judged::Part;
+use races_text::named::{add_race, last_of};
 use std::alloc::{AllocError, Global};
 use texts::{MemoryOut, Out, TextBuffer, WriteError};
 
-/// A file that was read: its bytes, and where the chart comes from that they say.
+/// A file that was read: its bytes, and the source of its chart.
 #[derive(Clone, Copy)]
 pub(crate) struct ReadFile<'a> {
     pub bytes: &'a [u8],
     pub source: &'a Source<'a>,
 }
 
-/// Adds a race by the names of its messages.
-#[tactic(auto, using(texts::proofs::Writes::joining), unfolding(crate::specs::Races::title_text))]
+/// Adds a race by the names of its messages, with its word if its verdict is known.
 fn add_title<W: Out>(
     text: &mut TextBuffer<'_, W>,
     names: &Names,
@@ -37,12 +38,16 @@ fn add_title<W: Out>(
     requires { IsRange race.now.earlier }
     ensures { Adds W.sink text.old text.new result (title_text names.now events.now race.now) }
 {
-    let index = race.receive.index;
-    add_name(text, names, race.receive.instance)?;
-    add_word(text, Word::Colon)?;
-    add_event_at(text, names, index, &event_at(events, index as usize))?;
-    add_word(text, Word::MayCome)?;
-    add_range(text, names, events, &race.earlier)
+    match race.verdict {
+        None => add_race(text, names, events, &race.receive, &race.earlier),
+        Some(verdict) => {
+            let part = Part {
+                range: race.earlier,
+                verdict,
+            };
+            judged::add_race(text, names, events, &race.receive, &part)
+        }
+    }
 }
 
 #[tactic(auto, using(texts::proofs::Writes::joining))]
@@ -60,7 +65,7 @@ fn write_title<W: Out>(
     text.finish()
 }
 
-/// A race by the names of its messages, as `mscview races` tells it.
+/// A race by the names of its messages, as `mscview races` lists it.
 fn title_of(
     alloc: Global,
     names: &Names,
@@ -77,7 +82,7 @@ fn title_of(
     }
 }
 
-/// What is told of a race in full, of an instance of this name.
+/// The explanation of a race of an instance with this name.
 fn named_answers<'a>(
     alloc: Global,
     file: ReadFile<'a>,
@@ -112,14 +117,14 @@ fn named_answers<'a>(
     Ok(answers)
 }
 
-/// How many lines stand above the rows of what says why it is a race.
+/// The number of lines above the rows in the output of `why`.
 fn above_rows(marks: &Marks) -> u64
     ensures { result ≡ plus (length marks.now.before.items) (length marks.now.also.items) }
 {
     (marks.before.len() as u64).saturating_add(marks.also.len() as u64)
 }
 
-/// What is told of a race in full.
+/// The explanation of a race.
 fn full_answers(
     alloc: Global,
     file: ReadFile<'_>,
@@ -135,7 +140,7 @@ fn full_answers(
     named_answers(alloc, file, names, events, name.as_slice(), race, above)
 }
 
-/// What is told of a race, if it is told in full.
+/// The explanation of a race, if it is described in full.
 fn answers_if(
     alloc: Global,
     file: ReadFile<'_>,
@@ -186,7 +191,7 @@ fn race_of(
     })
 }
 
-/// The races of a page, of which so many are told in full.
+/// The races of a page. The first `explained` are described in full.
 pub(crate) fn races_of(
     alloc: Global,
     file: ReadFile<'_>,

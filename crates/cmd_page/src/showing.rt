@@ -1,8 +1,9 @@
 //! The page of a file.
-ghost use Rattle.std.specs.Prelude.{◌≡◌, length, option_map, IfOk};
+ghost use Rattle.std.specs.Prelude.{◌≡◌, length, option_map, All, IfOk, IfSome};
 ghost use Rattle.chart.specs.Charts.{chart_lines, IsPossible};
 ghost use Rattle.cmd_base.specs.Answers.{Answers};
 ghost use Rattle.cmd_base.specs.Texts.{IsReadAs};
+ghost use Rattle.cmd_page.specs.Marks.Pairing.{HasRange};
 ghost use Rattle.cmd_page.specs.Showing.{
   HasPicture,
   IsAskedOf,
@@ -17,7 +18,7 @@ ghost use Rattle.cmd_page.specs.Showing.{
 };
 
 use crate::answers::Collected;
-use crate::marks::{explained_of, pairs_of};
+use crate::marks::{RaceRange, explained_of, races_in};
 use crate::races::{ReadFile, races_of};
 use crate::text::{Page, write_page};
 use chart::{Chart, InstanceNo, Names};
@@ -27,13 +28,15 @@ use cmd_draw::{Events, Rows, Wanted, draw, draw_chart};
 use std::alloc::{AllocError, Global};
 use texts::Out;
 
-/// How a page is called, and whose events its picture has from the top on.
+/// The title of a page, the order of events in its picture, and its races.
 #[derive(Clone, Copy, Debug)]
 pub struct Heading<'a> {
-    /// What stands above the page and above its picture: any bytes.
+    /// The title above the page and above its picture: any bytes.
     pub title: &'a [u8],
-    /// Whose turn it is, one event after another. Without turns the rows are those that `draw` gives the file.
+    /// The instance of each event, from top to bottom. Without turns the rows are those of `draw` for the file.
     pub turns: Option<&'a [InstanceNo]>,
+    /// The races with their verdicts. Without them the races are those of the chart's reports, and have no words.
+    pub races: Option<&'a [RaceRange]>,
 }
 
 /// The whole picture with this title.
@@ -49,7 +52,7 @@ fn wanted_of(title: &[u8]) -> Wanted<'_>
     }
 }
 
-/// The picture of a file with this title: what `draw` writes.
+/// The picture of a file with this title: the output of `draw`.
 fn picture_of(alloc: Global, bytes: &[u8], title: &[u8]) -> Result<Vec<u8>, AllocError>
     ensures { IfOk result (λ picture. IsDrawn bytes.now title.now picture.items) }
 {
@@ -64,8 +67,8 @@ fn picture_of(alloc: Global, bytes: &[u8], title: &[u8]) -> Result<Vec<u8>, Allo
     }
 }
 
-/// The picture of a chart with this title, by whose turn it is, with no note beside it. It fails only where there is no
-/// memory, or where the chart isn't possible.
+/// The picture of a chart with this title, in the order of the turns, without notes. It fails only if there is no
+/// memory, or if no run has the chart.
 fn picture_by(
     alloc: Global,
     names: &Names,
@@ -84,7 +87,7 @@ fn picture_by(
     }
 }
 
-/// The picture of a page: that of the file, or of its chart by turns.
+/// The picture of a page: that of the file, or of its chart in the order of turns.
 fn picture_in(
     alloc: Global,
     bytes: &[u8],
@@ -102,8 +105,7 @@ fn picture_in(
     }
 }
 
-/// Writes the page of a possible chart, of which this is the picture. All memory is taken before the first byte is
-/// written.
+/// Writes the page of a possible chart with this picture. It allocates all memory before it writes the first byte.
 fn show_closure<W: Out>(
     alloc: Global,
     file: ReadFile<'_>,
@@ -117,13 +119,11 @@ fn show_closure<W: Out>(
     requires possible { IsPossible (length closure.now) (chart_lines closure.now) }
     requires picture { HasPicture (option_map (λ turns. turns.now) heading.now.turns) file.bytes.now heading.now.title.now
         (names.now, closure.now) picture.now }
+    requires ranges { IfSome heading.now.races (λ races. All HasRange races.now) }
     ensures { Shows W.sink out.old out.new result file.entry.bytes.now (heading_view heading.now)
         (names.now, closure.now) }
 {
-    let Ok(reports) = closure.races() else {
-        return Err(ProgramError::Memory);
-    };
-    let Ok(pairs) = pairs_of(alloc, reports.as_slice()) else {
+    let Ok(pairs) = races_in(alloc, closure, heading.races) else {
         return Err(ProgramError::Memory);
     };
     let explained = explained_of(file.bytes.len(), pairs.len());
@@ -142,7 +142,7 @@ fn show_closure<W: Out>(
     }
 }
 
-/// Writes the page of a chart. F16, F17 or F18 refuses one that isn't possible.
+/// Writes the page of a chart. F16, F17 or F18 refuses one that no run has.
 fn show_chart<W: Out>(
     alloc: Global,
     file: ReadFile<'_>,
@@ -153,6 +153,7 @@ fn show_chart<W: Out>(
 ) -> Result<(), ProgramError>
     requires read_as { IsReadAs file.bytes.now file.source.now }
     requires named { length names.now ≡ length chart.now }
+    requires ranges { IfSome heading.now.races (λ races. All HasRange races.now) }
     ensures { Shows W.sink out.old out.new result file.entry.bytes.now (heading_view heading.now) (names.now, chart.now) }
 {
     let closure = closure_of(alloc, names, chart)?;
@@ -170,14 +171,15 @@ fn show_chart<W: Out>(
     )
 }
 
-/// Writes the page of what the file says, with a picture by turns where these are given. It is read once for all that
-/// is told of its races. The refusals are those of [`write_page_of`].
+/// Writes the page of a file's chart, with the picture, the turns and the races of the heading. The file is read once
+/// for all explanations. The refusals are those of [`write_page_of`].
 pub fn show_text<W: Out>(
     alloc: Global,
     bytes: &[u8],
     heading: &Heading<'_>,
     out: &mut W,
 ) -> Result<(), ProgramError>
+    requires ranges { IfSome heading.now.races (λ races. All HasRange races.now) }
     ensures { ShowsText W.sink out.old out.new (heading_view heading.now) bytes.now result }
 {
     let text = Text::read(alloc, bytes)?;
@@ -189,14 +191,15 @@ pub fn show_text<W: Out>(
     show_chart(alloc, file, heading, source.names(), source.chart(), out)
 }
 
-/// Writes the page of what a file says, and answers which commands of its schedule did nothing. The refusals are those
-/// of [`write_page_of`].
+/// Writes the page of a file, and returns the commands of its schedule that did nothing. The refusals are those of
+/// [`write_page_of`].
 fn show_file<W: Out>(
     alloc: Global,
     bytes: &[u8],
     heading: &Heading<'_>,
     out: &mut W,
 ) -> Result<Option<NotDone>, ProgramError>
+    requires ranges { IfSome heading.now.races (λ races. All HasRange races.now) }
     ensures { ShowsFile W.sink out.old out.new (heading_view heading.now) bytes.now result }
 {
     let text = Text::read(alloc, bytes)?;
@@ -209,11 +212,12 @@ fn show_file<W: Out>(
     Ok(source.not_done())
 }
 
-/// Writes the page of the chart that the bytes of a file say, or of what the schedule comes to that they say: its
-/// picture, its races, and what `why`, `witness` and `mend` say of those that are told in full. Writes the line of a
-/// refusal to `err`, and of a schedule how many of its commands did nothing. Answers the exit status: 0 where it was
-/// written, 2 after a refusal. The text's faults are refused first, then F16, F17 or F18. Nothing is written to `out`
-/// before a refusal, but where writing to it failed (F24). A failed write to `err` changes nothing.
+/// Writes the page of a file's chart to `out`. The bytes are a chart or a schedule, and a schedule is replayed. The
+/// page has the picture, the races, and the output of `why`, `witness` and `mend` for the races that are described in
+/// full. The line of a refusal goes to `err`, and so does the number of a schedule's commands that did nothing. The
+/// exit status is 0 if the page was written, and 2 after a refusal. The faults of the text come first, then F16, F17
+/// or F18. Nothing is written to `out` before a refusal, unless writing to it failed (F24). A failed write to `err`
+/// changes nothing.
 pub fn write_page_of<W: Out, V: Out>(
     alloc: Global,
     bytes: &[u8],
@@ -224,6 +228,10 @@ pub fn write_page_of<W: Out, V: Out>(
     ensures { Answers (ShowsFile W.sink out.old out.new (titled title.now) bytes.now) page_exit V.sink err.old err.new
         result }
 {
-    let heading = Heading { title, turns: None };
+    let heading = Heading {
+        title,
+        turns: None,
+        races: None,
+    };
     answered(&show_file(alloc, bytes, &heading, out), err)
 }

@@ -1,9 +1,8 @@
-//! Pages of charts, as HTML text: the picture, and the races with what is told of each.
+//! Pages of charts, as HTML text: the picture, and the races with their explanations.
 //!
-//! What is promised of [`write_page`]: exactly the page's text was written, or a beginning of it, where a put
-//! failed (F24). The text is a function of what the page is of ([`Page`]): of a title, of a picture, which is put
-//! as it is, and of races. Of titles and of what is told nothing is put but its characters, spelled so that none is
-//! markup; the script is given numbers alone. Nothing here takes memory.
+//! [`write_page`] writes exactly the page's text, or the beginning of it if a put failed (F24). The text is a
+//! function of a [`Page`]: of a title, a picture and races. The picture is put as it is. Titles and explanations are
+//! escaped, so that none of their characters is markup. The script reads only numbers. Nothing here allocates memory.
 
 mod event_rows;
 mod excerpt;

@@ -1,6 +1,7 @@
-//! The page of a chart that no file has.
-ghost use Rattle.std.specs.Prelude.{◌≡◌, length, IfOk};
+//! The page of a chart that isn't in a file.
+ghost use Rattle.std.specs.Prelude.{◌≡◌, length, All, IfOk, IfSome};
 ghost use Rattle.msc_text.specs.ChartText.{chart_text};
+ghost use Rattle.cmd_page.specs.Marks.Pairing.{HasRange};
 ghost use Rattle.cmd_page.specs.Showing.{ShowsText, heading_view};
 
 use crate::showing::{Heading, show_text};
@@ -22,7 +23,7 @@ fn text_of(alloc: Global, names: &Names, chart: &Chart) -> Result<Vec<u8>, Alloc
     }
 }
 
-/// Writes the page of the text of a chart, which has a line for each name. The refusals are those of [`show_text`].
+/// Writes the page of a chart's text. The chart has a line for each name. The refusals are those of [`show_text`].
 pub fn show_drawn<W: Out>(
     alloc: Global,
     names: &Names,
@@ -30,7 +31,8 @@ pub fn show_drawn<W: Out>(
     heading: &Heading<'_>,
     out: &mut W,
 ) -> Result<(), ProgramError>
-    requires { length names.now ≡ length chart.now }
+    requires named { length names.now ≡ length chart.now }
+    requires ranges { IfSome heading.now.races (λ races. All HasRange races.now) }
     ensures { ShowsText W.sink out.old out.new (heading_view heading.now) (chart_text names.now chart.now) result }
 {
     let Ok(text) = text_of(alloc, names, chart) else {

@@ -1,4 +1,4 @@
--- What is written where races with words are refused: nothing.
+-- Nothing is written if races with words are refused.
 use Rattle.std.proofs.Common.{◌≡◌, ℕ, ◌⊎◌, inl, inr, List, Err, refl}
 use Rattle.chart.specs.declared.instance.EventNo.{EventNo}
 use Rattle.cmd_base.specs.declared.error.ProgramError.{ProgramError}

@@ -1,4 +1,4 @@
--- What is written of the races of a chart that no run has: nothing.
+-- Nothing is written about the races of a chart that no run has.
 use Rattle.std.proofs.Common.{◌≡◌, ℕ, ◌⊎◌, inl, inr, List, Err, refl}
 use Rattle.cmd_base.specs.declared.error.ProgramError.{ProgramError}
 use Rattle.cmd_base.specs.declared.error.ProgramError.TheVariants.{Usage, File, Memory, Text, ReceiveWithoutSend, NameMismatch, Cyclic, Write}

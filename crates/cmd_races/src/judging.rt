@@ -1,4 +1,4 @@
-//! The races of a chart with the words of their verdicts, and those of a chart of which luck isn't known.
+//! The races of a chart with the words of their verdicts, and those of a chart for which luck isn't known.
 ghost use Rattle.std.specs.Prelude.{◌≡◌, length, IfSome};
 ghost use Rattle.chart.specs.declared.instance.EventNo.{EventNo};
 ghost use Rattle.chart.specs.Charts.{chart_lines, IsPossible};
@@ -18,16 +18,16 @@ use reordering::completion::Completion;
 use std::alloc::Global;
 use texts::Out;
 
-/// Which races of a recording are shown, and in which form.
+/// The selection of a recording's races, and their form.
 #[derive(Clone, Copy, Debug)]
 pub struct LuckWanted<'a> {
     pub races: Wanted<'a>,
-    /// Whether those that were luck alone are shown.
+    /// Whether only races that were luck are shown.
     pub luck: bool,
 }
 
-/// Writes the races of these instances of a possible chart with the words of their verdicts, where there is a
-/// completion of those that are left. All memory is taken before the first byte is written.
+/// Writes the races of these instances of a possible chart with the words of their verdicts. With a completion it
+/// writes those that are left when instances finish. It allocates all memory before it writes the first byte.
 fn show_selected<W: Out, V: Verdicts>(
     names: &Names,
     closure: &Closure<'_>,
@@ -65,8 +65,8 @@ fn show_selected<W: Out, V: Verdicts>(
     }
 }
 
-/// Writes the races of these instances of a possible chart that are wanted, with the words of their verdicts, and
-/// answers their summary.
+/// Writes the wanted races of these instances of a possible chart, with the words of their verdicts. Returns their
+/// summary.
 pub fn show_judged<W: Out, V: Verdicts>(
     alloc: Global,
     names: &Names,
@@ -98,8 +98,8 @@ pub fn show_judged<W: Out, V: Verdicts>(
     )
 }
 
-/// Refuses luck where it isn't known. F34: a name of `only` is none of the chart's, or is there twice. Else G1. F6 may
-/// come before.
+/// Refuses luck if it isn't known. F34: a name in `only` isn't one of the chart's, or is there twice. Otherwise G1.
+/// F6 is possible before.
 fn refuse_luck(alloc: Global, names: &Names, wanted: &Wanted<'_>) -> Result<Status, FormatError>
     ensures { IsLuckRefused names.now (only_of wanted.now.only) result }
 {
@@ -107,7 +107,7 @@ fn refuse_luck(alloc: Global, names: &Names, wanted: &Wanted<'_>) -> Result<Stat
     Err(FormatError::Program(ProgramError::Usage))
 }
 
-/// Writes the races that are wanted of a chart of which luck isn't known. Luck alone is refused.
+/// Writes the wanted races of a chart for which luck isn't known. It refuses the option `--luck`.
 pub fn show_unknown<W: Out>(
     alloc: Global,
     names: &Names,

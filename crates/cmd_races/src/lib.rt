@@ -1,20 +1,19 @@
-//! What `mscview races` does with the bytes of a file, and what it says where it can't.
+//! What `mscview races` writes for the bytes of a file, and its refusals.
 //!
-//! What is promised of [`races`]: the bytes of the file, the names of instances and the form decide the output's
-//! bytes.
+//! The bytes of the file, the names of instances and the form decide the output of [`races`].
 //!
-//! - With status 0 or 1 exactly the text of the races was written: of the reports of the receives of the chart that
-//!   the file says, which is possible, those of the instances that are named, or all, and of the earlier events
-//!   that are shown; where instances finish what a message makes them do before they receive again, of the races
-//!   that are left then. The status is 1 where one is shown, and else 0.
-//! - With status 2 the refusal's line was written, or a beginning of it where standard error failed, and nothing went
-//!   to the output before it, unless a write failed (F24).
+//! - With status 0 or 1 it wrote exactly the text of the selected races. They are from the reports of the receives of
+//!   the file's chart, which some run has. They are those of the named instances, or of all, with the earlier events
+//!   that are shown. With run to completion they are the races that are left when instances finish before they
+//!   receive again. The status is 1 if a race is shown, and otherwise 0.
+//! - With status 2 it wrote the refusal's line, or the beginning of it if standard error failed. Nothing was written
+//!   to the output before, unless a write failed (F24).
 //!
-//! Of [`show_judged`]: the same of a chart's races with the words of their verdicts, whatever tells these, or of
-//! luck alone; and of [`show_unknown`], where luck isn't known: luck alone is refused (G1), behind a name that
-//! isn't the chart's (F34).
+//! [`show_judged`] promises the same for a chart's races with the words of given verdicts, or for those that were
+//! luck. [`show_unknown`] does if luck isn't known: it refuses `--luck` (G1), after a name that isn't the chart's
+//! (F34).
 //!
-//! [`imports`] answers for diagrams of other tools, [`logs`] for logs, and [`schedules`] for `--luck` of a schedule.
+//! [`imports`] is for diagrams of other tools, [`logs`] for logs, and [`schedules`] for `--luck` with a schedule.
 #![tactic(auto)]
 
 pub mod imports;

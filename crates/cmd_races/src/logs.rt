@@ -1,16 +1,16 @@
-//! What `mscview races --from log` does with the bytes of a log, and what it says where it can't.
+//! What `mscview races --from log` writes for the bytes of a log, and its refusals.
 //!
-//! What is promised of [`races_of_log`], given which lines an expression matches and what its groups are: the bytes
-//! of the texts, the options of their reading, the names of instances and the form decide the output's bytes.
+//! The bytes of the texts, the options, the names of instances and the form decide the output of [`races_of_log`].
+//! This presupposes the matches of an expression and their groups.
 //!
-//! - With status 0, 1 or 3 exactly the text of the races was written of the chart that `mscview import` writes of the
-//!   same texts; where luck is known of the log, with the word of each race's verdict, or of luck alone. Standard
-//!   error tells what an import tells, and whether there are races that are asked for, each begun in the middle. The
-//!   status is 1 where one is shown. Where none is, it is 3 if each that is asked for is begun in the middle, so that
-//!   nothing is known of it, and 0 if there is none or one isn't.
-//! - A log that has one end of each message is refused (F52): no receive takes a send of it.
-//! - With status 2 the refusal's line was written, or a beginning of it where standard error failed, and nothing went
-//!   to the output before it, unless a write failed (F24).
+//! - With status 0, 1 or 3 it wrote exactly the races of the chart that `mscview import` writes for the same texts.
+//!   If luck is known, each race has the word of its verdict, or only those of luck are there. Standard error has the
+//!   warnings of an import. A further line states if each selected race is begun in the middle. The status is 1 if a
+//!   race is shown. If none is, it is 3 if there are selected races and each is begun in the middle, since nothing is
+//!   known then. Otherwise it is 0.
+//! - A log with one end of each message is refused (F52): no receive takes a send of it.
+//! - With status 2 it wrote the refusal's line, or the beginning of it if standard error failed. Nothing was written
+//!   to the output before, unless a write failed (F24).
 
 mod known;
 mod showing;

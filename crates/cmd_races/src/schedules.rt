@@ -1,15 +1,14 @@
-//! What `mscview races --luck` does with the bytes of a schedule: which of its races are of a command `any`.
+//! What `mscview races --luck` writes for the bytes of a schedule: its races of a command `any`.
 //!
-//! What is promised of [`lucky_races`]: the bytes of the file, the names of instances and the form decide the
-//! output's bytes.
+//! The bytes of the file, the names of instances and the form decide the output of [`lucky_races`].
 //!
-//! - With status 0 or 1 exactly the text of those races was written whose earlier receive was made by `any`, and
-//!   between whose two events nothing is received from the later one's sender. The status is 1 where one is shown,
-//!   and else 0. Nothing is promised of a run of the schedule's commands in which the two come in the other order.
-//! - With status 2 the refusal's line was written, or a beginning of it where standard error failed, and nothing went
-//!   to the output before it, unless a write failed (F24). A file that is no schedule is refused (G1).
+//! - With status 0 or 1 it wrote exactly the races whose earlier receive a command `any` made. Between the two events
+//!   nothing is received from the later one's sender. The status is 1 if a race is shown, and otherwise 0. Whether
+//!   some run of the schedule's commands has the other order isn't promised.
+//! - With status 2 it wrote the refusal's line, or the beginning of it if standard error failed. Nothing was written
+//!   to the output before, unless a write failed (F24). A file that is no schedule is refused (G1).
 //!
-//! Of [`Makers`]: each race of a schedule has the one verdict that its definition gives.
+//! By [`Makers`] each race of a schedule has the verdict of its definition.
 
 mod makers;
 mod showing;

@@ -17,21 +17,21 @@ use reordering::completion::Completion;
 use std::alloc::Global;
 use texts::Out;
 
-/// Which races of a file are shown, and in which form.
+/// The selection of a file's races, and their form.
 #[derive(Clone, Copy, Debug)]
 pub struct Wanted<'a> {
-    /// The names of the instances whose receives are shown, joined by commas. Without it all are.
+    /// The names of the instances whose receives are shown, separated by commas. Without it all are shown.
     pub only: Option<&'a [u8]>,
-    /// Whether of the earlier events receives alone are shown.
+    /// Whether only receives are shown among the earlier events.
     pub receives: bool,
-    /// Whether instances finish what a message makes them do before they receive again: then the races that are left
-    /// are shown.
+    /// Whether instances finish the work for a message before they receive again. Then the races that are left are
+    /// shown.
     pub run_to_completion: bool,
     pub form: Form,
 }
 
-/// Writes the races of these instances of a possible chart, where there is a completion those that are left. All memory
-/// is taken before the first byte is written.
+/// Writes the races of these instances of a possible chart. With a completion it writes those that are left when
+/// instances finish. It allocates all memory before it writes the first byte.
 fn show_selected<W: Out>(
     names: &Names,
     closure: &Closure<'_>,
@@ -63,7 +63,7 @@ fn show_selected<W: Out>(
     }
 }
 
-/// Writes the races of these instances of a possible chart that are wanted.
+/// Writes the wanted races of these instances of a possible chart.
 fn show_races<W: Out>(
     alloc: Global,
     names: &Names,
@@ -85,9 +85,9 @@ fn show_races<W: Out>(
     show_selected(names, closure, instances, wanted, Some(&completion), out)
 }
 
-/// Writes the races that are wanted of a chart, which has a line for each name: by the names of their messages. F34: a
-/// name of `only` is none of the chart's, or is there twice. Then F16, F17 or F18 refuses a chart that isn't possible.
-/// Nothing is written before a refusal, but where writing failed (F24). F6 may come at any point before.
+/// Writes the wanted races of a chart, by the names of their messages. The chart has a line for each name. F34: a
+/// name in `only` isn't one of the chart's, or is there twice. Then F16, F17 or F18 refuses a chart that no run has.
+/// Nothing is written before a refusal, unless writing failed (F24). F6 is possible at any point before.
 pub fn show_chart<W: Out>(
     alloc: Global,
     names: &Names,
@@ -103,7 +103,7 @@ pub fn show_chart<W: Out>(
     show_races(alloc, names, &closure, instances.as_slice(), wanted, out)
 }
 
-/// Writes the races that are wanted of what the file says.
+/// Writes the wanted races of the file's chart.
 fn show_text<W: Out>(
     alloc: Global,
     bytes: &[u8],
@@ -121,12 +121,12 @@ fn show_text<W: Out>(
     })
 }
 
-/// Writes the races of the chart that the bytes of a file say, or of what the schedule comes to that they say: by the
-/// names of their messages, a line for each range of earlier events, or a JSON object for each receive. Writes the line
-/// of a refusal to `err`, and of a schedule how many of its commands did nothing. Answers the exit status: 1 where a
-/// race is shown, 0 where none is, 2 after a refusal. The text's faults are refused first, then F34, then F16, F17 or
-/// F18. Nothing is written to `out` before a refusal, but where writing to it failed (F24). A failed write to `err`
-/// changes nothing.
+/// Writes the races of a file's chart to `out`, by the names of their messages. The bytes are a chart or a schedule,
+/// and a schedule is replayed. There is a line for each range of earlier events, or a JSON object for each receive.
+/// The line of a refusal goes to `err`, and so does the number of a schedule's commands that did nothing. The exit
+/// status is 1 if a race is shown, 0 if none is, and 2 after a refusal. The faults of the text come first, then F34,
+/// then F16, F17 or F18. Nothing is written to `out` before a refusal, unless writing to it failed (F24). A failed
+/// write to `err` changes nothing.
 pub fn races<W: Out, V: Out>(
     alloc: Global,
     bytes: &[u8],

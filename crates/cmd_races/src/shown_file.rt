@@ -1,15 +1,15 @@
-//! What is told beside the races of a file that were shown.
+//! The answer beside the races of a file.
 ghost use Rattle.cmd_races.specs.Statuses.{noted_exit};
 
 use cmd_base::{Answer, NotDone, Status, print_not_done};
 use texts::Out;
 
-/// Races were shown, of a chart that may be a schedule's.
+/// The answer after races were written, of a chart that may be a schedule's.
 #[derive(Debug, Drop)]
 pub(crate) struct ShownFile {
     /// Whether some race is shown.
     pub(crate) status: Status,
-    /// The commands of the schedule that did nothing, if there are any.
+    /// The commands of the schedule that did nothing, if there are some.
     pub(crate) not_done: Option<NotDone>,
 }
 

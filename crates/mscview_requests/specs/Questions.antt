@@ -74,4 +74,4 @@ LeavesLog options texts files (Some text) exit = (left : Stored) × (told : log_
 LeavesLog options texts files None exit =
     ((error : LogImportError) × logs.Imports memory none none (Err (Log error)) options texts × (exit ≡ logs.imported_exit files (Err (Log error))))
     ⊎ ((left : Stored) × (told : log_told.Diagnostics) × logs.Imports memory none left (Ok told) options texts
-    × (told.is_one_ended ≡ true) × (exit ≡ refusal one_end_text))
+    × (told.is_one_ended ≡ true) × (exit ≡ refusal (one_end_text told)))

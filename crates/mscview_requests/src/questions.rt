@@ -157,7 +157,7 @@ pub(crate) fn answer_of_log<W: Out, V: Out>(
         Err(error) => return refused_log(files, &error, err),
     };
     if drawing.diagnostics.is_one_ended {
-        return refused_one_end(err);
+        return refused_one_end(&drawing.diagnostics, err);
     }
     let Ok(text) = text_of(alloc, &drawing.diagnostics.names, &drawing.chart) else {
         return refused_log(files, &LogImportError::Memory, err);

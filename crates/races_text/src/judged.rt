@@ -8,17 +8,25 @@
 //!
 //! The summary ([`RaceSummary`]) states whether a race of the query is shown, whether there is one, and whether one
 //! isn't begun in the middle.
+//!
+//! [`LogVerdicts`] gives the verdicts of a log's recording. [`all_parts`] has the ranges of a receive in memory, and
+//! [`add_race`] writes one of them. Other texts with the same ranges and words use both.
 
 mod json;
 mod listing;
+mod log_verdicts;
 mod part;
 mod parts;
 mod plain;
+mod range_parts;
 mod summary;
 mod verdicts;
 
 pub use listing::{VerdictQuery, write_luck};
+pub use log_verdicts::LogVerdicts;
 pub use part::Part;
 pub use parts::{PartsLeft, next_part, parts_of};
+pub use plain::add_race;
+pub use range_parts::all_parts;
 pub use summary::RaceSummary;
 pub use verdicts::Verdicts;

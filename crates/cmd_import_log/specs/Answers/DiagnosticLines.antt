@@ -1,4 +1,4 @@
--- What is told of a log's lines.
+-- The warnings that name lines of a log, or events of its chart.
 use Rattle.std.specs.Prelude.{ℕ, ◌==◌, List, [], ◌++◌, Option, None, Some, codes, decimal, if◌then◌else◌}
 use Rattle.log_lines.specs.declared.read.Others.{Others}
 use Rattle.chart.specs.declared.instance.EventNo.{EventNo}
@@ -7,33 +7,33 @@ use Rattle.log_lines.specs.declared.event.Place.{Place}
 use Rattle.cmd_import_log.specs.Answers.Spots.{SpotView, spot}
 use Rattle.cmd_import_log.specs.declared.answers.overtaking.Overtaking.{Overtaking}
 
--- that there is one of a kind
+-- that there is one thing of a kind, with its line
 unfoldable pub one_line : List ℕ → SpotView → List ℕ
 one_line words s = codes "1 " ++ (words ++ (codes ", " ++ (s.front ++ (s.separator ++ (decimal s.line ++ codes "\n")))))
 
--- that there are so many
+-- the number of things of a kind, with the line of the first
 unfoldable pub several_line : ℕ → List ℕ → SpotView → List ℕ
 several_line count words s =
     decimal count ++ (codes " " ++ (words ++ (codes ", the first is " ++ (s.front ++ (s.separator ++ (decimal s.line ++ codes "\n"))))))
 
--- how many there are of a kind
+-- the number of things of a kind, if there are some
 abbrev pub others_text : List (List ℕ) → List ℕ → List ℕ → Option Others → List ℕ
 others_text files one several None = []
 others_text files one several (Some o) =
     if o.count == 1 then one_line one (spot files o.first)
     else several_line o.count several (spot files o.first)
 
--- that one line of so many is of a kind
+-- that one of the lines is of a kind
 unfoldable pub one_line_of : ℕ → List ℕ → SpotView → List ℕ
 one_line_of lines words s =
     codes "1 of " ++ (decimal lines ++ (codes " " ++ (words ++ (codes ", " ++ (s.front ++ (s.separator ++ (decimal s.line ++ codes "\n")))))))
 
--- that so many lines of so many are
+-- the number of lines of a kind, among all, with the first of them
 unfoldable pub several_line_of : ℕ → ℕ → List ℕ → SpotView → List ℕ
 several_line_of count lines words s =
     decimal count ++ (codes " of " ++ (decimal lines ++ (codes " " ++ (words ++ (codes ", the first is " ++ (s.front ++ (s.separator ++ (decimal s.line ++ codes "\n"))))))))
 
--- how many lines of so many are of a kind
+-- the number of lines of a kind, among all, if there are some
 abbrev pub others_of_text : List (List ℕ) → ℕ → List ℕ → List ℕ → Option Others → List ℕ
 others_of_text files lines one several None = []
 others_of_text files lines one several (Some o) =
@@ -63,7 +63,7 @@ overtaking_line s t =
 abbrev pub overtaking_text : List (List ℕ) → Overtaking → List ℕ
 overtaking_text files o = overtaking_line (spot files o.line) (spot files o.overtaken)
 
--- a send that is invented
+-- an invented send
 unfoldable pub invented_line : List ℕ → ℕ → List ℕ
 invented_line name n = name ++ (codes " " ++ (decimal n ++ codes " is invented: the log begins in the middle\n"))
 

@@ -1,4 +1,4 @@
--- What is told of a chart that was drawn from a log.
+-- The warnings about a chart that was made from a log.
 use Rattle.std.specs.Prelude.{ℕ, ◌==◌, List, [], ◌++◌, length, codes, if◌then◌else◌}
 use Rattle.std.specs.List.{flat_map}
 use Rattle.chart.specs.declared.instance.EventNo.{EventNo}
@@ -11,16 +11,16 @@ use Rattle.cmd_import_log.specs.Answers.EventsRead.{read_text}
 use Rattle.cmd_import_log.specs.declared.answers.overtaking.Overtaking.{Overtaking}
 use Rattle.cmd_import_log.specs.declared.answers.diagnostics.Diagnostics.{Diagnostics}
 
--- how many lines don't match, and of how many
+-- the number of lines that don't match, and of all lines
 unfoldable pub unmatched_text : List (List ℕ) → Diagnostics → List ℕ
 unmatched_text files t = others_of_text files t.lines (codes "lines doesn't match") (codes "lines don't match") t.others
 
--- how many events are of messages to oneself
+-- the number of events of messages to oneself
 unfoldable pub own_text : List (List ℕ) → Diagnostics → List ℕ
 own_text files t =
     others_text files (codes "event of a message to oneself is left out") (codes "events of messages to oneself are left out") t.own
 
--- how many receives have words for what they would have taken that are ignored
+-- the number of receives with misspelled words `takes=`
 unfoldable pub misspelled_text : List (List ℕ) → Diagnostics → List ℕ
 misspelled_text files t =
     others_text files (codes "receive has a word takes= that isn't PEER:NAMES") (codes "receives have words takes= that aren't PEER:NAMES") t.misspelled
@@ -28,25 +28,25 @@ misspelled_text files t =
 unfoldable pub captured_note : List ℕ
 captured_note = codes "only the order at the tap is known\n"
 
--- once, where messages were captured
+-- the note, if messages were captured
 abbrev pub captured_text : Diagnostics → List ℕ
 captured_text t = if t.is_captured then captured_note else []
 
 unfoldable pub timed_note : List ℕ
 timed_note = codes "a receive at which no entry of the clock grew isn't seen\n"
 
--- once, where messages are told by clocks
+-- the note, if clocks imply messages
 abbrev pub timed_text : Diagnostics → List ℕ
 timed_text t = if t.is_timed then timed_note else []
 
 unfoldable pub one_ended_note : List ℕ
 one_ended_note = codes "no race is claimed: the log has one end of each message\n"
 
--- once, where the log has one end of each message
+-- the note, if the log has one end of each message
 abbrev pub one_ended_text : Diagnostics → List ℕ
 one_ended_text t = if t.is_one_ended then one_ended_note else []
 
--- what isn't known of how messages were seen
+-- the notes about captured messages, about clocks, and about a log with one end of each message
 unfoldable pub taps_text : Diagnostics → List ℕ
 taps_text t = captured_text t ++ (timed_text t ++ one_ended_text t)
 
@@ -58,15 +58,15 @@ counts_text files t =
 unfoldable pub enforced_note : List ℕ
 enforced_note = codes "races may be shown that a message which is left out enforced\n"
 
--- once, where messages overtake
+-- the note, if messages overtake
 abbrev pub overtaking_note : List Overtaking → List ℕ
 overtaking_note overtaking = if length overtaking == 0 then [] else enforced_note
 
--- once, where messages are lost or overtake
+-- the note, if messages are lost or overtake
 abbrev pub left_out_note : List Place → List Overtaking → List ℕ
 left_out_note lost overtaking = if length lost == 0 then overtaking_note overtaking else enforced_note
 
--- which messages are left out
+-- the skipped messages
 unfoldable pub left_out_text : List (List ℕ) → List Place → List Overtaking → List ℕ
 left_out_text files lost overtaking =
     flat_map (lost_text files) lost ++ (flat_map (overtaking_text files) overtaking ++ left_out_note lost overtaking)
@@ -74,20 +74,20 @@ left_out_text files lost overtaking =
 unfoldable pub unclaimed_note : List ℕ
 unclaimed_note = codes "a race whose earlier event is invented, or whose receive comes behind an invented event, isn't claimed\n"
 
--- once, where sends are invented
+-- the note, if sends are invented
 abbrev pub invented_note : List EventNo → List ℕ
 invented_note invented = if length invented == 0 then [] else unclaimed_note
 
--- which receives are freed, and which sends are invented
+-- the freed receives and the invented sends
 unfoldable pub made_text : List (List ℕ) → List (List ℕ) → List Place → List EventNo → List ℕ
 made_text files names freed invented =
     flat_map (freed_text files) freed ++ (flat_map (invented_text names) invented ++ invented_note invented)
 
--- which names aren't words of the log: those of hosts, and then those of messages
+-- the names that differ from the log's words: those of hosts, and then those of messages
 unfoldable pub names_text : List Renamed → List Renamed → List ℕ
 names_text hosts messages = flat_map renamed_line hosts ++ flat_map renamed_line messages
 
--- all of it, where these are the names of several files, or none of one
+-- all warnings. `files` has the names of several files, and is empty for one
 unfoldable pub diagnostics_text : List (List ℕ) → Diagnostics → List ℕ
 diagnostics_text files t =
     counts_text files t

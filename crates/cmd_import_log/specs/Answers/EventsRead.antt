@@ -1,8 +1,8 @@
--- What is told of a log's events: how many are read, and which hosts have no line of their own.
+-- The warnings that count a log's events, and name hosts with lines of their own and without.
 use Rattle.std.specs.Prelude.{ℕ, ◌==◌, List, ◌++◌, codes, decimal, if◌then◌else◌}
 use Rattle.std.specs.List.{flat_map}
 
--- how many events are read, and of how many hosts
+-- the numbers of events and hosts
 unfoldable pub one_event_line : ℕ → List ℕ
 one_event_line hosts = codes "1 event of " ++ (decimal hosts ++ codes " hosts is read\n")
 
@@ -16,6 +16,10 @@ events_text events hosts = if events == 1 then one_event_line hosts else several
 unfoldable pub lineless_text : List ℕ → List ℕ
 lineless_text name = name ++ codes " has no line of its own\n"
 
--- both, of so many hosts
+-- a host with lines of its own
+unfoldable pub lined_text : List ℕ → List ℕ
+lined_text name = name ++ codes " has lines of its own\n"
+
+-- the number of events of the hosts, and the hosts without a line of their own
 unfoldable pub read_text : ℕ → ℕ → List (List ℕ) → List ℕ
 read_text events hosts lineless = events_text events hosts ++ flat_map lineless_text lineless

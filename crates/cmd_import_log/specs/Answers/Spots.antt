@@ -1,4 +1,4 @@
--- How a line of a log is told: `line 17`, or `FILE:17` where there are several files.
+-- The name of a line in warnings: `line 17`, or `FILE:17` if there are several files.
 use Rattle.std.specs.Prelude.{ℕ, List, Option, None, Some, codes, slice_get}
 use Rattle.log_lines.specs.declared.event.Place.{Place}
 use Rattle.cmd_import_log.specs.declared.answers.spot.Spot.{Spot}
@@ -15,6 +15,6 @@ abbrev pub spot_at : Option (List ℕ) → ℕ → SpotView
 spot_at None n = record { front = codes "line"; separator = codes " "; line = n }
 spot_at (Some file) n = record { front = file; separator = codes ":"; line = n }
 
--- the line at this place, where these are the names of several files, or none of one
+-- the name of the line at this place. `files` has the names of several files, and is empty for one
 abbrev pub spot : List (List ℕ) → Place → SpotView
 spot files place = spot_at (slice_get files place.text) place.line

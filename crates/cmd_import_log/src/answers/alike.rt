@@ -1,4 +1,4 @@
-//! What is told of hosts that a log may call by two words.
+//! The warnings about hosts that a log may name by two words.
 ghost use Rattle.std.specs.List.{flat_map};
 ghost use Rattle.texts.specs.Writing.{Adds};
 ghost use Rattle.cmd_import_log.specs.Answers.AlikeHosts.{alike_line, alike_text};
@@ -7,14 +7,14 @@ use chart::Name;
 use texts::pieces::{Piece, add_pieces};
 use texts::{Out, TextBuffer, WriteError};
 
-/// A host of lines alone, and one that is a peer alone and may be the same.
+/// A host that no line names as a peer, and a peer without lines that may be the same host.
 #[derive(Clone, Copy, Debug)]
 pub struct Alike {
     pub host: Name,
     pub peer: Name,
 }
 
-/// Adds that a peer may be a host, of these names.
+/// Adds that the peer with this name may be the host with that name.
 #[tactic(auto, unfolding(crate::specs::Answers::AlikeHosts::alike_line))]
 fn add_alike_line<'a, V: Out>(
     text: &mut TextBuffer<'_, V>,
@@ -46,7 +46,7 @@ fn add_alike<V: Out>(text: &mut TextBuffer<'_, V>, alike: &Alike) -> Result<(), 
     add_alike_line(text, alike.host.as_bytes(), alike.peer.as_bytes())
 }
 
-/// Adds which peers may be hosts.
+/// Adds the peers that may be other hosts.
 pub(crate) fn add_all_alike<V: Out>(
     text: &mut TextBuffer<'_, V>,
     alike: &[Alike],

@@ -1,4 +1,4 @@
-//! What is told of a log's lines.
+//! The warnings that name lines of a log, or events of its chart.
 ghost use Rattle.std.specs.Prelude.{◌≤◌, length, map, All};
 ghost use Rattle.std.specs.List.{flat_map};
 ghost use Rattle.texts.specs.Writing.{Adds};
@@ -12,7 +12,7 @@ use log_lines::{Others, Place};
 use texts::pieces::{Piece, add_pieces};
 use texts::{Out, TextBuffer, WriteError, named};
 
-/// Adds that there is one of a kind, with its line.
+/// Adds that there is one thing of a kind, with its line.
 #[tactic(auto, unfolding(crate::specs::Answers::DiagnosticLines::one_line))]
 fn add_one<'x, V: Out>(
     text: &mut TextBuffer<'_, V>,
@@ -35,7 +35,7 @@ fn add_one<'x, V: Out>(
     )
 }
 
-/// Adds that there are so many, with the line of the first.
+/// Adds the number of things of a kind, with the line of the first.
 #[tactic(auto, unfolding(crate::specs::Answers::DiagnosticLines::several_line))]
 fn add_several<'x, V: Out>(
     text: &mut TextBuffer<'_, V>,
@@ -60,7 +60,7 @@ fn add_several<'x, V: Out>(
     )
 }
 
-/// Adds how many there are of a kind, if there are any.
+/// Adds the number of things of a kind, if there are some.
 pub(crate) fn add_others<V: Out>(
     text: &mut TextBuffer<'_, V>,
     files: &[&[u8]],
@@ -83,7 +83,7 @@ pub(crate) fn add_others<V: Out>(
     }
 }
 
-/// Adds that one line of so many is of a kind.
+/// Adds that one of the lines is of a kind.
 #[tactic(auto, unfolding(crate::specs::Answers::DiagnosticLines::one_line_of))]
 fn add_one_of<'x, V: Out>(
     text: &mut TextBuffer<'_, V>,
@@ -109,7 +109,7 @@ fn add_one_of<'x, V: Out>(
     )
 }
 
-/// Adds that so many lines of so many are, with the first.
+/// Adds the number of lines of a kind, among all, with the first of them.
 #[tactic(auto, unfolding(crate::specs::Answers::DiagnosticLines::several_line_of))]
 fn add_several_of<'x, V: Out>(
     text: &mut TextBuffer<'_, V>,
@@ -137,7 +137,7 @@ fn add_several_of<'x, V: Out>(
     )
 }
 
-/// Adds how many lines of so many are of a kind, if any are.
+/// Adds the number of lines of a kind, among all, if there are some.
 pub(crate) fn add_others_of<V: Out>(
     text: &mut TextBuffer<'_, V>,
     files: &[&[u8]],
@@ -294,7 +294,7 @@ pub(crate) fn add_all_freed<V: Out>(
     Ok(())
 }
 
-/// Adds a send that is invented.
+/// Adds an invented send.
 #[tactic(auto, unfolding(crate::specs::Answers::DiagnosticLines::invented_line))]
 fn add_invented<V: Out>(
     text: &mut TextBuffer<'_, V>,
@@ -314,7 +314,7 @@ fn add_invented<V: Out>(
     )
 }
 
-/// Adds a send that is invented, by its number.
+/// Adds an invented send, by its event number.
 fn add_event<V: Out>(
     text: &mut TextBuffer<'_, V>,
     names: &Names,
@@ -327,7 +327,7 @@ fn add_event<V: Out>(
     add_invented(text, name.as_bytes(), u64::from(event.index))
 }
 
-/// Adds the sends that are invented.
+/// Adds the invented sends.
 pub(crate) fn add_all_invented<V: Out>(
     text: &mut TextBuffer<'_, V>,
     names: &Names,

@@ -1,4 +1,4 @@
-//! What is told of a chart that was drawn from a log.
+//! The warnings about a chart that was made from a log.
 ghost use Rattle.std.specs.Prelude.{◌≤◌, length, map, All};
 ghost use Rattle.texts.specs.Writing.{Wrote, Adds};
 ghost use Rattle.cmd_import_log.specs.Answers.Diagnostics.{unmatched_text, own_text, misspelled_text, captured_note, captured_text, timed_note, timed_text, one_ended_note, one_ended_text, taps_text, enforced_note, overtaking_note, left_out_note, unclaimed_note, invented_note};
@@ -16,28 +16,30 @@ use diagram_labels::renamed::add_all_renamed;
 use log_lines::{Others, Place};
 use texts::{Out, TextBuffer, WriteError};
 
-/// What is told of a chart that was drawn from a log.
+/// The warnings about a chart that was made from a log.
 #[derive(Debug, Drop)]
 pub struct Diagnostics {
-    /// How many lines were read.
+    /// The number of lines that were read.
     pub lines: u64,
-    /// How many events of hosts they say.
+    /// The number of events in them.
     pub events: u64,
-    /// Hosts that have no line of their own.
+    /// Hosts without a line of their own.
     pub lineless: Vec<Name>,
-    /// Those of them that may be others.
+    /// Hosts with lines of their own.
+    pub lined: Vec<Name>,
+    /// Hosts without a line that may be other hosts.
     pub alike: Vec<Alike>,
-    /// Those that don't match.
+    /// Lines that don't match.
     pub others: Option<Others>,
-    /// Events of messages of a host to itself, which are left out.
+    /// Events of messages of a host to itself, which are skipped.
     pub own: Option<Others>,
-    /// Receives with words that begin with `takes=` and are spelled otherwise, which are ignored.
+    /// Receives with words that begin with `takes=` and are misspelled. These words are ignored.
     pub misspelled: Option<Others>,
     /// Whether messages were captured, so that only their order at the tap is known.
     pub is_captured: bool,
-    /// Whether there are messages of which clocks tell.
+    /// Whether clocks imply messages.
     pub is_timed: bool,
-    /// Whether the log has one end of each message, so that no race is claimed.
+    /// Whether the log has one end of each message. Then no race is claimed.
     pub is_one_ended: bool,
     /// Lines whose messages are lost.
     pub lost: Vec<Place>,
@@ -46,14 +48,14 @@ pub struct Diagnostics {
     pub freed: Vec<Place>,
     /// The names of the instances.
     pub names: Names,
-    /// Sends that are invented.
+    /// Invented sends.
     pub invented: Vec<EventNo>,
-    /// Hosts whose names aren't their words, and messages.
+    /// Hosts and messages whose names differ from their words.
     pub hosts: Vec<Renamed>,
     pub messages: Vec<Renamed>,
 }
 
-/// Adds how many lines don't match.
+/// Adds the number of lines that don't match.
 #[tactic(auto, unfolding(crate::specs::Answers::Diagnostics::unmatched_text))]
 fn add_unmatched<V: Out>(
     text: &mut TextBuffer<'_, V>,
@@ -72,7 +74,7 @@ fn add_unmatched<V: Out>(
     )
 }
 
-/// Adds how many events are of messages to oneself.
+/// Adds the number of events of messages to oneself.
 #[tactic(auto, unfolding(crate::specs::Answers::Diagnostics::own_text))]
 fn add_own<V: Out>(
     text: &mut TextBuffer<'_, V>,
@@ -90,7 +92,7 @@ fn add_own<V: Out>(
     )
 }
 
-/// Adds how many receives have words for what they would have taken that are ignored.
+/// Adds the number of receives with misspelled words `takes=`.
 #[tactic(auto, unfolding(crate::specs::Answers::Diagnostics::misspelled_text))]
 fn add_misspelled<V: Out>(
     text: &mut TextBuffer<'_, V>,
@@ -130,7 +132,7 @@ fn add_captured<V: Out>(
     }
 }
 
-/// Adds what clocks can't tell.
+/// Adds that clocks don't show all receives.
 #[tactic(auto, unfolding(crate::specs::Answers::Diagnostics::timed_note))]
 fn add_timed_note<V: Out>(text: &mut TextBuffer<'_, V>) -> Result<(), WriteError>
     ensures { Adds V.sink text.old text.new result timed_note }
@@ -138,7 +140,7 @@ fn add_timed_note<V: Out>(text: &mut TextBuffer<'_, V>) -> Result<(), WriteError
     text.add(b"a receive at which no entry of the clock grew isn't seen\n")
 }
 
-/// Adds what clocks can't tell, if messages are told by clocks.
+/// Adds that clocks don't show all receives, if clocks imply messages.
 fn add_timed<V: Out>(
     text: &mut TextBuffer<'_, V>,
     diagnostics: &Diagnostics,
@@ -174,7 +176,7 @@ fn add_one_ended<V: Out>(
     }
 }
 
-/// Adds what isn't known of how the messages were seen.
+/// Adds what isn't known since messages were captured, clocks imply them, or the log has one end of each.
 #[tactic(auto, using(texts::proofs::Writes::joining), unfolding(crate::specs::Answers::Diagnostics::taps_text))]
 fn add_taps<V: Out>(
     text: &mut TextBuffer<'_, V>,
@@ -187,7 +189,7 @@ fn add_taps<V: Out>(
     add_one_ended(text, diagnostics)
 }
 
-/// Adds what may be shown where a message is left out.
+/// Adds that races may be shown which a skipped message enforced.
 #[tactic(auto, unfolding(crate::specs::Answers::Diagnostics::enforced_note))]
 fn add_enforced_note<V: Out>(text: &mut TextBuffer<'_, V>) -> Result<(), WriteError>
     ensures { Adds V.sink text.old text.new result enforced_note }
@@ -195,7 +197,7 @@ fn add_enforced_note<V: Out>(text: &mut TextBuffer<'_, V>) -> Result<(), WriteEr
     text.add(b"races may be shown that a message which is left out enforced\n")
 }
 
-/// Adds what may be shown where messages that overtake are left out.
+/// Adds that races may be shown which a skipped message enforced, if messages overtake.
 fn add_overtaking_note<V: Out>(
     text: &mut TextBuffer<'_, V>,
     overtaking: &[Overtaking],
@@ -209,7 +211,7 @@ fn add_overtaking_note<V: Out>(
     }
 }
 
-/// Adds what may be shown where messages that are lost or overtake are left out.
+/// Adds that races may be shown which a skipped message enforced, if messages are lost or overtake.
 fn add_left_out_note<V: Out>(
     text: &mut TextBuffer<'_, V>,
     lost: &[Place],
@@ -224,7 +226,7 @@ fn add_left_out_note<V: Out>(
     }
 }
 
-/// Adds what isn't claimed where a send is invented.
+/// Adds which races aren't claimed because of an invented send.
 #[tactic(auto, unfolding(crate::specs::Answers::Diagnostics::unclaimed_note))]
 fn add_unclaimed_note<V: Out>(text: &mut TextBuffer<'_, V>) -> Result<(), WriteError>
     ensures { Adds V.sink text.old text.new result unclaimed_note }
@@ -234,7 +236,7 @@ fn add_unclaimed_note<V: Out>(text: &mut TextBuffer<'_, V>) -> Result<(), WriteE
     )
 }
 
-/// Adds what isn't claimed where sends are invented.
+/// Adds which races aren't claimed, if sends are invented.
 fn add_invented_note<V: Out>(
     text: &mut TextBuffer<'_, V>,
     invented: &[EventNo],
@@ -248,7 +250,7 @@ fn add_invented_note<V: Out>(
     }
 }
 
-/// Adds how many events are read, how many lines don't match, and what else is counted.
+/// Adds the warnings that count events, lines and receives, and those about hosts.
 #[tactic(auto, using(texts::proofs::Writes::joining), unfolding(crate::specs::Answers::Diagnostics::counts_text))]
 fn add_counts<V: Out>(
     text: &mut TextBuffer<'_, V>,
@@ -270,7 +272,7 @@ fn add_counts<V: Out>(
     add_taps(text, diagnostics)
 }
 
-/// Adds which messages are left out.
+/// Adds the skipped messages.
 #[tactic(auto, using(texts::proofs::Writes::joining), unfolding(crate::specs::Answers::Diagnostics::left_out_text))]
 fn add_left_out<V: Out>(
     text: &mut TextBuffer<'_, V>,
@@ -285,7 +287,7 @@ fn add_left_out<V: Out>(
     add_left_out_note(text, lost, overtaking)
 }
 
-/// Adds which receives are freed, and which sends are invented.
+/// Adds the freed receives and the invented sends.
 #[tactic(auto, using(texts::proofs::Writes::joining), unfolding(crate::specs::Answers::Diagnostics::made_text))]
 fn add_made<V: Out>(
     text: &mut TextBuffer<'_, V>,
@@ -302,7 +304,7 @@ fn add_made<V: Out>(
     add_invented_note(text, invented)
 }
 
-/// Adds the names that aren't words of the log.
+/// Adds the names that differ from the log's words.
 #[tactic(auto, using(texts::proofs::Writes::joining), unfolding(crate::specs::Answers::Diagnostics::names_text))]
 fn add_names<V: Out>(
     text: &mut TextBuffer<'_, V>,
@@ -336,7 +338,7 @@ fn add_diagnostics<V: Out>(
     add_names(text, &diagnostics.hosts, &diagnostics.messages)
 }
 
-/// Writes what is told, where these are the names of several files, or none of one.
+/// Writes the warnings. `files` has the names of several files, and is empty for one.
 #[tactic(auto, using(texts::proofs::Writes::joining))]
 pub fn write_diagnostics<V: Out>(
     files: &[&[u8]],

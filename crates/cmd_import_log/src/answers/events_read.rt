@@ -1,14 +1,14 @@
-//! What is told of a log's events: how many are read, and which hosts have no line of their own.
+//! The warnings that count a log's events, and name hosts with lines of their own and without.
 ghost use Rattle.std.specs.Prelude.{length};
 ghost use Rattle.std.specs.List.{flat_map};
 ghost use Rattle.texts.specs.Writing.{Adds};
-ghost use Rattle.cmd_import_log.specs.Answers.EventsRead.{one_event_line, several_events_line, events_text, lineless_text, read_text};
+ghost use Rattle.cmd_import_log.specs.Answers.EventsRead.{one_event_line, several_events_line, events_text, lineless_text, lined_text, read_text};
 
 use chart::{Name, Names};
 use texts::pieces::{Piece, add_pieces};
 use texts::{Out, TextBuffer, WriteError};
 
-/// Adds that one event is read, of so many hosts.
+/// Adds that one event is read, with the number of hosts.
 #[tactic(auto, unfolding(crate::specs::Answers::EventsRead::one_event_line))]
 fn add_one_event<V: Out>(text: &mut TextBuffer<'_, V>, hosts: u64) -> Result<(), WriteError>
     ensures { Adds V.sink text.old text.new result (one_event_line hosts) }
@@ -23,7 +23,7 @@ fn add_one_event<V: Out>(text: &mut TextBuffer<'_, V>, hosts: u64) -> Result<(),
     )
 }
 
-/// Adds that several are, of so many hosts.
+/// Adds that several events are read, with the number of hosts.
 #[tactic(auto, unfolding(crate::specs::Answers::EventsRead::several_events_line))]
 fn add_several_events<V: Out>(
     text: &mut TextBuffer<'_, V>,
@@ -43,7 +43,7 @@ fn add_several_events<V: Out>(
     )
 }
 
-/// Adds how many events are read, of how many hosts.
+/// Adds the numbers of events and hosts.
 fn add_events_read<V: Out>(
     text: &mut TextBuffer<'_, V>,
     events: u64,
@@ -58,7 +58,7 @@ fn add_events_read<V: Out>(
     }
 }
 
-/// Adds a host that has no line of its own.
+/// Adds a host without a line of its own.
 #[tactic(auto, unfolding(crate::specs::Answers::EventsRead::lineless_text))]
 fn add_lineless<V: Out>(text: &mut TextBuffer<'_, V>, name: &[u8]) -> Result<(), WriteError>
     ensures { Adds V.sink text.old text.new result (lineless_text name.now) }
@@ -72,8 +72,11 @@ fn add_lineless<V: Out>(text: &mut TextBuffer<'_, V>, name: &[u8]) -> Result<(),
     )
 }
 
-/// Adds the hosts that have no line of their own.
-fn add_all_lineless<V: Out>(text: &mut TextBuffer<'_, V>, names: &[Name]) -> Result<(), WriteError>
+/// Adds the hosts without a line of their own.
+pub(crate) fn add_all_lineless<V: Out>(
+    text: &mut TextBuffer<'_, V>,
+    names: &[Name],
+) -> Result<(), WriteError>
     ensures { Adds V.sink text.old text.new result (flat_map lineless_text names.now) }
 {
     for name in names {
@@ -82,7 +85,31 @@ fn add_all_lineless<V: Out>(text: &mut TextBuffer<'_, V>, names: &[Name]) -> Res
     Ok(())
 }
 
-/// Adds how many events are read, of hosts with these names, and which hosts have no line of their own.
+/// Adds a host with lines of its own.
+#[tactic(auto, unfolding(crate::specs::Answers::EventsRead::lined_text))]
+fn add_lined<V: Out>(text: &mut TextBuffer<'_, V>, name: &[u8]) -> Result<(), WriteError>
+    ensures { Adds V.sink text.old text.new result (lined_text name.now) }
+{
+    add_pieces(
+        text,
+        &[Piece::Bytes(name), Piece::Bytes(b" has lines of its own\n")],
+    )
+}
+
+/// Adds the hosts with lines of their own.
+pub(crate) fn add_all_lined<V: Out>(
+    text: &mut TextBuffer<'_, V>,
+    names: &[Name],
+) -> Result<(), WriteError>
+    ensures { Adds V.sink text.old text.new result (flat_map lined_text names.now) }
+{
+    for name in names {
+        add_lined(text, name.as_bytes())?;
+    }
+    Ok(())
+}
+
+/// Adds the number of events of hosts with these names, and the hosts without a line of their own.
 #[tactic(auto, using(texts::proofs::Writes::joining), unfolding(crate::specs::Answers::EventsRead::read_text))]
 pub(crate) fn add_read<V: Out>(
     text: &mut TextBuffer<'_, V>,

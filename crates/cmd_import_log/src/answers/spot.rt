@@ -1,10 +1,10 @@
-//! How a line of a log is told.
+//! The name of a line in warnings.
 ghost use Rattle.std.specs.Prelude.{◌≡◌, map};
 ghost use Rattle.cmd_import_log.specs.Answers.Spots.{spot_view, spot};
 
 use log_lines::Place;
 
-/// A line as it is told: `line 17`, or `FILE:17` where there are several files.
+/// A line's name: `line 17`, or `FILE:17` if there are several files.
 #[derive(Clone, Copy, Debug)]
 pub struct Spot<'a> {
     pub front: &'a [u8],
@@ -12,7 +12,7 @@ pub struct Spot<'a> {
     pub line: u64,
 }
 
-/// How the line is told, where these are the names of several files, or none of one.
+/// The line's name. `files` has the names of several files, and is empty for one.
 pub(crate) fn spot_of<'a>(files: &[&'a [u8]], place: Place) -> Spot<'a>
     ensures { spot_view result ≡ spot (map (λ file. file.now) files.now) place }
 {

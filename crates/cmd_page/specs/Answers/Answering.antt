@@ -1,4 +1,4 @@
--- What a page tells of a race that is told in full.
+-- The explanation of a race on a page.
 use Rattle.std.specs.Prelude.{◌≡◌, ℕ, ◌+◌, ◌-◌, ◌^◌, min, List, ◌++◌}
 use Rattle.cmd_page.specs.declared.text.excerpt.Excerpt.{Excerpt}
 use Rattle.cmd_page.specs.declared.text.race.Answers.{Answers}
@@ -11,11 +11,12 @@ use Rattle.cmd_page.specs.Answers.Standing.{row_in}
 abbrev pub plus : ℕ → ℕ → ℕ
 plus a b = min (a + b) (2 ^ 64 - 1)
 
--- what was left on standard output, and behind it what was told
+-- the text on standard output, and then the text on standard error
 abbrev pub texts : Left → List ℕ
 texts left = left.out.bytes ++ left.err.bytes
 
--- Of what `why` leaves of the two events of a race the lines above the rows are shown, and the rows round the two.
+-- The excerpt of the output of `why` for a race's two events has the lines above the rows, and the rows round the
+-- two.
 pub record IsWhyExcerpt (of : Subject) (x : Excerpt) : Type 0 where
   pub left : Left
   pub is : IsWhy of.bytes.now of.asked left
@@ -24,7 +25,7 @@ pub record IsWhyExcerpt (of : Subject) (x : Excerpt) : Type 0 where
   pub earlier : x.earlier ≡ plus of.above of.earlier
   pub receive : x.receive ≡ plus of.above of.receive
 
--- Of what `witness` leaves of them the first two lines are shown, and the commands round the two.
+-- The excerpt of the output of `witness` has the first two lines, and the commands round the two.
 pub record IsWitnessExcerpt (of : Subject) (x : Excerpt) : Type 0 where
   pub left : Left
   pub is : IsWitness of.bytes.now of.asked left
@@ -33,7 +34,7 @@ pub record IsWitnessExcerpt (of : Subject) (x : Excerpt) : Type 0 where
   pub earlier : x.earlier ≡ row_in of.names.now of.instance of.events.now of.earlier (texts left)
   pub receive : x.receive ≡ row_in of.names.now of.instance of.events.now of.receive (texts left)
 
--- Of what `mend` tells of them the first 24 lines are.
+-- The excerpt of the output of `mend` has the first 24 lines.
 pub record IsMendExcerpt (of : Subject) (x : Excerpt) : Type 0 where
   pub left : Left
   pub is : IsMend of.bytes.now of.asked left
@@ -42,7 +43,7 @@ pub record IsMendExcerpt (of : Subject) (x : Excerpt) : Type 0 where
   pub earlier : x.earlier ≡ 0
   pub receive : x.receive ≡ 0
 
--- all of it
+-- the whole text
 pub record AreAnswers (of : Subject) (answers : Answers) : Type 0 where
   pub why : IsWhyExcerpt of answers.why
   pub witness : IsWitnessExcerpt of answers.witness

@@ -1,4 +1,4 @@
--- What `mscview why`, `mscview witness` and `mscview mend` leave, where they write into memory.
+-- The results of `mscview why`, `mscview witness` and `mscview mend` that are written into memory.
 use Rattle.std.specs.Prelude.{◌≡◌, ℕ, List, [], Some, None}
 use Rattle.cmd_base.specs.Answers.{Answers}
 use Rattle.cmd_mend.specs.Answers.{mend_exit}
@@ -11,7 +11,7 @@ use Rattle.cmd_explain_race.specs.Witnessing.{Witnesses}
 use Rattle.cmd_base.specs.declared.pairs.pair.Asked.{Asked}
 use Rattle.cmd_page.specs.declared.answers.left.Left.{Left}
 
--- what is known of a text in memory
+-- a text in memory as an output
 abbrev pub memory : Stored → Sink
 memory out = record { contents = Some out.bytes; failures = out.failures }
 
@@ -24,17 +24,17 @@ pub record IsWhole (left : Left) : Type 0 where
   pub out : left.out.failures ≡ 0
   pub err : left.err.failures ≡ 0
 
--- `why` leaves this of two events
+-- this is the result of `why` for two events
 pub record IsWhy (bytes : List ℕ) (asked : Asked) (left : Left) : Type 0 where
   pub answers : Answers (Whys memory none left.out bytes asked) why_exit memory none left.err left.status
   pub whole : IsWhole left
 
--- `witness` does
+-- this is the result of `witness`
 pub record IsWitness (bytes : List ℕ) (asked : Asked) (left : Left) : Type 0 where
   pub answers : Answers (Witnesses memory none left.out bytes asked) witness_exit memory none left.err left.status
   pub whole : IsWhole left
 
--- `mend` does, where no name is asked for and each range of races is told
+-- this is the result of `mend`, without a given name and for each range of races
 pub record IsMend (bytes : List ℕ) (asked : Asked) (left : Left) : Type 0 where
   pub answers : Answers (ShowsText memory none left.out (record { asked = asked; name = None; detail = Full }) bytes) mend_exit memory none left.err left.status
   pub whole : IsWhole left

@@ -1,4 +1,4 @@
--- Where an event of a chart stands in a schedule that means a run with the same events.
+-- The line of a chart's event in a schedule of a run with the same events.
 use Rattle.std.specs.Prelude.{ℕ, ◌==◌, Bool, false, List, codes, take, count_by, Option, None, Some}
 use Rattle.chart.specs.declared.event.Event.{Event}
 use Rattle.chart.specs.declared.event.Event.TheVariants.{Send, Receive}
@@ -13,11 +13,11 @@ is_alike (Receive from name region) (Receive other name' region') = from == othe
 is_alike (Send to name) (Receive from name' region) = false
 is_alike (Receive from name region) (Send to name') = false
 
--- how many events are like this one
+-- the number of events like this one
 abbrev pub turn_of : List Event → Event → ℕ
 turn_of events event = count_by (is_alike event) events
 
--- what its command is
+-- the verb of its command
 unfoldable pub verb_of : Event → List ℕ
 verb_of (Send to name) = codes "send"
 verb_of (Receive from name region) = codes "receive"
@@ -31,6 +31,6 @@ abbrev pub row_for : List (List ℕ) → ℕ → List Event → ℕ → List ℕ
 row_for names p events index text None = 0
 row_for names p events index text (Some event) = row_at names p event (turn_of (take index events) event) text
 
--- the line, from 1, at which the event of this number of p's line is made, 0 where there is none
+-- the line, from 1, that makes the event with this number of p's line, or 0 if there is none
 abbrev pub row_in : List (List ℕ) → ℕ → List Event → ℕ → List ℕ → ℕ
 row_in names p events index text = row_for names p events index text (ith events index)

@@ -1,5 +1,5 @@
 -- The page of another tool's text.
-use Rattle.std.specs.Prelude.{◌≡◌, List, ℕ, Option, Some, Result, Ok, Err}
+use Rattle.std.specs.Prelude.{◌≡◌, List, ℕ, Option, None, Some, Result, Ok, Err}
 use Rattle.diagram_import.specs.Importing.{OptionsView, imported}
 use Rattle.diagram_import.specs.Refusals.{Fails}
 use Rattle.cmd_base.specs.Answers.{Exit, refusal, exit_of, program_exit}
@@ -17,12 +17,12 @@ use Rattle.diagram_tool.specs.declared.Tool.{Tool}
 
 -- the title, and the turns of the diagram's rows
 abbrev pub heading_of : Option Tool → List ℕ → OptionsView → List ℕ → HeadingView
-heading_of tool bytes options title = record { title = title; turns = Some (turns_of_text tool bytes options) }
+heading_of tool bytes options title = record { title = title; turns = Some (turns_of_text tool bytes options); races = None }
 
 module _ {S : Type 0} (sink : S → Sink) where
-  -- what `mscview page` writes was written of the text of the chart that is read of the bytes, with its picture by the turns
-  -- of the diagram's rows, and what is told is told of that chart; or the page is refused; or nothing was written, where the
-  -- bytes are refused or memory ran out
+  -- The output of `mscview page` for the text of the bytes' chart was written, with the picture in the order of the
+  -- diagram's rows. The warnings are about this chart. Or the page is refused. Nothing was written if the bytes are
+  -- refused or memory ran out.
   abbrev pub IsShown : S → S → Option Tool → List ℕ → OptionsView → List ℕ → Result Diagnostics PageError → Type 0
   IsShown old new tool bytes options title (Ok diagnostics) = (built : JoinedChart) × IsChartOf built tool bytes options
       × AreDiagnosticsOf diagnostics built × ShowsText sink old new (heading_of tool bytes options title) (chart_text built.built.names built.built.chart) (Ok tt)
@@ -30,15 +30,15 @@ module _ {S : Type 0} (sink : S → Sink) where
   IsShown old new tool bytes options title (Err (Page error)) = (built : JoinedChart) × IsChartOf built tool bytes options
       × ShowsText sink old new (heading_of tool bytes options title) (chart_text built.built.names built.built.chart) (Err error)
 
-  -- The same. It stays folded, so that what stands above it is short.
+  -- The same. It stays folded, so that the goals above it are short.
   unfoldable pub ShowsDrawing : S → S → Option Tool → List ℕ → OptionsView → List ℕ → Result Diagnostics PageError → Type 0
   ShowsDrawing old new tool bytes options title done = IsShown old new tool bytes options title done
 
--- what is said of a refusal
+-- the answer to a refusal
 abbrev pub page_error_exit : PageError → Exit
 page_error_exit (Drawing error) = refusal (drawing_refusal_text error)
 page_error_exit (Page error) = program_exit error
 
--- what is said of a page that was written, or refused
+-- the answer after a page was written or refused
 abbrev pub page_exit : Result Diagnostics PageError → Exit
 page_exit = exit_of diagnostics_exit page_error_exit

@@ -1,4 +1,4 @@
--- What a page marks as having to come before a receive.
+-- The events that a page marks, which must come before a receive.
 use Rattle.std.specs.Prelude.{◌≡◌, ℕ, ◌-◌, ◌⊎◌, List, []}
 use Rattle.chart.specs.declared.instance.EventNo.{EventNo}
 use Rattle.chart.specs.Charts.{Chart, IsReceiveFrom}
@@ -7,8 +7,8 @@ use Rattle.closure.specs.Faults.{place_of}
 use Rattle.closure.specs.Rows.{entry}
 use Rattle.cmd_base.specs.Pairs.Sayings.{passing, comes_too}
 
--- Of each of n lines so many first events have to come before a receive, and so have these other receives of its line,
--- which come from its sender. Where it is no receive, there is nothing.
+-- For each of n lines the number of first events that must come before a receive, and the other receives of its line
+-- that must. The latter are from its sender. If the event is no receive, there are none.
 abbrev pub AreMarks : ℕ → Chart → EventNo → List ℕ → List ℕ → Type 0
 AreMarks n c r before also =
     ((q : ℕ) × IsReceiveFrom c q (place_of r) × IsPast n c (place_of r) before

@@ -1,11 +1,11 @@
--- Where an event stands among the commands of a schedule's text. Lanes are first in, first out, so the events of one lane
--- have one order in each run: the n-th of them is told by its number alone.
+-- The line of an event among the commands of a schedule's text. Lanes are first in, first out, so the events of one
+-- lane have the same order in each run. The n-th of them is determined by its number.
 use Rattle.std.specs.Prelude.{ℕ, ◌-◌, ◌==◌, ◌&&◌, bytes_eq, Bool, false, List, [], ◌∷◌, if◌then◌else◌}
 use Rattle.texts.specs.Lines.{words_of, lines_of}
 use Rattle.texts.specs.Outs.{one_more}
 use Rattle.cmd_page.specs.declared.text.event_rows.Deed.{Deed}
 
--- what a command does: which instance sends or receives, and to or from which
+-- the action of a command: its instance, whether it sends or receives, and its partner
 pub record Done : Type 0 where
   pub instance : List ℕ
   pub verb : List ℕ
@@ -14,12 +14,12 @@ pub record Done : Type 0 where
 abbrev pub done_by : Deed → Done
 done_by deed = record { instance = deed.instance.now; verb = deed.verb.now; partner = deed.partner.now }
 
--- three words say it
+-- three words state this action
 abbrev pub is_so : Done → List ℕ → List ℕ → List ℕ → Bool
 is_so deed instance verb partner =
     bytes_eq instance deed.instance && bytes_eq verb deed.verb && bytes_eq partner deed.partner
 
--- the words of a line do: NAME receive NAME, or NAME send NAME MESSAGE
+-- the words of a line state it: NAME receive NAME, or NAME send NAME MESSAGE
 abbrev pub says : Done → List (List ℕ) → Bool
 says deed [] = false
 says deed (a ∷ []) = false
@@ -28,20 +28,21 @@ says deed (a ∷ b ∷ c ∷ []) = is_so deed a b c
 says deed (a ∷ b ∷ c ∷ d ∷ []) = is_so deed a b c
 says deed (a ∷ b ∷ c ∷ d ∷ e ∷ others) = false
 
--- a line does, where one is left that does
+-- a line states it, and is the last one to be found
 abbrev pub is_turn : Done → ℕ → List ℕ → Bool
 is_turn deed left line = says deed (words_of line) && left == 1
 
--- how many are left behind a line
+-- the number of lines to be found after a line
 abbrev pub left_behind : Done → ℕ → List ℕ → ℕ
 left_behind deed left line = if says deed (words_of line) then left - 1 else left
 
--- the number of the first line, of lines that are numbered from one on, at which none is left; numbers stop at u64::MAX
+-- the number of the first line after which none is to be found, with lines numbered from a given number; numbers stop
+-- at u64::MAX
 abbrev pub row_from : Done → ℕ → ℕ → List (List ℕ) → ℕ
 row_from deed left number [] = 0
 row_from deed left number (line ∷ lines) =
     if is_turn deed left line then number else row_from deed (left_behind deed left line) (one_more number) lines
 
--- the number, from 1, of the line that says the deed for the turn-th time, 0 where none does
+-- the number, from 1, of the line that states the action for the turn-th time, or 0 if none does
 abbrev pub row_of : Done → ℕ → List ℕ → ℕ
 row_of deed turn text = row_from deed turn 1 (lines_of text)

@@ -1,5 +1,5 @@
--- Which lines of a text a page shows, and how (this project's own).
-use Rattle.std.specs.Prelude.{ℕ, ◌+◌, ◌-◌, ◌==◌, ◌&&◌, ◌||◌, nat_le, not, Bool, true, false, List, [], ◌∷◌, ◌++◌, if◌then◌else◌}
+-- The lines of a text that a page shows, and their markup (this project's own).
+use Rattle.std.specs.Prelude.{ℕ, ◌-◌, ◌==◌, ◌&&◌, ◌||◌, nat_le, not, Bool, false, List, [], ◌∷◌, ◌++◌, if◌then◌else◌}
 use Rattle.texts.specs.Lines.{lines_of}
 use Rattle.texts.specs.Outs.{one_more}
 use Rattle.texts.specs.Pieces.Pieces.{escaped}
@@ -16,7 +16,7 @@ is_near line other = nat_le (line - 6) other && nat_le (other - 5) line
 abbrev pub is_shown : Excerpt → ℕ → Bool
 is_shown x line = nat_le line x.head || is_near line x.earlier || is_near line x.receive
 
--- what stands before a line, and behind it
+-- the markup before a line, and after it
 abbrev pub start_of : Excerpt → ℕ → Word
 start_of x line = if line == x.receive then words.ReceiveStart else (if line == x.earlier then words.EarlierStart else words.LineStart)
 
@@ -27,15 +27,15 @@ end_of x line = if line == x.receive || line == x.earlier then words.EventEnd el
 unfoldable pub line_text : Excerpt → ℕ → List ℕ → List ℕ
 line_text x number line = word_text (start_of x number) ++ (escaped line ++ word_text (end_of x number))
 
--- what stands for lines that aren't, once for neighbours
+-- the mark of lines that aren't shown, once for neighbours
 abbrev pub gap_text : Bool → List ℕ
 gap_text follows_gap = if follows_gap then [] else word_text words.Gap
 
--- a line, or what stands for it
+-- a line, or the mark of lines that aren't shown
 abbrev pub next_text : Excerpt → ℕ → Bool → List ℕ → List ℕ
 next_text x number follows_gap line = if is_shown x number then line_text x number line else gap_text follows_gap
 
--- the lines from one on; numbers stop at u64::MAX
+-- the lines from this number on; numbers stop at u64::MAX
 abbrev pub lines_text : Excerpt → ℕ → Bool → List (List ℕ) → List ℕ
 lines_text x number follows_gap [] = []
 lines_text x number follows_gap (line ∷ lines) =

@@ -9,7 +9,7 @@ use Rattle.cmd_page.specs.declared.text.word.Word.TheVariants as words
 use Rattle.cmd_page.specs.Text.RaceText.{race_text}
 use Rattle.cmd_page.specs.Text.Words.{word_text}
 
--- what the page may do: show itself, and run the script with this digest (a policy of CSP)
+-- the page's policy: it may show itself, and run the script with this digest (a policy of CSP)
 unfoldable pub policy : List ℕ
 policy = codes "<meta http-equiv=\"Content-Security-Policy\" content=\"default-src 'none'; script-src 'sha256-vGViFwLYhTh9/zfDd5m7aEl8GEI5RD7IaToG0Vs21eM='; style-src 'unsafe-inline'; base-uri 'none'; form-action 'none'\">\n<meta name=\"viewport\" content=\"width=device-width,initial-scale=1\">\n<title>"
 
@@ -22,23 +22,23 @@ controls = CONTROLS.now
 unfoldable pub script : List ℕ
 script = SCRIPT.now
 
--- what stands before the body
+-- the text before the body
 unfoldable pub head_text : List ℕ → List ℕ
 head_text title = word_text words.PageStart ++ (policy ++ (escaped title ++ (word_text words.StyleStart ++ style)))
 
--- the word for so many races
+-- the word for this number of races
 abbrev pub race_word : ℕ → Word
 race_word n = if n == 1 then words.OneRace else words.Races
 
--- how many of them are told in full
+-- the number of races that are described in full
 unfoldable pub some_explained : ℕ → List ℕ
 some_explained explained = word_text words.ExplainedStart ++ (decimal explained ++ word_text words.ExplainedEnd)
 
--- the same where not all are
+-- this number, if not all races are
 abbrev pub explained_text : ℕ → ℕ → List ℕ
 explained_text races explained = if nat_lt explained races then some_explained explained else []
 
--- how many races there are, and where not all are told in full, how many are
+-- the number of races, and the number of those that are described in full if not all are
 unfoldable pub counts_text : ℕ → ℕ → List ℕ
 counts_text races explained = word_text words.CountStart ++ (decimal races ++ (word_text (race_word races)
     ++ (explained_text races explained ++ controls)))
@@ -48,7 +48,7 @@ unfoldable pub top_text : Page → List ℕ
 top_text page = word_text words.HeadStart ++ (escaped page.title.now ++ (counts_text (length page.races.now) page.explained
     ++ (word_text words.PictureStart ++ (page.picture.now ++ word_text words.RacesStart))))
 
--- all of it
+-- the whole text
 unfoldable pub page_text : Page → List ℕ
 page_text page = head_text page.title.now ++ (top_text page ++ (flat_map race_text page.races.now
     ++ (word_text words.ScriptStart ++ (script ++ word_text words.PageEnd))))

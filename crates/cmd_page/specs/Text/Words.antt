@@ -1,4 +1,4 @@
--- What stands between the parts of a page (this project's profile; the elements are those of HTML).
+-- The markup between the parts of a page (this project's profile; the elements are those of HTML).
 use Rattle.std.specs.Prelude.{ℕ, List, codes}
 use Rattle.cmd_page.specs.declared.text.word.Word.{Word}
 use Rattle.cmd_page.specs.declared.text.word.Word.TheVariants as words

@@ -1,4 +1,4 @@
-//! What a page tells of a race: why it is one, another order, and a message by which it goes.
+//! The explanation of a race on a page: the reason why it is one, another order, and a message that removes it.
 ghost use Rattle.std.specs.Prelude.{◌≡◌, ◌++◌, IfOk};
 ghost use Rattle.cmd_base.specs.Texts.{IsReadAs};
 ghost use Rattle.cmd_page.specs.Answers.Answering.{plus, texts, IsWhyExcerpt, IsWitnessExcerpt, IsMendExcerpt, AreAnswers};
@@ -11,12 +11,12 @@ use cmd_base::Source;
 use cmd_base::pairs::Asked;
 use std::alloc::{AllocError, Global};
 
-/// Of what the answers are: a race of a file's chart.
+/// The race of a file's chart that is explained.
 #[derive(Clone, Copy)]
 pub struct Subject<'a> {
-    /// The file's.
+    /// The bytes of the file.
     pub bytes: &'a [u8],
-    /// Where its chart comes from.
+    /// The source of its chart.
     pub source: &'a Source<'a>,
     pub names: &'a Names,
     pub instance: InstanceNo,
@@ -29,7 +29,7 @@ pub struct Subject<'a> {
     pub above: u64,
 }
 
-/// What was left on standard output, and behind it what was told.
+/// The text on standard output, and then the text on standard error.
 fn texts(left: Left) -> Result<Vec<u8>, AllocError>
     ensures { IfOk result (λ text. text.items ≡ texts left) }
 {
@@ -43,7 +43,8 @@ fn texts(left: Left) -> Result<Vec<u8>, AllocError>
     Ok(text)
 }
 
-/// Of why it is a race: what has to come before the receive, and the line's rows round the two events.
+/// The reason why it is a race: the events that must come before the receive, and the line's rows round the two
+/// events.
 fn why_of(alloc: Global, subject: &Subject<'_>) -> Result<Excerpt, AllocError>
     requires { IsReadAs subject.now.bytes.now subject.now.source.now }
     ensures { IfOk result (IsWhyExcerpt subject.now) }
@@ -58,7 +59,7 @@ fn why_of(alloc: Global, subject: &Subject<'_>) -> Result<Excerpt, AllocError>
     })
 }
 
-/// Of the other order: the instances, the capacity, and the commands round the two events.
+/// The other order: the instances, the capacity, and the commands round the two events.
 fn witness_of(alloc: Global, subject: &Subject<'_>) -> Result<Excerpt, AllocError>
     requires { IsReadAs subject.now.bytes.now subject.now.source.now }
     ensures { IfOk result (IsWitnessExcerpt subject.now) }
@@ -89,7 +90,7 @@ fn witness_of(alloc: Global, subject: &Subject<'_>) -> Result<Excerpt, AllocErro
     })
 }
 
-/// Of the message by which it goes: the first lines of what is told.
+/// The message that removes the race: the first lines of the text.
 fn mend_of(alloc: Global, subject: &Subject<'_>) -> Result<Excerpt, AllocError>
     requires { IsReadAs subject.now.bytes.now subject.now.source.now }
     ensures { IfOk result (IsMendExcerpt subject.now) }
@@ -108,7 +109,7 @@ fn mend_of(alloc: Global, subject: &Subject<'_>) -> Result<Excerpt, AllocError>
     })
 }
 
-/// All of it. The file is read once for all of its races: the source is what its bytes say.
+/// The whole explanation. The file is read once for all of its races: the source is that of its bytes.
 pub fn answers_of(alloc: Global, subject: &Subject<'_>) -> Result<Answers, AllocError>
     requires { IsReadAs subject.now.bytes.now subject.now.source.now }
     ensures { IfOk result (AreAnswers subject.now) }

@@ -1,4 +1,4 @@
-//! What is written into memory.
+//! Texts that are written into memory.
 ghost use Rattle.std.specs.Prelude.{◌≡◌, ◌==◌, [], Some};
 ghost use Rattle.texts.specs.Outs.{Stored};
 
@@ -6,8 +6,8 @@ use std::alloc::Global;
 use std::marker::Model;
 use texts::{Out, OutFault};
 
-/// An [`Out`] over memory, which tells its bytes and whether a put failed. A put fails where there is no memory left
-/// for it.
+/// An [`Out`] into memory. It returns its bytes, and whether a put failed. A put fails if there is no memory left for
+/// it.
 #[derive(Drop)]
 pub struct Collected {
     bytes: Vec<u8>,
@@ -21,7 +21,7 @@ impl Model for Collected {
 }
 
 impl Collected {
-    /// One with no bytes. It takes no memory yet.
+    /// A text with no bytes. It allocates no memory yet.
     pub fn new(alloc: Global) -> Collected
         ensures { result ≡ record { bytes = []; failures = 0 } }
     {

@@ -1,4 +1,4 @@
-//! What the commands leave of two events: their output, what they tell, and their status.
+//! The results of the commands for two events: their output, their text on standard error, and their status.
 ghost use Rattle.std.specs.Prelude.{ℕ, List, IfOk, IsTrue};
 ghost use Rattle.cmd_base.specs.Texts.{ComesFrom, IsReadAs};
 ghost use Rattle.cmd_page.specs.Answers.Leaving.{IsWhole, IsWhy, IsWitness, IsMend};
@@ -10,7 +10,7 @@ use cmd_explain_race::{why_of_source, witness_of_source};
 use cmd_mend::mend_of_source;
 use std::alloc::{AllocError, Global};
 
-/// What a command left: on standard output, on standard error, and its exit status.
+/// The result of a command: the text on standard output, the text on standard error, and the exit status.
 #[derive(Drop)]
 pub struct Left {
     pub out: Collected,
@@ -18,17 +18,17 @@ pub struct Left {
     pub status: u8,
 }
 
-/// What is told where memory ran out.
+/// The line of a command that ran out of memory.
 const OUT_OF_MEMORY: &[u8] = b"refused: F6 Memory\n";
 
-/// Whether it is all that was left: no put failed, and memory didn't run out otherwise.
+/// Whether the result is complete: no put failed, and memory didn't run out otherwise.
 fn is_all(left: &Left) -> bool
     ensures { IsTrue result → IsWhole left.now }
 {
     left.out.is_whole() && left.err.is_whole() && left.err.as_bytes() != OUT_OF_MEMORY
 }
 
-/// What `why` leaves of the file that a chart comes from.
+/// The result of `why` for the file of a chart.
 pub(crate) fn why_left(
     alloc: Global,
     source: &Source<'_>,
@@ -46,7 +46,7 @@ pub(crate) fn why_left(
     Ok(left)
 }
 
-/// What `witness` leaves of the file that a chart comes from.
+/// The result of `witness` for the file of a chart.
 pub(crate) fn witness_left(
     alloc: Global,
     source: &Source<'_>,
@@ -65,7 +65,7 @@ pub(crate) fn witness_left(
     Ok(left)
 }
 
-/// What `mend` leaves of the file that a chart comes from, where it names the message itself.
+/// The result of `mend` for the file of a chart. `mend` chooses the name of the message.
 pub(crate) fn mend_left(
     alloc: Global,
     source: &Source<'_>,

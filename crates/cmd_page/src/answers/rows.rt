@@ -1,4 +1,4 @@
-//! Where the two events of a race stand in a witness.
+//! The lines of a race's two events in a witness.
 ghost use Rattle.std.specs.Prelude.{◌≡◌, take, IfOk};
 ghost use Rattle.texts.specs.Instances.{name_at};
 ghost use Rattle.cmd_page.specs.Answers.Standing.{is_alike, turn_of, verb_of, row_at, row_in};
@@ -8,7 +8,7 @@ use chart::{Event, InstanceNo, Names};
 use races_text::named::event_at;
 use std::alloc::{AllocError, Global};
 
-/// The bytes of an instance's name, none where it has no name.
+/// The bytes of an instance's name, or none if it has no name.
 pub fn name_bytes(alloc: Global, names: &Names, instance: InstanceNo) -> Result<Vec<u8>, AllocError>
     ensures { IfOk result (λ bytes. bytes.items ≡ name_at names.now instance) }
 {
@@ -29,14 +29,14 @@ fn is_alike(event: &Event, other: &Event) -> bool
     }
 }
 
-/// How many of the events are like this one.
+/// The number of events like this one.
 fn turn_of(events: &[Event], event: &Event) -> usize
     ensures { result ≡ turn_of events.now event.now }
 {
     events.iter().filter(|other| is_alike(event, other)).count()
 }
 
-/// What the command of an event is.
+/// The verb of an event's command.
 #[tactic(auto, unfolding(crate::specs::Answers::Standing::verb_of))]
 fn verb_of(event: &Event) -> &'static [u8]
     ensures { result.now ≡ verb_of event.now }
@@ -47,7 +47,7 @@ fn verb_of(event: &Event) -> &'static [u8]
     }
 }
 
-/// The line of an event of this instance, of which so many events like it come up to it.
+/// The line of an event of this instance. It is the `turn`-th event of its kind.
 fn row_at(
     alloc: Global,
     names: &Names,
@@ -79,8 +79,8 @@ fn front_of(events: &[Event], index: usize) -> &[Event]
     }
 }
 
-/// The number, from 1, of the line of a schedule's text at which the event of this number of the instance's line is
-/// made, or 0 where there is none.
+/// The number of the line in a schedule's text that makes the event with this number of the instance's line. Lines
+/// are numbered from 1. It is 0 if there is none.
 pub(crate) fn row_in(
     alloc: Global,
     names: &Names,

@@ -1,5 +1,5 @@
 //! Pages of other tools' texts.
-ghost use Rattle.std.specs.Prelude.{◌≡◌, Some};
+ghost use Rattle.std.specs.Prelude.{◌≡◌, None, Some};
 ghost use Rattle.diagram_import.specs.Importing.{options_view};
 ghost use Rattle.cmd_base.specs.Answers.{Answers};
 ghost use Rattle.cmd_page.specs.Imports.Drawings.{ShowsDrawing, page_error_exit, page_exit};
@@ -15,10 +15,10 @@ use diagram_tool::Tool;
 use std::alloc::Global;
 use texts::Out;
 
-/// Why no page was written.
+/// The reason why no page was written.
 #[derive(Debug, Drop)]
 pub enum PageError {
-    /// The text isn't read or has no chart, or memory ran out.
+    /// The text is refused, or memory ran out.
     Drawing(ImportError),
     /// Memory ran out, or a write failed.
     Page(ProgramError),
@@ -26,14 +26,19 @@ pub enum PageError {
 
 /// A title, and the turns of a diagram's rows.
 fn heading_of<'a>(title: &'a [u8], turns: &'a [InstanceNo]) -> Heading<'a>
-    ensures { heading_view result ≡ record { title = title.now; turns = Some turns.now } }
+    ensures view { heading_view result ≡ record { title = title.now; turns = Some turns.now; races = None } }
+    ensures none { result.races ≡ None }
 {
     let turns = Some(turns);
-    Heading { title, turns }
+    Heading {
+        title,
+        turns,
+        races: None,
+    }
 }
 
-/// Reads the text and writes the page of its chart, with its picture in the rows of the diagram. All memory is taken
-/// before the first byte is written.
+/// Reads the text and writes the page of its chart, with its picture in the rows of the diagram. It allocates all
+/// memory before it writes the first byte.
 #[tactic(auto, unfolding(crate::specs::Imports::Drawings::ShowsDrawing))]
 fn show<W: Out>(
     alloc: Global,
@@ -77,11 +82,11 @@ impl Answer for PageError {
     }
 }
 
-/// Writes the page of the chart that a tool's text says, of the tool that is named or that the text tells: that of the
-/// text which `mscview import` writes, with the events of its picture in the order of the diagram's rows. On `err` is
-/// told what an import tells of the chart. Writes the line of a refusal to `err`. Answers the exit status: 0 where it
-/// was written, 2 after a refusal. The refusals are those of an import. Nothing is written to `out` before a refusal,
-/// but where writing to it failed (F24). A failed write to `err` changes nothing.
+/// Writes the page of the chart of another tool's text to `out`. The tool is the named one, or the one that the text
+/// shows. The page is that of the text from `mscview import`, with the events of its picture in the order of the
+/// diagram's rows. The warnings of an import and the line of a refusal go to `err`. The exit status is 0 if the page
+/// was written, and 2 after a refusal. The refusals are those of an import. Nothing is written to `out` before a
+/// refusal, unless writing to it failed (F24). A failed write to `err` changes nothing.
 pub fn page_of_drawing<W: Out, V: Out>(
     alloc: Global,
     tool: Option<Tool>,

@@ -1,4 +1,4 @@
-//! What has to come before a receive, as numbers.
+//! The events that must come before a receive, as numbers.
 ghost use Rattle.std.specs.Prelude.{◌≡◌, ◌<◌, suc, length, IfOk};
 ghost use Rattle.chart.specs.Charts.{chart_lines};
 ghost use Rattle.closure.specs.Faults.{place_of};
@@ -12,10 +12,10 @@ use closure::chain::past;
 use closure::{Closure, Numbers};
 use std::alloc::{AllocError, Global};
 
-/// What has to come before a receive.
+/// The events that must come before a receive.
 #[derive(Drop)]
 pub struct Marks {
-    /// Of each line so many first events.
+    /// For each line, the number of first events.
     pub before: Vec<u64>,
     /// Other events of its own line.
     pub also: Vec<u64>,
@@ -32,7 +32,7 @@ fn listed(alloc: Global, numbers: &Numbers) -> Result<Vec<u64>, AllocError>
     Ok(list)
 }
 
-/// The number of a line, 0 where there is none.
+/// The number for a line, or 0 if there is none.
 fn count_of(numbers: &Numbers, instance: InstanceNo) -> usize
     ensures { result ≡ entry numbers.now instance }
 {
@@ -44,7 +44,7 @@ fn count_of(numbers: &Numbers, instance: InstanceNo) -> usize
     }
 }
 
-/// Whether the event behind so many others is a receive from the sender, and none of so many first events.
+/// Whether the event at `place` is a receive from the sender, and isn't among the first `count` events.
 fn comes_too(events: &[Event], count: usize, sender: InstanceNo, place: usize) -> bool
     requires { place < usize.MAX }
     ensures { result ≡ comes_too events.now count sender (suc place) }
@@ -55,7 +55,7 @@ fn comes_too(events: &[Event], count: usize, sender: InstanceNo, place: usize) -
     }
 }
 
-/// The numbers of the events above a receive that are receives from its sender, and none of so many first events.
+/// The numbers of the events above a receive that are receives from its sender, without the first `count` events.
 fn also_before(
     alloc: Global,
     events: &[Event],
@@ -81,7 +81,7 @@ pub fn line_of<'a>(closure: &'a Closure<'_>, instance: InstanceNo) -> &'a [Event
     events_of(closure.lines(), instance)
 }
 
-/// What has to come before a receive of the chart; nothing, where it is none.
+/// The events that must come before a receive of the chart. There are none if the event is no receive.
 pub fn marks_of(
     alloc: Global,
     closure: &Closure<'_>,

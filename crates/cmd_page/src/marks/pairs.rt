@@ -1,21 +1,26 @@
 //! The races of a page: each range of earlier events of each receive.
-ghost use Rattle.std.specs.Prelude.{◌≡◌, ◌++◌, All, IfOk, OnOk};
-ghost use Rattle.cmd_page.specs.Marks.Pairing.{HasRange, pairs_in, pairs_of, explained_of};
+ghost use Rattle.std.specs.Prelude.{◌≡◌, ◌++◌, List, All, IfOk, IfSome, OnOk, option_map};
+ghost use Rattle.chart.specs.Reports.{ReportView, AreReports};
+ghost use Rattle.cmd_page.specs.Marks.Pairing.{HasRange, pairs_in, pairs_of, ArePageRaces, explained_of};
 
 use chart::{EventNo, EventRange, Report};
+use closure::Closure;
+use race_verdicts::Verdict;
 use std::alloc::{AllocError, Global};
 
-/// So many races of a page are told in full at most.
+/// The greatest number of races that a page describes in full.
 pub const MOST_EXPLAINED: u64 = 100;
 
-/// None is, where the file has more bytes.
+/// The greatest number of bytes of a file whose page describes races in full.
 pub const MOST_BYTES: usize = 131_072;
 
 /// A receive, and neighbouring earlier events of its line that it may come before.
-#[derive(Clone, Copy)]
+#[derive(Clone, Copy, Debug)]
 pub struct RaceRange {
     pub receive: EventNo,
     pub earlier: EventRange,
+    /// The verdict that all of these races have, if it is known.
+    pub verdict: Option<Verdict>,
 }
 
 /// Adds the races of a report.
@@ -29,6 +34,7 @@ fn add_report(pairs: &mut Vec<RaceRange>, report: &Report) -> Result<(), AllocEr
         pairs.push(RaceRange {
             receive: report.receive(),
             earlier: *range,
+            verdict: None,
         })?;
     }
     Ok(())
@@ -46,7 +52,46 @@ pub fn pairs_of(alloc: Global, reports: &[Report]) -> Result<Vec<RaceRange>, All
     Ok(pairs)
 }
 
-/// How many of so many races are told in full, where the file has so many bytes.
+/// The races of the chart: one for each range of its reports.
+fn reported_races(alloc: Global, closure: &Closure<'_>) -> Result<Vec<RaceRange>, AllocError>
+    ensures races { IfOk result (λ races. (reports : List ReportView) × AreReports closure.now reports
+        × (races.items ≡ pairs_of reports)) }
+    ensures have { IfOk result (λ races. All HasRange races.items) }
+{
+    let reports = closure.races()?;
+    let races = pairs_of(alloc, reports.as_slice())?;
+    Ok(races)
+}
+
+/// A copy of these races.
+fn copied_races(alloc: Global, given: &[RaceRange]) -> Result<Vec<RaceRange>, AllocError>
+    ensures { IfOk result (λ races. races.items ≡ given.now) }
+{
+    let mut races = Vec::new(alloc);
+    for race in given {
+        races.push(*race)?;
+    }
+    Ok(races)
+}
+
+/// The races of a page: the given ones, or one for each range of the chart's reports. It fails only if there is no
+/// memory (F6).
+pub fn races_in(
+    alloc: Global,
+    closure: &Closure<'_>,
+    given: Option<&[RaceRange]>,
+) -> Result<Vec<RaceRange>, AllocError>
+    requires { IfSome given (λ given. All HasRange given.now) }
+    ensures races { IfOk result (λ races. ArePageRaces (option_map (λ given. given.now) given.entry) closure.now races.items) }
+    ensures have { IfOk result (λ races. All HasRange races.items) }
+{
+    match given {
+        None => reported_races(alloc, closure),
+        Some(given) => copied_races(alloc, given),
+    }
+}
+
+/// The number of races that are described in full, for a file with this number of bytes.
 pub fn explained_of(bytes: usize, races: usize) -> u64
     ensures { result ≡ explained_of bytes races }
 {

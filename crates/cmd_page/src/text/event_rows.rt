@@ -1,11 +1,11 @@
-//! Where an event stands among the commands of a schedule's text.
+//! The line of an event among the commands of a schedule's text.
 ghost use Rattle.std.specs.Prelude.{◌≡◌};
 ghost use Rattle.texts.specs.Lines.{words_of};
 ghost use Rattle.cmd_page.specs.Text.EventRows.{done_by, is_so, says, is_turn, left_behind, row_of};
 
 use texts::{Words, next_line, words_in};
 
-/// What a command does: which instance sends or receives, and to or from which.
+/// The action of a command: its instance, whether it sends or receives, and its partner.
 #[derive(Clone, Copy)]
 pub struct Deed<'a> {
     pub instance: &'a [u8],
@@ -14,14 +14,14 @@ pub struct Deed<'a> {
     pub partner: &'a [u8],
 }
 
-/// Whether three words say it.
+/// Whether three words state this action.
 fn is_so(deed: &Deed<'_>, instance: &[u8], verb: &[u8], partner: &[u8]) -> bool
     ensures { result ≡ is_so (done_by deed.now) instance.now verb.now partner.now }
 {
     instance == deed.instance && verb == deed.verb && partner == deed.partner
 }
 
-/// Whether a line says it. A send has the name of its message behind it.
+/// Whether a line states this action. The name of the message follows a send.
 fn says(deed: &Deed<'_>, line: &[u8]) -> bool
     ensures { result ≡ says (done_by deed.now) (words_of line.now) }
 {
@@ -32,14 +32,14 @@ fn says(deed: &Deed<'_>, line: &[u8]) -> bool
     }
 }
 
-/// Whether a line says it, where one is left that does.
+/// Whether a line states this action and is the last one to be found.
 fn is_turn(deed: &Deed<'_>, line: &[u8], left: u64) -> bool
     ensures { result ≡ is_turn (done_by deed.now) left line.now }
 {
     says(deed, line) && left == 1
 }
 
-/// How many are left behind a line.
+/// The number of lines to be found after a line.
 fn left_behind(deed: &Deed<'_>, line: &[u8], left: u64) -> u64
     ensures { result ≡ left_behind (done_by deed.now) left line.now }
 {
@@ -50,7 +50,8 @@ fn left_behind(deed: &Deed<'_>, line: &[u8], left: u64) -> u64
     }
 }
 
-/// The number, from 1, of the line of a schedule's text that says this for the turn-th time, or 0 where none does.
+/// The number, from 1, of the line in a schedule's text that states this action for the `turn`-th time, or 0 if none
+/// does.
 pub fn row_of(text: &[u8], deed: &Deed<'_>, turn: u64) -> u64
     ensures { result ≡ row_of (done_by deed.now) turn text.now }
 {

@@ -1,4 +1,4 @@
-//! Texts of which the lines round two events are shown.
+//! Excerpts of texts: the lines round two events.
 ghost use Rattle.std.specs.Prelude.{◌≡◌};
 ghost use Rattle.texts.specs.Lines.{lines_of};
 ghost use Rattle.texts.specs.Writing.{Adds};
@@ -9,8 +9,8 @@ use crate::text::word::{Word, add_word};
 use texts::pieces::{Piece, add_pieces};
 use texts::{Out, TextBuffer, WriteError, next_line};
 
-/// A text, and which of its lines are shown: so many first ones, and the lines round two others, each by its number
-/// from 1. Where there is no such line, its number is 0.
+/// A text, and the lines of it that are shown: the first ones, and those round two others. Lines are numbered from 1.
+/// The number 0 is no line.
 #[derive(Drop)]
 pub struct Excerpt {
     pub text: Vec<u8>,
@@ -35,7 +35,7 @@ fn is_shown(excerpt: &Excerpt, line: u64) -> bool
     line <= excerpt.head || is_near(line, excerpt.earlier) || is_near(line, excerpt.receive)
 }
 
-/// What stands before a line.
+/// The markup before a line.
 fn start_of(excerpt: &Excerpt, line: u64) -> Word
     ensures { result ≡ start_of excerpt.now line }
 {
@@ -48,7 +48,7 @@ fn start_of(excerpt: &Excerpt, line: u64) -> Word
     }
 }
 
-/// What stands behind it.
+/// The markup after a line.
 fn end_of(excerpt: &Excerpt, line: u64) -> Word
     ensures { result ≡ end_of excerpt.now line }
 {
@@ -59,7 +59,7 @@ fn end_of(excerpt: &Excerpt, line: u64) -> Word
     }
 }
 
-/// Adds bytes that may be any.
+/// Adds any bytes.
 pub(crate) fn add_escaped<W: Out>(
     text: &mut TextBuffer<'_, W>,
     bytes: &[u8],
@@ -84,7 +84,7 @@ fn add_line<W: Out>(
     add_word(text, end_of(excerpt, number))
 }
 
-/// Adds what stands for lines that aren't shown, once.
+/// Adds the mark of lines that aren't shown, unless it was the last text.
 fn add_gap<W: Out>(text: &mut TextBuffer<'_, W>, follows_gap: bool) -> Result<(), WriteError>
     ensures { Adds W.sink text.old text.new result (gap_text follows_gap) }
 {
@@ -95,7 +95,7 @@ fn add_gap<W: Out>(text: &mut TextBuffer<'_, W>, follows_gap: bool) -> Result<()
     }
 }
 
-/// Adds a line, or what stands for it.
+/// Adds a line, or the mark of lines that aren't shown.
 fn add_next<W: Out>(
     text: &mut TextBuffer<'_, W>,
     excerpt: &Excerpt,

@@ -12,19 +12,19 @@ use crate::text::race::{Race, add_race};
 use crate::text::word::{Word, add_word};
 use texts::{Out, TextBuffer, WriteError};
 
-/// What a page is of.
+/// The contents of a page.
 #[derive(Clone, Copy)]
 pub struct Page<'a> {
     /// Any bytes.
     pub title: &'a [u8],
-    /// An SVG text, which the page has as it is.
+    /// An SVG text. It is put as it is.
     pub picture: &'a [u8],
     pub races: &'a [Race],
-    /// How many of the races are told in full.
+    /// The number of races that are described in full.
     pub explained: u64,
 }
 
-/// Adds what the page may do: show itself, and run its own script.
+/// Adds the page's policy: it may show itself, and run its own script.
 #[tactic(auto, unfolding(crate::specs::Text::PageText::policy))]
 fn add_policy<W: Out>(text: &mut TextBuffer<'_, W>) -> Result<(), WriteError>
     ensures { Adds W.sink text.old text.new result policy }
@@ -53,7 +53,7 @@ fn add_script<W: Out>(text: &mut TextBuffer<'_, W>) -> Result<(), WriteError>
     text.add(SCRIPT)
 }
 
-/// Adds what stands before the body.
+/// Adds the text before the body.
 #[tactic(auto, using(texts::proofs::Writes::joining), unfolding(crate::specs::Text::PageText::head_text))]
 fn add_head<W: Out>(text: &mut TextBuffer<'_, W>, title: &[u8]) -> Result<(), WriteError>
     ensures { Adds W.sink text.old text.new result (head_text title.now) }
@@ -65,7 +65,7 @@ fn add_head<W: Out>(text: &mut TextBuffer<'_, W>, title: &[u8]) -> Result<(), Wr
     add_style(text)
 }
 
-/// The word for so many races.
+/// The word for this number of races.
 fn race_word(races: u64) -> Word
     ensures { result ≡ race_word races }
 {
@@ -76,7 +76,7 @@ fn race_word(races: u64) -> Word
     }
 }
 
-/// Adds how many races are told in full.
+/// Adds the number of races that are described in full.
 #[tactic(auto, using(texts::proofs::Writes::joining), unfolding(crate::specs::Text::PageText::some_explained))]
 fn add_some_explained<W: Out>(
     text: &mut TextBuffer<'_, W>,
@@ -89,7 +89,7 @@ fn add_some_explained<W: Out>(
     add_word(text, Word::ExplainedEnd)
 }
 
-/// Adds the same, where not all are.
+/// Adds this number, if not all races are.
 fn add_explained<W: Out>(
     text: &mut TextBuffer<'_, W>,
     races: u64,
@@ -104,7 +104,7 @@ fn add_explained<W: Out>(
     }
 }
 
-/// Adds how many races the page has, and where not all of them are told in full, how many are.
+/// Adds the number of races, and the number of those that are described in full if not all are.
 #[tactic(auto, using(texts::proofs::Writes::joining), unfolding(crate::specs::Text::PageText::counts_text))]
 fn add_counts<W: Out>(
     text: &mut TextBuffer<'_, W>,
@@ -154,8 +154,8 @@ fn add_page<W: Out>(text: &mut TextBuffer<'_, W>, page: &Page<'_>) -> Result<(),
     add_word(text, Word::PageEnd)
 }
 
-/// Writes a page. It takes no memory. Where a put fails (F24), a beginning of the text was written, and no other put is
-/// tried.
+/// Writes a page. It allocates no memory. If a put fails (F24), the beginning of the text was written, and no other
+/// put is tried.
 #[tactic(auto, using(texts::proofs::Writes::joining))]
 pub fn write_page<W: Out>(page: &Page<'_>, out: &mut W) -> Result<(), WriteError>
     ensures { Wrote W.sink out.old out.new result (page_text page.now) }

@@ -1,4 +1,4 @@
-//! A race on a page: its numbers, its line, and what is told of it.
+//! A race on a page: its numbers, its line, and its explanation.
 ghost use Rattle.std.specs.Prelude.{◌≡◌};
 ghost use Rattle.std.specs.List.{flat_map};
 ghost use Rattle.texts.specs.Writing.{Adds};
@@ -15,30 +15,30 @@ pub struct Race {
     pub receive: EventNo,
     /// The number of the first of the earlier events.
     pub first: u64,
-    /// The number of the last one.
+    /// The number of the last of the earlier events.
     pub last: u64,
-    /// Of each line how many first events have to come before the receive.
+    /// For each line, the number of first events that must come before the receive.
     pub before: Vec<u64>,
-    /// Which other events of its own line have to.
+    /// The other events of its own line that must.
     pub also: Vec<u64>,
-    /// The race by the names of its messages.
+    /// The race by the names of its messages, with its word if its verdict is known.
     pub line: Vec<u8>,
-    /// What is told of it, if it is told in full.
+    /// The explanation, if the race is described in full.
     pub answers: Option<Answers>,
 }
 
-/// What is told of a race.
+/// The explanation of a race.
 #[derive(Drop)]
 pub struct Answers {
-    /// Why it is one.
+    /// The reason why it is one.
     pub why: Excerpt,
     /// Another order.
     pub witness: Excerpt,
-    /// The message by which it goes.
+    /// The message that removes it.
     pub mend: Excerpt,
 }
 
-/// Adds a number behind a space.
+/// Adds a space and a number.
 #[tactic(auto, using(texts::proofs::Writes::joining), unfolding(crate::specs::Text::RaceText::behind_space))]
 fn add_behind_space<W: Out>(text: &mut TextBuffer<'_, W>, number: u64) -> Result<(), WriteError>
     ensures { Adds W.sink text.old text.new result (behind_space number) }
@@ -47,7 +47,7 @@ fn add_behind_space<W: Out>(text: &mut TextBuffer<'_, W>, number: u64) -> Result
     text.add_number(number)
 }
 
-/// Adds numbers, each behind a space.
+/// Adds numbers, with a space before each.
 fn add_numbers<W: Out>(text: &mut TextBuffer<'_, W>, numbers: &[u64]) -> Result<(), WriteError>
     ensures { Adds W.sink text.old text.new result (flat_map behind_space numbers.now) }
 {
@@ -57,7 +57,7 @@ fn add_numbers<W: Out>(text: &mut TextBuffer<'_, W>, numbers: &[u64]) -> Result<
     Ok(())
 }
 
-/// Adds the numbers of a race that name it.
+/// Adds the numbers of a race's id.
 #[tactic(auto, using(texts::proofs::Writes::joining), unfolding(crate::specs::Text::RaceText::id_text))]
 fn add_id<W: Out>(text: &mut TextBuffer<'_, W>, race: &Race) -> Result<(), WriteError>
     ensures { Adds W.sink text.old text.new result (id_text race.now) }
@@ -84,7 +84,7 @@ fn add_race_numbers<W: Out>(text: &mut TextBuffer<'_, W>, race: &Race) -> Result
     add_word(text, Word::NumbersEnd)
 }
 
-/// Adds the line of a race and what is told of it.
+/// Adds the line of a race and its explanation.
 #[tactic(auto, using(texts::proofs::Writes::joining), unfolding(crate::specs::Text::RaceText::explained_text))]
 fn add_explained<W: Out>(
     text: &mut TextBuffer<'_, W>,
@@ -104,7 +104,7 @@ fn add_explained<W: Out>(
     add_word(text, Word::SummaryEnd)
 }
 
-/// Adds the line of a race of which no more is told.
+/// Adds the line of a race without an explanation.
 #[tactic(auto, using(texts::proofs::Writes::joining), unfolding(crate::specs::Text::RaceText::short_text))]
 fn add_short<W: Out>(text: &mut TextBuffer<'_, W>, line: &[u8]) -> Result<(), WriteError>
     ensures { Adds W.sink text.old text.new result (short_text line.now) }

@@ -1,68 +1,68 @@
-//! What stands between the parts of a page.
+//! The markup between the parts of a page.
 ghost use Rattle.std.specs.Prelude.{◌≡◌};
 ghost use Rattle.texts.specs.Writing.{Adds};
 ghost use Rattle.cmd_page.specs.Text.Words.{word_text};
 
 use texts::{Out, TextBuffer, WriteError};
 
-/// What stands between the parts of a page.
+/// The markup between the parts of a page.
 #[derive(Clone, Copy)]
 pub(crate) enum Word {
     /// Before a line that is neither of the two events.
     LineStart,
     /// Before the line of the earlier event.
     EarlierStart,
-    /// Before that of the receive.
+    /// Before the line of the receive.
     ReceiveStart,
-    /// Behind a line.
+    /// After a line.
     LineEnd,
-    /// Behind the line of an event.
+    /// After the line of an event.
     EventEnd,
-    /// In the place of lines that aren't shown.
+    /// In place of lines that aren't shown.
     Gap,
     /// Before the numbers of a race.
     RaceStart,
-    /// Between two of them.
+    /// Between two numbers of an id.
     Dash,
     /// Before the number of the last earlier event.
     Last,
-    /// Before the numbers of first events that have to come before the receive.
+    /// Before the numbers of first events that must come before the receive.
     Before,
-    /// Before those of other events that have to.
+    /// Before the numbers of other events that must.
     Also,
-    /// Behind all numbers.
+    /// After all numbers.
     NumbersEnd,
-    /// Between two numbers.
+    /// Before a number of a list.
     Space,
-    /// Before the line of a race that is told in full.
+    /// Before the line of a race that is described in full.
     SummaryStart,
-    /// Before what says why it is one.
+    /// Before the reason why it is a race.
     Why,
     /// Before another order.
     Witness,
-    /// Before the message by which it goes.
+    /// Before the message that removes the race.
     Mend,
-    /// Behind all of it.
+    /// After the explanation.
     SummaryEnd,
-    /// Before the line of a race that isn't told in full.
+    /// Before the line of a race that isn't described in full.
     ShortStart,
-    /// Behind it.
+    /// After the line of a race that isn't described in full.
     ShortEnd,
     /// Before the title of the page.
     PageStart,
     /// Before the style.
     StyleStart,
-    /// Before the title at its head.
+    /// Before the title at the head of the page.
     HeadStart,
-    /// Before the number of its races.
+    /// Before the number of races.
     CountStart,
-    /// Behind it, where there is one.
+    /// After this number, if there is one race.
     OneRace,
-    /// Behind it, where there are none or several.
+    /// After this number, if there are no races or several.
     Races,
-    /// Before the number of those that are told in full.
+    /// Before the number of races that are described in full.
     ExplainedStart,
-    /// Behind it.
+    /// After this number.
     ExplainedEnd,
     /// Before the picture.
     PictureStart,
@@ -70,7 +70,7 @@ pub(crate) enum Word {
     RacesStart,
     /// Before the script.
     ScriptStart,
-    /// Behind it.
+    /// After the script.
     PageEnd,
 }
 
@@ -115,7 +115,7 @@ fn word_of(word: &Word) -> &[u8]
     }
 }
 
-/// Adds it. F24: a put failed.
+/// Adds the markup. F24: a put failed.
 pub(crate) fn add_word<W: Out>(text: &mut TextBuffer<'_, W>, word: Word) -> Result<(), WriteError>
     ensures { Adds W.sink text.old text.new result (word_text word) }
 {

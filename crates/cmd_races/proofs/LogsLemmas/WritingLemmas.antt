@@ -1,4 +1,4 @@
--- Two writes, one behind the other.
+-- Two writes, one after the other.
 use Rattle.std.proofs.Common.{List, ℕ, ◌++◌, true, ◌≡◌, Result, Ok, Err}
 use Rattle.std.specs.Result.{is_err}
 use Rattle.texts.specs.Outs.{Sink}

@@ -63,7 +63,7 @@ reads [] i within none = omega (arith, within)
 reads (m ∷ line) zero within none = none-some m (sym none)
 reads (m ∷ line) (suc i) within none = reads line i (omega (arith, within)) none
 
--- there is one
+-- there is an event
 pub no_event : (c : Chart) (e : Place) → IsEvent c e → ith (c e.instance) e.index ≡ None → ⊥
 no_event c e its none = go e.index its.0 its.1 none
   where

@@ -1,4 +1,4 @@
--- What the table of a line says of its receives.
+-- The entries of a line's table for its receives.
 use Rattle.std.proofs.Common.{◌≡◌, ℕ, zero, suc, ◌-◌, ◌≤◌, ◌↔◌, IsTrue, Bool, true, false, cond, List, [], ◌∷◌, Option, None, Some, take, refl, sym, ap, ◌∙◌, subst, arith}
 use Rattle.std.specs.Prelude.{slice_get, option_map, unwrap_or}
 use Rattle.std.proofs.lemmas.Bool.{false≢true}
@@ -18,7 +18,7 @@ some_is a b is = ap (λ o. unwrap_or o a) is
 counted : (from : ℕ) (name : List ℕ) (region : ℕ) (line : List Event) (i : ℕ) → tally is_receive (Receive from name region ∷ line) (suc i) ≡ suc (tally is_receive line i)
 counted from name region line i = let m : Event = Receive from name region in let e = sum_by-cons (λ (x : Event). cond {A = ℕ} (is_receive x) 1 0) m (take i line) in omega (arith, e)
 
--- a receive is one more than there are before it
+-- the number of a receive is one more than the number of those before it
 turn : (line : List Event) (i : ℕ) → IsReceive line (suc i) → tally is_receive line (suc i) ≡ suc (tally is_receive line i)
 turn [] i (m, here, is) = absurd (none-some m here)
 turn (Send to name ∷ line) zero (m, here, is) = absurd (false≢true (ap is_receive (some_is (Send to name) m here) ∙ is))
@@ -101,14 +101,14 @@ table_is run tables are numbered p table is =
     let events : chart_lines run.lines (suc p) ≡ l.events = ap (λ (x : LineView). x.events) (get_or_from_slice_get run.lines p l (record { instance = suc p; events = [] }) found.1) in
     sym found.2 ∙ ap (λ k. named (kinds run.commands run.notes k) l.events) (numbered p l found.1) ∙ ap (named (kinds run.commands run.notes (suc p))) (sym events)
 
--- what the table says of an event
+-- the table's entry for an event
 pub says : (run : RunView) (p i : ℕ) (table : List Bool) → table ≡ named (kinds run.commands run.notes p) (chart_lines run.lines p) → slice_get table i ≡ Some true → NamesSender run (at p (suc i))
 says run p i table its is = names run p i (chart_lines run.lines p) refl (ap (λ t. slice_get t i) (sym its) ∙ is)
 
 pub is_named : (run : RunView) (p i : ℕ) (table : List Bool) → table ≡ named (kinds run.commands run.notes p) (chart_lines run.lines p) → NamesSender run (at p (suc i)) → slice_get table i ≡ Some true
 is_named run p i table its n = ap (λ t. slice_get t i) its ∙ names_back run p i (chart_lines run.lines p) refl n
 
--- what the table says of an event of an instance's line, by its number
+-- the table's entry for an event of an instance's line, by the event's number
 pub cell : (run : RunView) (tables : List (List Bool)) → tables ≡ named_lines run.commands run.notes run.lines → IsNumbered run.lines → (p : ℕ) (table : List Bool) → slice_get tables p ≡ Some table
     → (instance index : ℕ) → instance ≡ suc p → 1 ≤ index → (slice_get table (index - 1) ≡ Some true) ↔ NamesSender run (at instance index)
 cell run tables are numbered p table is instance index place first =

@@ -1,4 +1,4 @@
--- Which races of another tool's text are shown.
+-- The races of another tool's text that are written.
 use Rattle.std.specs.Prelude.{◌≡◌, List, ℕ, Some, Option, Result, Ok, Err}
 use Rattle.diagram_import.specs.Importing.{OptionsView, imported}
 use Rattle.diagram_import.specs.Refusals.{Fails}
@@ -18,8 +18,8 @@ use Rattle.cmd_races.specs.declared.showing.Wanted.{Wanted}
 use Rattle.diagram_tool.specs.declared.Tool.{Tool}
 
 module _ {S : Type 0} (sink : S → Sink) where
-  -- the races were shown of the chart that is read of the bytes, and what is told is told of it; or they are refused;
-  -- or nothing was written, where the bytes are refused or memory ran out
+  -- the races of the bytes' chart were written, and the warnings are about it; or the races are refused. Nothing was
+  -- written if the bytes are refused or memory ran out
   abbrev pub ShowsDrawing : S → S → Option Tool → List ℕ → OptionsView → Wanted → Result Shown RaceShowError → Type 0
   ShowsDrawing old new tool bytes options wanted (Ok shown) = (built : JoinedChart) × IsChartOf built tool bytes options
       × AreDiagnosticsOf shown.diagnostics built × Shows sink old new (Ok shown.status) wanted (built.built.names, built.built.chart)
@@ -27,18 +27,18 @@ module _ {S : Type 0} (sink : S → Sink) where
   ShowsDrawing old new tool bytes options wanted (Err (Races error)) = (built : JoinedChart)
       × IsChartOf built tool bytes options × Shows sink old new (Err error) wanted (built.built.names, built.built.chart)
 
--- what is told of races that were shown
+-- the answer after races were written
 abbrev pub shown_exit : Shown → Exit
 shown_exit shown = record {
   status = code_of shown.status;
   diagnostics = Some (diagnostics_text shown.diagnostics.left_out.items shown.diagnostics.overtaking.items shown.diagnostics.renamed.items);
 }
 
--- what is said of a refusal
+-- the answer to a refusal
 abbrev pub race_show_error_exit : RaceShowError → Exit
 race_show_error_exit (Drawing error) = refusal (drawing_refusal_text error)
 race_show_error_exit (Races error) = columns.error_exit error
 
--- what is said of races that were shown or refused
+-- the answer after races were written or refused
 abbrev pub races_exit : Result Shown RaceShowError → Exit
 races_exit = exit_of shown_exit race_show_error_exit

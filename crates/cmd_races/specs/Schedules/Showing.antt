@@ -1,4 +1,4 @@
--- Which races of a schedule are shown where luck alone is asked for.
+-- The races of a schedule that are written if only those of luck are wanted.
 use Rattle.std.specs.Prelude.{◌≡◌, ℕ, Bool, true, false, List, Result, Ok, Err}
 use Rattle.chart.specs.declared.instance.EventNo.{EventNo}
 use Rattle.closure.specs.Faults.{place_of}
@@ -24,7 +24,7 @@ use Rattle.schedule.specs.Plans.{Plan}
 use Rattle.cmd_races.specs.Schedules.Makers.{RunView}
 use Rattle.cmd_races.specs.Schedules.Verdicts.{IsVerdict}
 
--- what a plan came to
+-- a replayed plan
 abbrev pub run_of : Plan → OutcomeView → RunView
 run_of plan o = record { commands = plan.commands; notes = o.notes; lines = o.chart }
 
@@ -32,31 +32,31 @@ run_of plan o = record { commands = plan.commands; notes = o.notes; lines = o.ch
 abbrev pub verdict_in : RunView → EventNo → EventNo → Verdict → Type 0
 verdict_in run r e verdict = IsVerdict run (place_of r) (place_of e) verdict
 
--- of the races those that were luck
+-- only the races that were luck
 abbrev pub luck_alone : Wanted → LuckWanted
 luck_alone wanted = record { races = wanted; luck = true }
 
 module _ {S : Type 0} (sink : S → Sink) where
-  -- the races of a run that were luck were shown, and the status tells whether one is, since none is begun in the middle; or
-  -- they were refused
+  -- the races of a run that were luck were written. The status depends on whether there is one, since none is begun
+  -- in the middle. Or they were refused
   abbrev pub ShowsLucky : RunView → S → S → Result Status FormatError → Wanted → Named → Type 0
   ShowsLucky run old new (Ok status) wanted named = (summary : RaceSummary) × ShowsJudged sink (verdict_in run) old new (Ok summary) (luck_alone wanted) named
       × (status ≡ status_in summary.shown)
   ShowsLucky run old new (Err error) wanted named = ShowsJudged sink (verdict_in run) old new (Err error) (luck_alone wanted) named
 
-  -- the races of the run that were luck were shown, or refused; of a chart nothing is known of luck
+  -- the races of the run that were luck were written, or refused; for a chart luck isn't known
   abbrev pub ShowsRun : S → S → Result Status FormatError → Wanted → Source → Type 0
   ShowsRun old new done wanted (Run schedule outcome) =
       ShowsLucky (run_of schedule.now outcome) old new done wanted (outcome.names, outcome.chart)
   ShowsRun old new done wanted (Written named) = (done ≡ Err (Program errors.Usage)) × (new ≡ old)
 
-  -- by whether the file is a schedule: of any other luck is refused, whatever it says
+  -- the answer depends on whether the file is a schedule: for any other file luck is refused, whatever it contains
   abbrev pub ShowsBy : Bool → S → S → Wanted → List ℕ → Result ShownFile FormatError → Type 0
   ShowsBy true old new wanted bytes done =
       OfFile Program (IsShownOf (λ source done. ShowsRun old new done wanted source)) old new bytes done
   ShowsBy false old new wanted bytes done = (done ≡ Err (Program errors.Usage)) × (new ≡ old)
 
-  -- the races of the schedule that were luck were shown; or nothing was written, where the bytes are no schedule's or have a
-  -- fault
+  -- the races of the schedule that were luck were written; or nothing was written, if the bytes are no schedule or
+  -- have a fault
   abbrev pub ShowsLuck : S → S → Wanted → List ℕ → Result ShownFile FormatError → Type 0
   ShowsLuck old new wanted bytes done = ShowsBy (is_schedule bytes) old new wanted bytes done

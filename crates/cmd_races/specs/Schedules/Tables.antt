@@ -1,4 +1,5 @@
--- For each event of a line whether it is the receive of a command that named its sender (a table of this project's own).
+-- A table of this project's own: for each event of a line, whether it is the receive of a command that named its
+-- sender.
 use Rattle.std.specs.Prelude.{ℕ, Bool, false, List, [], ◌∷◌, map}
 use Rattle.chart.specs.declared.event.Event.{Event}
 use Rattle.chart.specs.declared.event.Event.TheVariants.{Send, Receive}
@@ -7,7 +8,7 @@ use Rattle.schedule.specs.declared.command.Command.{Command}
 use Rattle.schedule.specs.declared.command.Note.{Note}
 use Rattle.cmd_races.specs.Schedules.Makers.{names_sender, received}
 
--- of each command that received whether it named its sender
+-- for each command that received a message, whether it named its sender
 abbrev pub kinds : List Command → List Note → ℕ → List Bool
 kinds commands notes p = map (λ command. names_sender command.action) (received commands notes p)
 
@@ -20,12 +21,12 @@ abbrev pub later_kinds : List Bool → List Bool
 later_kinds [] = []
 later_kinds (kind ∷ rest) = rest
 
--- of each event of a line, where the kinds are of its receives
+-- for each event of a line; the kinds are those of its receives
 abbrev pub named : List Bool → List Event → List Bool
 named some [] = []
 named some (Send to name ∷ line) = false ∷ named some line
 named some (Receive from name region ∷ line) = first_kind some ∷ named (later_kinds some) line
 
--- of each event of each line
+-- for each event of each line
 abbrev pub named_lines : List Command → List Note → List LineView → List (List Bool)
 named_lines commands notes lines = map (λ line. named (kinds commands notes line.instance) line.events) lines

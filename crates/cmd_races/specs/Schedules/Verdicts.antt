@@ -1,6 +1,7 @@
--- What is said of the races of a schedule (this project's profile of schedules). Luck is said where the earlier receive
--- takes from anyone and no other message of the later one's sender comes between. Whether some run of the schedule's
--- commands has the other order isn't asked. A race of which luck isn't said has the first reason that applies.
+-- The verdicts on the races of a schedule (this project's profile of schedules). A race is luck if its earlier
+-- receive is of a command `any`, and no other message of the later one's sender comes between. The definition doesn't
+-- ask whether some run of the schedule's commands has the other order. Any other race has the first reason that
+-- applies.
 use Rattle.std.specs.Prelude.{ℕ, ◌<◌}
 use Rattle.chart.specs.Charts.{Chart, Place, at, chart_lines, IsSendTo, IsReceiveFrom}
 use Rattle.race_verdicts.specs.declared.verdict.Verdict.{Verdict}
@@ -16,12 +17,12 @@ pub record IsBehind (c : Chart) (r e : Place) : Type 0 where
   pub behind_earlier : e.index < index
   pub before_receive : index < r.index
 
--- the receive e is of a command that takes from anyone
+-- the receive e is of a command that receives from any instance
 abbrev pub TakesAny : RunView → Place → Type 0
 TakesAny run e = IsReceive (chart_lines run.lines e.instance) e.index × (NamesSender run e → ⊥)
 
--- what is said of the receive r and an earlier event e of its line. Nothing of a schedule is begun in the middle, left out
--- or passed over.
+-- the verdict on the receive r and an earlier event e of its line. In a schedule nothing is begun in the middle,
+-- skipped or passed over
 abbrev pub IsVerdict : RunView → Place → Place → Verdict → Type 0
 IsVerdict run r e EarlierIsSend = (q : ℕ) × IsSendTo (chart_lines run.lines) q e
 IsVerdict run r e BegunInTheMiddle = ⊥

@@ -12,24 +12,23 @@ use diagram_tool::Tool;
 use std::alloc::Global;
 use texts::Out;
 
-/// What is told of races that were shown: whether there is one, and what an import tells of the chart.
+/// The answer after races were written: whether one is shown, and the warnings of the import.
 #[derive(Debug, Drop)]
 pub struct Shown {
     status: Status,
     diagnostics: Diagnostics,
 }
 
-/// Why no races were shown.
+/// The reason why no races were written.
 #[derive(Debug, Drop)]
 pub enum RaceShowError {
-    /// The text isn't read or has no chart, or memory ran out.
+    /// The text is refused, or memory ran out.
     Drawing(ImportError),
-    /// An instance is named that the chart doesn't have, memory ran out, or a write failed.
+    /// A name isn't one of the chart's, memory ran out, or a write failed.
     Races(FormatError),
 }
 
-/// Reads the text and writes the races that are wanted of its chart. All memory is taken before the first byte is
-/// written.
+/// Reads the text and writes the wanted races of its chart. It allocates all memory before it writes the first byte.
 fn show<W: Out>(
     alloc: Global,
     tool: Option<Tool>,
@@ -53,7 +52,7 @@ fn show<W: Out>(
     }
 }
 
-/// The status tells whether a race is shown.
+/// The status depends on whether a race is shown.
 impl Answer for Shown {
     ghost exit = { shown_exit };
 
@@ -84,11 +83,11 @@ impl Answer for RaceShowError {
     }
 }
 
-/// Writes the races of the chart that a tool's text says, of the tool that is named or that the text tells: by the
-/// names of their messages, a line for each range of earlier events, or a JSON object for each receive. On `err` is
-/// told what an import tells of the chart. Writes the line of a refusal to `err`. Answers the exit status: 1 where a
-/// race is shown, 0 where none is, 2 after a refusal. What an import refuses is refused first, then F34. Nothing is
-/// written to `out` before a refusal, but where writing to it failed (F24). A failed write to `err` changes nothing.
+/// Writes the races of the chart of another tool's text to `out`, by the names of their messages. The tool is the
+/// named one, or the one that the text shows. There is a line for each range of earlier events, or a JSON object for
+/// each receive. The warnings of an import and the line of a refusal go to `err`. The exit status is 1 if a race is
+/// shown, 0 if none is, and 2 after a refusal. The refusals of an import come first, then F34. Nothing is written to
+/// `out` before a refusal, unless writing to it failed (F24). A failed write to `err` changes nothing.
 pub fn races_of<W: Out, V: Out>(
     alloc: Global,
     tool: Option<Tool>,

@@ -4,79 +4,48 @@ ghost use Rattle.chart.specs.Charts.{IsNumbered};
 ghost use Rattle.cmd_import_log.specs.Recording.{lent_of};
 ghost use Rattle.race_verdicts.specs.Luck.Recorded.{IsRecording};
 ghost use Rattle.cmd_races.specs.Judging.{ShowsJudged};
-ghost use Rattle.cmd_races.specs.Logs.Showing.{verdict_in, status_of_summary, shown_of_summary};
+ghost use Rattle.races_text.specs.Judged.LogVerdicts.{verdict_in};
+ghost use Rattle.cmd_races.specs.Logs.Showing.{status_of_summary, shown_of_summary};
 ghost use Rattle.cmd_races.specs.Logs.Showing.{ShowsKnown, ShowsOther, ShowsRecording};
 
 use crate::{LuckWanted, show_judged, show_unknown};
-use chart::{EventNo, EventRange};
 use closure::Closure;
 use cmd_base::columns::{FormatError, columns_in};
 use cmd_base::{ProgramError, Status, closure_of};
 use cmd_import_log::{LogDrawing, LogRecording};
 use race_verdicts::luck::Judge;
-use races_text::judged::{Part, RaceSummary, Verdicts};
+use races_text::judged::{LogVerdicts, RaceSummary};
 use std::alloc::Global;
 use texts::Out;
 
-/// What came of the races of a log that were shown.
+/// The answer after the races of a log were written.
 #[derive(Clone, Copy, Debug, PartialEq, Eq)]
 pub struct ShownRaces {
-    /// Whether one is shown, where that is known.
+    /// Whether one is shown, if that is known.
     pub status: Status,
-    /// Whether there are some that are asked for, and none is claimed: each is begun in the middle.
+    /// Whether there are selected races and none is claimed: each is begun in the middle.
     pub is_unclaimed: bool,
 }
 
-/// The verdicts on the races of a recording.
-#[derive(Drop)]
-struct Judged<'a> {
-    judge: Judge<'a>,
-}
-
-impl Verdicts for Judged<'_> {
-    ghost use Rattle.std.specs.Prelude.{ℕ};
-    ghost use Rattle.race_verdicts.specs.Luck.Verdicts.{IsVerdict};
-    ghost use Rattle.chart.specs.Charts.{chart_lines, IsReceiveFrom};
-    ghost use Rattle.chart.specs.Places.{IsEvent};
-    ghost use Rattle.closure.specs.Faults.{place_of};
-
-    ghost is_race = { λ j r e. ((q : ℕ) × IsReceiveFrom (chart_lines j.judge.lines) q (place_of r))
-        × IsEvent (chart_lines j.judge.lines) (place_of e) };
-
-    ghost is_verdict = { λ j r e verdict. IsVerdict j.judge.lines j.judge.recording (place_of r) (place_of e)
-        verdict };
-
-    fn verdict_of_first(&self, receive: &EventNo, earlier: &EventRange) -> Part {
-        let run = self.judge.verdict_of_first(*receive, *earlier);
-        Part {
-            range: EventRange {
-                first: earlier.first,
-                count: run.count,
-            },
-            verdict: run.verdict,
-        }
-    }
-}
-
-/// The judge of a recording, with the closure of its chart.
-fn judge_of<'a>(
+/// The verdicts on the races of a recording, with the closure of its chart.
+fn verdicts_of<'a>(
     alloc: Global,
     recording: &'a LogRecording<'_>,
     closure: &'a Closure<'a>,
-) -> Result<Judged<'a>, FormatError>
+) -> Result<LogVerdicts<'a>, FormatError>
     requires { IsRecording closure.now (lent_of recording.now) }
-    ensures judge { IfOk result (λ judged. judged.judge
+    ensures judge { IfOk result (λ verdicts. verdicts.judge
         ≡ record { lines = closure.now; recording = lent_of recording.now }) }
     ensures memory { IfErr result (λ error. error ≡ FormatError.Program ProgramError.Memory) }
 {
     match Judge::of(alloc, recording.recording(), closure) {
-        Ok(judge) => Ok(Judged { judge }),
+        Ok(judge) => Ok(LogVerdicts { judge }),
         Err(_) => Err(FormatError::Program(ProgramError::Memory)),
     }
 }
 
-/// Writes the races that are wanted of a recording of which luck is known, with the words of their verdicts. Answers
-/// their summary.
+/// Writes the wanted races of a recording for which luck is known, with the words of their verdicts. Returns their
+/// summary.
 fn show_known<W: Out>(
     alloc: Global,
     recording: &LogRecording<'_>,
@@ -92,14 +61,14 @@ fn show_known<W: Out>(
     let names = &recording.drawing.diagnostics.names;
     let instances = columns_in(alloc, names, wanted.races.only)?;
     let closure = closure_of(alloc, names, &recording.drawing.chart)?;
-    let judge = judge_of(alloc, recording, &closure)?;
+    let verdicts = verdicts_of(alloc, recording, &closure)?;
     show_judged(
         alloc,
         names,
         &closure,
         instances.as_slice(),
         wanted,
-        &judge,
+        &verdicts,
         out,
     )
 }
@@ -118,7 +87,7 @@ fn status_of(summary: &RaceSummary) -> Status
     }
 }
 
-/// What came of races with this summary.
+/// The answer for races with this summary.
 fn shown_by(summary: &RaceSummary) -> ShownRaces
     ensures { result ≡ shown_of_summary summary.now }
 {
@@ -128,7 +97,7 @@ fn shown_by(summary: &RaceSummary) -> ShownRaces
     }
 }
 
-/// Writes the races of a recording of which luck is known.
+/// Writes the races of a recording for which luck is known.
 fn show_judged_races<W: Out>(
     alloc: Global,
     recording: &LogRecording<'_>,
@@ -147,7 +116,7 @@ fn show_judged_races<W: Out>(
     }
 }
 
-/// Writes the races of a recording of which luck isn't known, with no words.
+/// Writes the races of a recording for which luck isn't known, without words.
 fn show_other_races<W: Out>(
     alloc: Global,
     drawing: &LogDrawing,
@@ -173,7 +142,7 @@ fn show_other_races<W: Out>(
     }
 }
 
-/// Writes the races that are wanted of a recording: where luck is known of it, with the words of their verdicts.
+/// Writes the wanted races of a recording. If luck is known, they have the words of their verdicts.
 pub(crate) fn show_recording<W: Out>(
     alloc: Global,
     recording: &LogRecording<'_>,

@@ -19,27 +19,27 @@ use cmd_import_log::{
 use std::alloc::Global;
 use texts::{Out, TextBuffer, WriteError};
 
-/// What is told of races that were shown: whether there is one, whether none is claimed, and what an import tells of
-/// the chart.
+/// The answer after races were written: whether one is shown, whether none is claimed, and the warnings of the
+/// import.
 #[derive(Debug, Drop)]
 pub struct Shown {
     pub races: ShownRaces,
     pub diagnostics: Diagnostics,
 }
 
-/// Why no races were shown.
-#[derive(Clone, Copy, Debug)]
+/// The reason why no races were written.
+#[derive(Debug, Drop)]
 pub enum RaceShowError {
-    /// The log isn't read or has no chart, or memory ran out.
+    /// The log is refused, or memory ran out.
     Log(LogImportError),
-    /// F52: the log has one end of each message, so no race is claimed.
-    OneEnd,
-    /// An instance is named that the chart doesn't have, luck isn't known, memory ran out, or a write failed.
+    /// F52: the log has one end of each message, so no race is claimed. The warnings of the import name its hosts.
+    OneEnd(Diagnostics),
+    /// A name isn't one of the chart's, luck isn't known, memory ran out, or a write failed.
     Races(FormatError),
 }
 
-/// Reads the log and writes the races that are wanted of its chart, if some receive takes a send of the log. All memory
-/// is taken before the first byte is written.
+/// Reads the log and writes the wanted races of its chart, if some receive takes a send of the log. It allocates all
+/// memory before it writes the first byte.
 fn show<W: Out>(
     alloc: Global,
     options: Options<'_>,
@@ -55,7 +55,7 @@ fn show<W: Out>(
         Err(error) => return Err(RaceShowError::Log(error)),
     };
     if recording.drawing.diagnostics.is_one_ended {
-        return Err(RaceShowError::OneEnd);
+        return Err(RaceShowError::OneEnd(recording.drawing.diagnostics));
     }
     match show_recording(alloc, &recording, wanted, out) {
         Ok(races) => Ok(Shown {
@@ -66,14 +66,14 @@ fn show<W: Out>(
     }
 }
 
-/// Prints the line of a refusal, and answers the exit status.
+/// Prints the line of a refusal, and returns the exit status.
 fn refused<V: Out>(files: &[&[u8]], error: &RaceShowError, err: &mut V) -> u8
     ensures status { result ≡ 2 }
     ensures line { Tried V.sink err.old err.new (race_show_error_text (map (λ file. file.now) files.now) error.now) }
 {
     match error {
         RaceShowError::Log(error) => refused_log(files, error, err),
-        RaceShowError::OneEnd => refused_one_end(err),
+        RaceShowError::OneEnd(diagnostics) => refused_one_end(diagnostics, err),
         RaceShowError::Races(error) => {
             error.print_diagnostics(err);
             2
@@ -98,7 +98,7 @@ fn write_unclaimed_note<V: Out>(err: &mut V) -> Result<(), WriteError>
     text.finish()
 }
 
-/// Writes that no race is claimed, if so.
+/// Writes that no race is claimed, if none is.
 fn write_unclaimed<V: Out>(is_unclaimed: bool, err: &mut V) -> Result<(), WriteError>
     ensures { Wrote V.sink err.old err.new result (unclaimed_text is_unclaimed) }
 {
@@ -109,7 +109,7 @@ fn write_unclaimed<V: Out>(is_unclaimed: bool, err: &mut V) -> Result<(), WriteE
     }
 }
 
-/// Writes what is told of races that were shown.
+/// Writes the warnings of the import, and whether no race is claimed.
 fn write_shown<V: Out>(files: &[&[u8]], shown: &Shown, err: &mut V) -> Result<(), WriteError>
     requires { All (λ e. e.instance ≤ length shown.now.diagnostics.names) shown.now.diagnostics.invented.items }
     ensures { Wrote V.sink err.old err.new result (shown_text (map (λ file. file.now) files.now) shown.now) }
@@ -118,7 +118,7 @@ fn write_shown<V: Out>(files: &[&[u8]], shown: &Shown, err: &mut V) -> Result<()
     write_unclaimed(shown.races.is_unclaimed, err)
 }
 
-/// Tells what the chart isn't, and whether no race is claimed, and answers the exit status.
+/// Prints the warnings of the import and whether no race is claimed, and returns the exit status.
 fn print_diagnostics<V: Out>(files: &[&[u8]], shown: &Shown, err: &mut V) -> u8
     requires { All (λ e. e.instance ≤ length shown.now.diagnostics.names) shown.now.diagnostics.invented.items }
     ensures status { result ≡ code_of shown.now.races.status }
@@ -128,15 +128,18 @@ fn print_diagnostics<V: Out>(files: &[&[u8]], shown: &Shown, err: &mut V) -> u8
     shown.races.status.status()
 }
 
-/// Writes the races of the chart that the texts of a log say, of which these are the names where there are several, and
-/// none where there is one: by the names of their messages, a line for each range of earlier events, or a JSON object
-/// for each receive. Where luck is known of the log, each range has one verdict and its word; or those of luck alone
-/// are written. On `err` is told what an import tells of the chart, and then whether each race that is asked for is
-/// begun in the middle, so that none is claimed. Writes the line of a refusal to `err`. Answers the exit status: 1
-/// where a race is shown; where none is, 3 where there are some that are asked for and none is claimed, and else 0; 2
-/// after a refusal. What an import refuses is refused first, then a log that has one end of each message (F52), then
-/// F34, then luck where it isn't known (G1). Nothing is written to `out` before a refusal, but where writing to it
-/// failed (F24). A failed write to `err` changes nothing.
+/// Writes the races of a log's chart to `out`, by the names of their messages. The log has these texts. `files` has
+/// their names if there are several, and is empty for one. There is a line for each range of earlier events, or a
+/// JSON object for each receive. If luck is known, each range has one verdict and its word, or only the ranges of
+/// luck are written.
+///
+/// The warnings of an import go to `err`, then a line if each selected race is begun in the middle, so that none is
+/// claimed. So does the line of a refusal. The exit status is 1 if a race is shown. If none is, it is 3 if there are
+/// selected races and none is claimed, and otherwise 0. It is 2 after a refusal.
+///
+/// The refusals of an import come first. A log with one end of each message follows (F52), then F34, then luck if it
+/// isn't known (G1). Nothing is written to `out` before a refusal, unless writing to it failed (F24). A failed write
+/// to `err` changes nothing.
 pub fn races_of_log<W: Out, V: Out>(
     alloc: Global,
     options: Options<'_>,

@@ -8,7 +8,7 @@ use schedule::turns::is_noted;
 use schedule::{Action, Command, Note};
 use std::alloc::{AllocError, Global};
 
-/// Whether the action takes from one instance alone.
+/// Whether the action receives from one named instance.
 fn names_sender(action: &Action) -> bool
     ensures { result ≡ names_sender action.now }
 {
@@ -22,7 +22,7 @@ fn receives(action: &Action) -> bool
     matches!(action, Action::Receive { .. } | Action::Any)
 }
 
-/// Whether the command is the instance's, and received a message.
+/// Whether the command is one of the instance, and received a message.
 fn has_received(notes: &[Note], instance: InstanceNo, command: &Command) -> bool
     requires { AllPairs (λ a b. a.line ≤ b.line) notes.now }
     ensures { result ≡ has_received notes.now instance command.now }
@@ -30,7 +30,7 @@ fn has_received(notes: &[Note], instance: InstanceNo, command: &Command) -> bool
     command.actor == instance && receives(&command.action) && !is_noted(notes, command.line)
 }
 
-/// Of each of an instance's commands that received whether it named its sender.
+/// For each of an instance's commands that received a message, whether it named its sender.
 fn kinds_of(
     alloc: Global,
     commands: &[Command],
@@ -49,7 +49,7 @@ fn kinds_of(
     Ok(some)
 }
 
-/// Of each event of a line whether its command named its sender, where these kinds are of its receives.
+/// For each event of a line, whether its command named its sender. The kinds are those of the line's receives.
 fn named_of(alloc: Global, some: &[bool], events: &[Event]) -> Result<Vec<bool>, AllocError>
     ensures { IfOk result (λ table. table.items ≡ named some.now events.now) }
 {
@@ -67,7 +67,7 @@ fn named_of(alloc: Global, some: &[bool], events: &[Event]) -> Result<Vec<bool>,
     Ok(table)
 }
 
-/// Of each event of a line whether its command named its sender.
+/// For each event of a line, whether its command named its sender.
 fn line_named(
     alloc: Global,
     commands: &[Command],
@@ -81,7 +81,7 @@ fn line_named(
     named_of(alloc, &some, line.events())
 }
 
-/// Of each event of each line whether its command named its sender.
+/// For each event of each line, whether its command named its sender.
 pub(crate) fn lines_named(
     alloc: Global,
     commands: &[Command],

@@ -41,7 +41,7 @@ fn makers_of<'a>(
     }
 }
 
-/// Writes the races of a run that are wanted, of those that were luck, and answers their summary.
+/// Writes the wanted races of a run that were luck, and returns their summary.
 fn show_lucky<W: Out>(
     alloc: Global,
     schedule: &Schedule,
@@ -72,7 +72,7 @@ fn show_lucky<W: Out>(
     )
 }
 
-/// Writes them, and answers whether one is shown.
+/// Writes these races, and returns whether one is shown.
 fn show_run<W: Out>(
     alloc: Global,
     schedule: &Schedule,
@@ -90,7 +90,7 @@ fn show_run<W: Out>(
     }
 }
 
-/// Writes them of a schedule. Of a chart nothing is known of luck.
+/// Writes these races of a schedule. For a chart luck isn't known.
 fn show_source<W: Out>(
     alloc: Global,
     source: &Source<'_>,
@@ -106,7 +106,7 @@ fn show_source<W: Out>(
     }
 }
 
-/// Writes them of what a file says.
+/// Writes these races of a file.
 fn show_text<W: Out>(
     alloc: Global,
     bytes: &[u8],
@@ -125,7 +125,7 @@ fn show_text<W: Out>(
     })
 }
 
-/// Writes them of a schedule, and refuses what is none.
+/// Writes these races of a schedule, and refuses any other file.
 fn show_luck<W: Out>(
     alloc: Global,
     bytes: &[u8],
@@ -141,12 +141,11 @@ fn show_luck<W: Out>(
     }
 }
 
-/// Writes the races that are wanted of the schedule that the bytes of a file say, of those that were luck: by the names
-/// of their messages, a line for each range of earlier events, or a JSON object for each receive, each with its word.
-/// Writes the line of a refusal to `err`, or how many commands did nothing. Answers the exit status: 1 where a race is
-/// shown, 0 where none is, 2 after a refusal. A file that is no schedule is refused first, whatever it says (G1), then
-/// the text's faults, then F34. Nothing is written to `out` before a refusal, but where writing to it failed (F24). A
-/// failed write to `err` changes nothing.
+/// Writes the wanted races of a schedule that were luck to `out`, by the names of their messages. There is a line for
+/// each range of earlier events, or a JSON object for each receive, each with its word. The line of a refusal goes to
+/// `err`, or the number of commands that did nothing. The exit status is 1 if a race is shown, 0 if none is, and 2
+/// after a refusal. A file that is no schedule is refused first (G1), then the faults of the text, then F34. Nothing
+/// is written to `out` before a refusal, unless writing to it failed (F24). A failed write to `err` changes nothing.
 pub fn lucky_races<W: Out, V: Out>(
     alloc: Global,
     bytes: &[u8],

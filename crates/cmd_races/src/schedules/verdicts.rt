@@ -18,14 +18,14 @@ use schedule::{Command, Note};
 use std::alloc::{AllocError, Global};
 use std::marker::Model;
 
-/// Which commands made the receives of a schedule. A contract sees its commands, their notes and the lines of its
+/// The commands that made the receives of a schedule. A contract sees the commands, their notes and the lines of the
 /// chart.
 #[derive(Drop)]
 pub struct Makers<'a> {
     commands: &'a [Command],
     notes: &'a [Note],
     lines: &'a [Line],
-    /// Of each event of each line whether its command named its sender.
+    /// For each event of each line, whether its command named its sender.
     named: Vec<Vec<bool>>,
 }
 
@@ -49,7 +49,7 @@ fn is_receive(event: &Event) -> bool
     matches!(event, Event::Receive { .. })
 }
 
-/// Whether the event of this number is a receive from the sender.
+/// Whether the event with this number is a receive from the sender.
 fn is_from(events: &[Event], sender: InstanceNo, index: usize) -> bool
     ensures { IsTrue result ↔ ((m : Event) × (ith events.now index ≡ Some m) × (is_receive_from sender m ≡ true)) }
 {
@@ -59,7 +59,7 @@ fn is_from(events: &[Event], sender: InstanceNo, index: usize) -> bool
     }
 }
 
-/// Whether a receive from the sender is between these two events. It goes back from the later one.
+/// Whether a receive from the sender is between these two events. The search goes back from the later one.
 fn is_between(events: &[Event], sender: InstanceNo, earlier: usize, later: usize) -> bool
     ensures { IsTrue result ↔ ((i : ℕ) × (earlier < i) × (i < later)
         × ((m : Event) × (ith events.now i ≡ Some m) × (is_receive_from sender m ≡ true))) }
@@ -78,8 +78,7 @@ fn is_between(events: &[Event], sender: InstanceNo, earlier: usize, later: usize
 }
 
 impl<'a> Makers<'a> {
-    /// The commands that made the receives of a chart with these lines, where the notes are in the order of their
-    /// lines.
+    /// The commands that made the receives of a chart with these lines. The notes are in the order of their lines.
     pub fn of(
         alloc: Global,
         commands: &'a [Command],
@@ -113,7 +112,7 @@ impl<'a> Makers<'a> {
         }
     }
 
-    /// Whether another receive from the same sender is between the two.
+    /// Whether another receive from the same sender is between these two.
     fn is_behind(&self, receive: &EventNo, earlier: &EventNo) -> bool
         ensures { IsTrue result ↔ IsBehind (chart_lines self.now.lines) (place_of receive.now) (place_of earlier.now) }
     {

@@ -15,6 +15,8 @@ use Rattle.chart.specs.declared.instance.EventNo.{EventNo}
 use Rattle.chart.proofs.Tally.{ith_within}
 use Rattle.closure.specs.Faults.{place_of}
 use Rattle.races_text.specs.Judged.Listing.{IsRaceIn}
+use Rattle.races_text.specs.Judged.LogVerdicts.{IsReceiveAndEvent}
+use Rattle.races_text.proofs.JudgedLemmas.FoundParts.{are_races}
 
 all_unmap : {X Y : Type 0} (f : X → Y) (P : Y → Type 0) (xs : List X) → All P (map f xs) → All (λ x. P (f x)) xs
 all_unmap f P [] all = All-nil (λ x. P (f x))
@@ -75,3 +77,9 @@ module _ (lines : List LineView) (numbered : IsNumbered lines) where
       let here = (is.exact.exact e.index).0 (contains_map (λ (x : EventNo). x.index) report.earlier e race.among) in
       let within = ith_within (chart_lines lines report.receive.instance) e.index here.1.0 here.1.1 in
       (subst IsReceiveHere race.receive receive, subst (λ (p : ℕ). IsEvent (chart_lines lines) (at p e.index)) (sym own) within)
+
+  -- each race of the chart's reports is of its receive and an event
+  pub all_races : (reports : List ReportView) → AreReports lines reports → All (λ (report : ReportView). All (IsReceiveAndEvent lines report.receive) report.earlier) reports
+  all_races reports are =
+      All-weaker (Contains reports) (λ (report : ReportView). All (IsReceiveAndEvent lines report.receive) report.earlier)
+      (λ report its. are_races (IsReceiveAndEvent lines) lines race_is reports are report its) reports (All-contains_itself reports)

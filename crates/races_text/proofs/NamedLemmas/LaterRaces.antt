@@ -50,6 +50,14 @@ all_later (x ∷ xs) begun =
     ap (λ b. cond b (x ∷ later_than 0 xs) (later_than 0 xs)) (lt-ltb 0 x.index first)
     ∙ ap (λ l. x ∷ l) (all_later xs (λ j here. begun j (suc here.0, omega (arith, here.1), here.2)))
 
+-- all events are kept, if none is hidden
+pub kept_whole : (events : List Event) (xs : List EventNo) → All (λ (e : EventNo). 0 < e.index) xs → kept_events events false (later_than 0 xs) ≡ xs
+kept_whole events [] begun = refl
+kept_whole events (x ∷ xs) begun =
+    let first : 0 < x.index = All-head (λ (e : EventNo). 0 < e.index) x xs begun in
+    ap (λ b. kept_events events false (cond b (x ∷ later_than 0 xs) (later_than 0 xs))) (lt-ltb 0 x.index first)
+    ∙ ap (λ l. x ∷ l) (kept_whole events xs (All-tail (λ (e : EventNo). 0 < e.index) x xs begun))
+
 -- The reports of a chart.
 
 module _ (c : Chart) where

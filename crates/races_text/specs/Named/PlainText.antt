@@ -35,10 +35,14 @@ range_text names events r =
     if r.count == 1 then text_at names r.first.index (ith events r.first.index) else several_text events r
 
 -- INSTANCE: RECEIVE may come before RANGE
-unfoldable pub line_text : List (List ℕ) → List Event → EventNo → EventRange → List ℕ
-line_text names events receive r =
+unfoldable pub race_text : List (List ℕ) → List Event → EventNo → EventRange → List ℕ
+race_text names events receive r =
     name_at names receive.instance ++ (word_text Colon ++ (text_at names receive.index (ith events receive.index)
-    ++ (word_text MayCome ++ (range_text names events r ++ word_text End))))
+    ++ (word_text MayCome ++ range_text names events r)))
+
+-- the same, as a line
+unfoldable pub line_text : List (List ℕ) → List Event → EventNo → EventRange → List ℕ
+line_text names events receive r = race_text names events receive r ++ word_text End
 
 -- a line for each of these ranges
 abbrev pub lines_text : List (List ℕ) → List Event → EventNo → List EventRange → List ℕ

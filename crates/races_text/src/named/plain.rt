@@ -3,7 +3,7 @@ ghost use Rattle.std.specs.Prelude.{◌≡◌, IfOk};
 ghost use Rattle.chart.specs.Events.{ith};
 ghost use Rattle.chart.specs.Ranges.{IsRange};
 ghost use Rattle.texts.specs.Writing.{Adds};
-ghost use Rattle.races_text.specs.Named.PlainText.{last_of, numbers_text, between, several_text, range_text, line_text};
+ghost use Rattle.races_text.specs.Named.PlainText.{last_of, numbers_text, between, several_text, range_text, race_text, line_text};
 ghost use Rattle.races_text.specs.Named.PlainText.{lines_text};
 ghost use Rattle.races_text.specs.Named.Listing.{has_ranges};
 
@@ -85,8 +85,28 @@ pub fn add_range<W: Out>(
     }
 }
 
-/// Adds a line for a range of a receive's races, `INSTANCE: RECEIVE may come before RANGE`. `events` are the events of
-/// the receive's line. F24: a put failed.
+/// Adds a range of a receive's races, `INSTANCE: RECEIVE may come before RANGE`. `events` are the events of the
+/// receive's line. F24: a put failed.
+#[tactic(auto, using(texts::proofs::Writes::joining), unfolding(crate::specs::Named::PlainText::race_text))]
+pub fn add_race<W: Out>(
+    text: &mut TextBuffer<'_, W>,
+    names: &Names,
+    events: &[Event],
+    receive: &EventNo,
+    range: &EventRange,
+) -> Result<(), WriteError>
+    requires { IsRange range.now }
+    ensures { Adds W.sink text.old text.new result (race_text names.now events.now receive.now range.now) }
+{
+    let index = receive.index;
+    add_name(text, names, receive.instance)?;
+    add_word(text, Word::Colon)?;
+    add_event_at(text, names, index, &event_at(events, index as usize))?;
+    add_word(text, Word::MayCome)?;
+    add_range(text, names, events, range)
+}
+
+/// Adds the same as a line. F24: a put failed.
 #[tactic(auto, using(texts::proofs::Writes::joining), unfolding(crate::specs::Named::PlainText::line_text))]
 pub fn add_line<W: Out>(
     text: &mut TextBuffer<'_, W>,
@@ -98,12 +118,7 @@ pub fn add_line<W: Out>(
     requires { IsRange range.now }
     ensures { Adds W.sink text.old text.new result (line_text names.now events.now receive.now range.now) }
 {
-    let index = receive.index;
-    add_name(text, names, receive.instance)?;
-    add_word(text, Word::Colon)?;
-    add_event_at(text, names, index, &event_at(events, index as usize))?;
-    add_word(text, Word::MayCome)?;
-    add_range(text, names, events, range)?;
+    add_race(text, names, events, receive, range)?;
     add_word(text, Word::End)
 }
 

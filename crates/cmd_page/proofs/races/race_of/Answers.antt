@@ -1,6 +1,5 @@
-use Rattle.std.proofs.Common.{ℕ, List, length, refl, ap, ◌∙◌, subst}
+use Rattle.std.proofs.Common.{List, length, refl, ap, ◌∙◌, subst}
 use Rattle.chart.specs.declared.event.Event.{Event}
-use Rattle.chart.specs.Charts.{chart_lines}
 use Rattle.cmd_page.specs.Answers.Answering.{plus}
 use Rattle.cmd_page.specs.Races.{title_text, HasAnswers}
 use Rattle.cmd_page.proofs.races.race_of.Goals as goal

@@ -9,7 +9,7 @@ use Rattle.cmd_page.specs.Answers.Leaving.{memory, none}
 use Rattle.cmd_page.specs.Showing.{IsAskedOf, IsDrawn}
 use Rattle.cmd_page.proofs.showing.picture_of.Goals as goal
 
--- what is written with status 0 is a picture
+-- the output with status 0 is a picture
 drawn_so : (bytes file picture : List ℕ) (wanted : Wanted) (out : Stored) (result : Result (Option NotDone) DrawError) → IsAskedOf file wanted → DrawsText memory none out wanted bytes result
     → (draw_exit result).status ≡ 0 → picture ≡ out.bytes → IsDrawn bytes file picture
 drawn_so bytes file picture wanted out (Ok them) asked done zero text = record {

@@ -21,7 +21,7 @@ returns-in-Err g c = (
 pub returns-then-drawing : goal.returns-then-drawing
 returns-then-drawing g c = let d = c.in-Ok.drawing in (
   None,
-  refusal one_end_text,
+  refusal (one_end_text d.diagnostics),
   inr (
     record { bytes = chart_text d.diagnostics.names d.chart; failures = 0 },
     d.diagnostics,

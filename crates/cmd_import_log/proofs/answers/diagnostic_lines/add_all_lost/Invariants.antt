@@ -4,6 +4,6 @@ use Rattle.texts.specs.Writing.{Buffers}
 use Rattle.cmd_import_log.specs.Answers.DiagnosticLines.{lost_text}
 use Rattle.cmd_import_log.proofs.answers.diagnostic_lines.add_all_lost.Given as goal
 
--- what came so far was added
+-- the text of the elements so far was added
 abbrev pub invariant-loop-place : goal.invariant-loop-place
 invariant-loop-place g l = Buffers g.V.Out.sink l.initial.text l.text (flat_map (lost_text (map (λ file. file.now) l.files)) (take l.place-index l.lost))

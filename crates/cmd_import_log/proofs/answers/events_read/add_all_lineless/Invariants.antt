@@ -4,6 +4,6 @@ use Rattle.texts.specs.Writing.{Buffers}
 use Rattle.cmd_import_log.specs.Answers.EventsRead.{lineless_text}
 use Rattle.cmd_import_log.proofs.answers.events_read.add_all_lineless.Given as goal
 
--- what came so far was added
+-- the text of the elements so far was added
 abbrev pub invariant-loop-name : goal.invariant-loop-name
 invariant-loop-name g l = Buffers g.V.Out.sink l.initial.text l.text (flat_map lineless_text (take l.name-index l.names))

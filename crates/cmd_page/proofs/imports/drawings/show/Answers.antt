@@ -1,4 +1,4 @@
-use Rattle.std.proofs.Common.{ℕ, List, Ok, Err, Some, ◌∙◌, subst, subst₂}
+use Rattle.std.proofs.Common.{ℕ, List, Ok, Err, None, Some, ◌∙◌, subst, subst₂}
 use Rattle.chart.specs.Charts.{LineView}
 use Rattle.diagram_import.specs.Importing.{options_view}
 use Rattle.cmd_draw.specs.Imports.Turns.{turns_of_text}
@@ -7,13 +7,16 @@ use Rattle.cmd_page.specs.Showing.{HeadingView, ShowsText}
 use Rattle.cmd_page.specs.Imports.Drawings.{ShowsDrawing}
 use Rattle.cmd_page.proofs.imports.drawings.show.Goals as goal
 
+pub show_drawn-requires-clause-ranges : goal.show_drawn-requires-clause-ranges
+show_drawn-requires-clause-ranges g c = rw c.heading_of-heading.ensures.none (tt {0})
+
 pub returns-in-Ok-show_drawn : goal.returns-in-Ok-show_drawn
 unfolding ShowsDrawing
 returns-in-Ok-show_drawn g c =
     let r = c.in-Ok.ensures.reads in
     let headed = λ (heading : HeadingView) (ns : List (List ℕ)) (ls : List LineView). ShowsText g.W.Out.sink c.args.out.now c.show_drawn.new.out heading (chart_text ns ls) (Ok tt) in
-    let shows = λ (turns : List ℕ). headed (record { title = c.args.title.now; turns = Some turns }) in
-    let titled = subst (λ (heading : HeadingView). headed heading c.in-Ok.drawing.names c.in-Ok.drawing.chart) c.heading_of-heading.ensures c.in-Ok-show_drawn.ensures in
+    let shows = λ (turns : List ℕ). headed (record { title = c.args.title.now; turns = Some turns; races = None }) in
+    let titled = subst (λ (heading : HeadingView). headed heading c.in-Ok.drawing.names c.in-Ok.drawing.chart) c.heading_of-heading.ensures.view c.in-Ok-show_drawn.ensures in
     let by_turns = subst (λ (turns : List ℕ). shows turns c.in-Ok.drawing.names c.in-Ok.drawing.chart) (c.as_slice.ensures.value ∙ c.in-Ok-turns_of_text.ensures) titled in
     (r.0, r.1, r.2, subst₂ (shows (turns_of_text c.args.tool c.args.text.now (options_view c.args.options))) r.3 r.4 by_turns)
 
@@ -22,7 +25,7 @@ unfolding ShowsDrawing
 returns-in-Err-show_drawn g c =
     let r = c.in-Ok.ensures.reads in
     let headed = λ (heading : HeadingView) (ns : List (List ℕ)) (ls : List LineView). ShowsText g.W.Out.sink c.args.out.now c.show_drawn.new.out heading (chart_text ns ls) (Err c.in-Err-show_drawn.error) in
-    let shows = λ (turns : List ℕ). headed (record { title = c.args.title.now; turns = Some turns }) in
-    let titled = subst (λ (heading : HeadingView). headed heading c.in-Ok.drawing.names c.in-Ok.drawing.chart) c.heading_of-heading.ensures c.in-Err-show_drawn.ensures in
+    let shows = λ (turns : List ℕ). headed (record { title = c.args.title.now; turns = Some turns; races = None }) in
+    let titled = subst (λ (heading : HeadingView). headed heading c.in-Ok.drawing.names c.in-Ok.drawing.chart) c.heading_of-heading.ensures.view c.in-Err-show_drawn.ensures in
     let by_turns = subst (λ (turns : List ℕ). shows turns c.in-Ok.drawing.names c.in-Ok.drawing.chart) (c.as_slice.ensures.value ∙ c.in-Ok-turns_of_text.ensures) titled in
     (r.0, r.1, subst₂ (shows (turns_of_text c.args.tool c.args.text.now (options_view c.args.options))) r.3 r.4 by_turns)

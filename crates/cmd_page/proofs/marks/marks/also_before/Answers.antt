@@ -1,5 +1,5 @@
-use Rattle.std.proofs.Common.{◌≡◌, suc, ◌+◌, ◌++◌, ◌∷◌, [], sym, ap, ◌∙◌, add-one}
-use Rattle.cmd_base.specs.Pairs.Sayings.{passing, comes_too}
+use Rattle.std.proofs.Common.{◌+◌, ◌++◌, ◌∷◌, [], sym, ap, ◌∙◌, add-one}
+use Rattle.cmd_base.specs.Pairs.Sayings.{comes_too}
 use Rattle.cmd_base.proofs.PairsLemmas.Growing.{passing-taken, passing-left}
 use Rattle.cmd_page.proofs.marks.marks.also_before.Goals as goal
 use Rattle.cmd_page.proofs.marks.marks.also_before.Goals.{then-comes_too+in_ok-push, else-comes_too}

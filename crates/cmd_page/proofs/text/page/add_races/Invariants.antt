@@ -4,6 +4,6 @@ use Rattle.texts.specs.Writing.{Buffers}
 use Rattle.cmd_page.specs.Text.RaceText.{race_text}
 use Rattle.cmd_page.proofs.text.page.add_races.Given as goal
 
--- what came so far was added
+-- the items so far were added
 abbrev pub invariant-loop-race : goal.invariant-loop-race
 invariant-loop-race g l = Buffers g.W.Out.sink l.initial.text l.text (flat_map (race_text) (take l.race-index l.races))

@@ -4,6 +4,6 @@ use Rattle.texts.specs.Writing.{Buffers}
 use Rattle.cmd_page.specs.Text.RaceText.{behind_space}
 use Rattle.cmd_page.proofs.text.race.add_numbers.Given as goal
 
--- what came so far was added
+-- the items so far were added
 abbrev pub invariant-loop-number : goal.invariant-loop-number
 invariant-loop-number g l = Buffers g.W.Out.sink l.initial.text l.text (flat_map (behind_space) (take l.number-index l.numbers))

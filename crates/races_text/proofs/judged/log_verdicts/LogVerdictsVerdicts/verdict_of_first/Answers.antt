@@ -1,24 +1,23 @@
-use Rattle.std.proofs.Common.{ℕ, refl, arith}
+use Rattle.std.proofs.Common.{refl, arith}
 use Rattle.std.proofs.lemmas.List.Elements.{All-weaker}
-use Rattle.chart.specs.Charts.{chart_lines, IsReceiveFrom}
+use Rattle.chart.specs.Charts.{chart_lines}
 use Rattle.chart.specs.Places.{IsEvent}
 use Rattle.chart.specs.Ranges.{events_of}
 use Rattle.chart.specs.declared.instance.EventNo.{EventNo}
 use Rattle.closure.specs.Faults.{place_of}
+use Rattle.races_text.specs.Judged.LogVerdicts.{IsReceiveAndEvent}
 use Rattle.races_text.proofs.JudgedLemmas.NextParts.{first_of_range}
-use Rattle.cmd_races.proofs.logs.known.JudgedVerdicts.verdict_of_first.Goals as goal
+use Rattle.races_text.proofs.judged.log_verdicts.LogVerdictsVerdicts.verdict_of_first.Goals as goal
 
 pub verdict_of_first-run-requires-clause-receive : goal.verdict_of_first-run-requires-clause-receive
 verdict_of_first-run-requires-clause-receive c =
-    let chart = chart_lines c.args.self.now.judge.lines in
-    let race : EventNo → Type 0 = λ e. ((q : ℕ) × IsReceiveFrom chart q (place_of c.args.receive.now)) × IsEvent chart (place_of e) in
+    let race : EventNo → Type 0 = λ e. IsReceiveAndEvent c.args.self.now.judge.lines c.args.receive.now e in
     (first_of_range race c.args.earlier.now c.requires.range.some c.requires.races).0
 
 pub verdict_of_first-run-requires-clause-earlier : goal.verdict_of_first-run-requires-clause-earlier
 verdict_of_first-run-requires-clause-earlier c =
-    let chart = chart_lines c.args.self.now.judge.lines in
-    let race : EventNo → Type 0 = λ e. ((q : ℕ) × IsReceiveFrom chart q (place_of c.args.receive.now)) × IsEvent chart (place_of e) in
-    All-weaker race (λ (e : EventNo). IsEvent chart (place_of e)) (λ e w. w.1) (events_of c.args.earlier.now) c.requires.races
+    let race : EventNo → Type 0 = λ e. IsReceiveAndEvent c.args.self.now.judge.lines c.args.receive.now e in
+    All-weaker race (λ (e : EventNo). IsEvent (chart_lines c.args.self.now.judge.lines) (place_of e)) (λ e w. w.1) (events_of c.args.earlier.now) c.requires.races
 
 pub returns : goal.returns
 returns c =
