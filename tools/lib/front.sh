@@ -1,8 +1,8 @@
 # shellcheck shell=bash
 # Read by ./mscrun and ./mscview, and by what ./install puts into PREFIX/bin. They set `usages` to the folder with the usage
 # texts and `version` to the file with the version, and define `at_once`, whether the program of a name answers at once. They
-# read spent_turns.sh and words_behind.sh too. They call `answer` with the program's name, a command that runs the program of a
-# name with words, and the words of the command line.
+# read spent_turns.sh, words_behind.sh and reasons.sh too. They call `answer` with the program's name, a command that runs the
+# program of a name with words, and the words of the command line.
 
 # Whether the words ask for help.
 asks_for_help() {
@@ -73,11 +73,12 @@ parts_of_usage() {
     }' "$usages/$1"
 }
 
-# Runs these words, and passes on what they say on standard error as it comes. `said` is its last line then.
+# Runs these words, and passes on what they say on standard error as it comes. `said` is its last line then, and `refused`
+# that of a refusal, which may have further lines behind it.
 passing_on() {
   local line open=
   shopt -s lastpipe
-  said=
+  said='' refused=''
   # (standard output may be closed, and is to be so for the program)
   ! { exec 3>&1; } 2>/dev/null || open=1
   if [[ -n $open ]]; then
@@ -87,28 +88,35 @@ passing_on() {
   fi | while IFS= read -r line || [[ -n $line ]]; do
     printf '%s\n' "$line" >&2
     said=$line
+    [[ $line != 'refused: '* ]] || refused=$line
   done
   return "${PIPESTATUS[0]}"
 }
 
-# The file among the words of a command line: the first word behind the command that names one.
+# The file among the words of a command line: the first word behind the command that names one, and is no option's value.
 file_among() {
-  local word
+  local before='' earlier='' before_that='' word
   for word in "${@:2}"; do
-    if [[ $word != -* && -f $word && -r $word ]]; then
+    if [[ -f $word && -r $word ]] && ! is_no_file "$word" "$before" "$earlier" "$before_that"; then
       printf '%s' "$word"
       return
     fi
+    before_that=$earlier earlier=$before before=$word
   done
   return 1
 }
 
 # Whether a word of a command line names no file, by the three before it, the last one first: it is an option, or a value of
-# one. Behind --around there are two, and behind --witness three.
+# one.
 is_no_file() {
-  local word=$1 before=$2 earlier=$3 before_that=$4
-  local takes_value='^--(seed|turns|only|events|rows|around|witness|title|to|from|skip|join|name|pattern|hosts|peer|from-line|to-line|limit)$'
-  [[ $word == -?* || $before =~ $takes_value || $earlier =~ ^--(around|witness)$ || $before_that == --witness ]]
+  local word=$1 behind=0 many option
+  [[ $word != -?* ]] || return 0
+  for option in "${@:2}"; do
+    behind=$((behind + 1))
+    count_values "$option"
+    ((many < behind)) || return 0
+  done
+  return 1
 }
 
 # How many words of a command line are neither its command nor an option or a value of one.
@@ -179,42 +187,6 @@ is_among() {
   return 1
 }
 
-# Tells the first word of a refused command line that isn't known, and which there are: a command, an option, or the value of
-# one that has a choice.
-tell_unknown() {
-  local name=$1 command=${2-} parts option value
-  local -a known
-  shift 2
-  parts=$(parts_of_usage "$name")
-  mapfile -t known < <(sed -n 's/^command //p' <<<"$parts")
-  if ! is_among "$command" "${known[@]}"; then
-    echo "$name has no command $(quoted "$command"): it has $(listed and "${known[@]}")"
-    return
-  fi
-  while (($# > 0)) && [[ $1 != -- ]]; do
-    option=${1%%=*} value=${2-}
-    [[ $1 != *=* ]] || value=${1#*=}
-    if [[ $option == --* ]]; then
-      mapfile -t known < <(sed -n "s/^option $command //p" <<<"$parts")
-      if ! is_among "$option" "${known[@]}"; then
-        ((${#known[@]} > 0)) || known=(none)
-        echo "$command has no $(quoted "$option"): it has $(listed and "${known[@]}")"
-        return
-      fi
-      mapfile -t known < <(sed -n "s/^value $command $option //p" <<<"$parts" | tr ' ' '\n' | awk '!has[$0]++')
-      if ((${#known[@]} > 0)) && [[ ${known[0]} != - && -n $value ]] && ! is_among "$value" "${known[@]}"; then
-        echo "$option takes no $(quoted "$value"): it takes $(listed or "${known[@]}")"
-        # (a log becomes a chart first)
-        [[ ! "$name $option $value" =~ ^mscview\ --from\ (log|shiviz)$ ]] ||
-          echo "try: $(typed mscview) import --from $value FILE.. >run.msc; $(typed mscview) $command run.msc"
-        return
-      fi
-      ((${#known[@]} == 0 || $# == 1)) || [[ $1 == *=* ]] || shift
-    fi
-    shift
-  done
-}
-
 # The program of this name as whoever typed the command line types it: its name, where the shell finds it by that, and else its
 # place, beside the one that was typed.
 typed() {
@@ -256,7 +228,10 @@ reader_of() {
 }
 
 # Whether this line refuses a text, which `mscview explain` can tell more of.
-refuses_text() { [[ $1 =~ ^'refused: F'(1|2|3|4|7|8|9|13|16|17|18|20|21|22|23|35|37|53)' ' ]]; }
+refuses_text() { [[ $1 =~ ^'refused: F'(1|2|3|4|7|8|9|13|16|17|18|20|21|22|23|35|37|38|51|53)' ' ]]; }
+
+# Whether a file has at most a million bytes, so that it is looked into without a terminal too.
+is_short() { [[ -n $1 ]] && (($(head -c 1000001 -- "$1" 2>/dev/null | wc -c) <= 1000000)); }
 
 # Colours what `mscview explain` writes, as compilers do.
 coloured() {
@@ -279,73 +254,28 @@ runs() {
   passing_on "$@"
 }
 
-# Tells what to try where a text was refused: of a diagram that mscview took for a chart the command that reads it, and of
-# any other on a terminal what takes it, or the command that tells more.
+# Tells what to try where a text was refused: of a diagram that mscview took for a chart the command that reads it, of a text
+# that isn't exact that tidy makes it so, and of any other on a terminal what takes it, or the command that tells more. Where an
+# option has taken the file, and standard input was read, it tells that.
 tell_what_to_try() {
-  local name=$1 program=$2 refusal=$3 file told='' tool taken_for_chart=''
+  local name=$1 program=$2 refusal=$3 file told='' tool taken_for_chart='' hint
   shift 3
   file=$(file_among "$@") || file=
-  [[ $name != mscview || " $* " == *' --from '* || ! $refusal =~ ^'refused: F'(20|21)' ' ]] || taken_for_chart=1
-  [[ -z $taken_for_chart && ! -t 2 ]] || told=$(explained "$program" "$file")
+  if [[ -z $file ]] && hint=$(tell_taken "$name" "$@"); then
+    echo "$hint" >&2
+    return
+  fi
+  [[ $name != mscview || " $* " == *' --from'[\ =]* || ! $refusal =~ ^'refused: F'(20|21)' ' ]] || taken_for_chart=1
+  [[ -z $taken_for_chart && ! -t 2 ]] && ! is_short "$file" || told=$(explained "$program" "$file")
   if [[ -n $taken_for_chart ]] && tool=$(tool_in "$told"); then
     echo "try: $(typed mscview) $(reader_of "$tool" "$1" "$file" "${@:2}")" >&2
   elif [[ -t 2 ]]; then
     tell_of_options "$refusal" " $*" "$told" >&2
-    tell_who_takes "$name" "$1" "$file" "$told" >&2
+    tell_who_takes "$name" "$1" "$file" "$told" "$refusal" " $* " >&2
+  else
+    hint=$(tell_who_takes "$name" "$1" "$file" "$told" "$refusal" " $* ")
+    [[ $hint != *' reads only the exact text'* ]] || echo "$hint" >&2
   fi
-}
-
-# Tells what the options of a refused import have to do with it: `mscview explain` reads the text without them.
-tell_of_options() {
-  local refusal=$1 words=$2 told=$3 tool
-  if [[ $refusal == 'refused: F21 '* && $words == *' --skip'[\ =]* ]]; then
-    echo 'what --skip leaves of the text ends too early'
-  elif [[ $refusal == 'refused: F35 '* ]]; then
-    [[ $words != *' --skip'[\ =]* ]] || echo 'the remaining lines have to be valid: skip an else with its branch, and an end with its frame'
-    [[ "$words " != *' --strict '* ]] || echo '--strict refuses constructs that a chart cannot express; without it they are skipped with a warning'
-    tool=$(tool_in "$told") || return 0
-    [[ $words != *' --from'[\ =]* || $words == *" --from"[\ =]"$tool"* ]] || echo "it looks like a diagram for --from $tool"
-  fi
-}
-
-# Tells on a terminal which event or pair a refusal is about.
-tell_missing() {
-  local refusal=$1 name count
-  case $refusal in
-    'refused: F31 NoSuchEvent '*)
-      read -r _ _ _ name count <<<"$refusal"
-      if ((count > 0)); then echo "$name has events 1 to $count"; else echo "$name has no events"; fi
-      ;;
-    'refused: F31 NoSuchEvent') echo 'the chart has no instance of this name' ;;
-    'refused: F32 NotAPair '*) echo "event ${refusal##* } is a send, and a race ends in a receive" ;;
-    'refused: F32 NotAPair') echo 'the first of the two events has to be the earlier one' ;;
-  esac
-}
-
-# Tells what takes a file that a program's command has refused, by what `mscview explain` writes of the file.
-tell_who_takes() {
-  local name=$1 command=$2 file=$3 told=$4
-  case $name:$command:$told in
-    mscrun:check:'a schedule, '*)
-      echo "$(quoted "$file") is a schedule, and check takes a chart"
-      echo "try: $(typed mscrun) replay $(quoted "$file")"
-      ;;
-    mscrun:replay:'a chart, '* | mscrun:random:'a chart, '* | mscrun:threads:'a chart, '*)
-      echo "$(quoted "$file") is a chart, and $command takes a schedule"
-      # (a chart with what mscrun printed behind it is for mscview alone)
-      if [[ $told == *'mscrun check refuses what stands here'* ]]; then
-        echo "try: $(typed mscview) races $(quoted "$file")"
-      else
-        echo "try: $(typed mscrun) check $(quoted "$file")"
-      fi
-      ;;
-    mscrun:*:'a diagram of '*) echo "try: $(typed mscview) $(quoted races --from "$(tool_in "$told")" "$file")" ;;
-    *$'\nhelp: mscview tidy writes '*)
-      echo 'texts are exact, and tidy writes them so: no comments, blank lines or arrows, and each line ends in a line feed'
-      echo "try: $(typed mscview) tidy $(quoted "$file")"
-      ;;
-    *) echo "try: $(typed mscview) explain $(quoted "${file:-FILE}")" ;;
-  esac
 }
 
 # Tells on a terminal what explains why commands of a schedule did nothing.
@@ -355,12 +285,22 @@ tell_notes() {
   echo "try: $(typed mscview) explain $(quoted "$file")" >&2
 }
 
+# Tells why a command line is refused, where that is known, and the usage; of a command that isn't known only which there are.
+tell_usage() {
+  local name=$1 hint
+  hint=$(tell_unknown "$@")
+  [[ -n $hint ]] || hint=$(tell_misapplied "$@")
+  [[ -n $hint ]] || hint=$(tell_reason "$@")
+  [[ -z $hint ]] || echo "$hint"
+  [[ $hint == "$name has no command "* ]] || usage_of "$name" "$2"
+}
+
 # Answers the words of a command line: the usage and the version where it asks for them, which takes no program. What the
-# program refuses as a command line has the usage behind it, and which word isn't known, or doesn't apply. What it refuses as a
-# text has what to try, and on a terminal a file that can't be read its name. There is also told what says why commands of a
-# schedule did nothing, and what instances on threads waited for.
+# program refuses as a command line has behind it why, and the usage. What it refuses as a text has what to try, and on a terminal
+# a file that can't be read its name. There is also told what says why commands of a schedule did nothing, and what instances on
+# threads waited for.
 answer() {
-  local name=$1 program=$2 status said kept='' hint
+  local name=$1 program=$2 status said refused='' kept=''
   shift 2
   if asks_for_help "$@"; then
     usage_of "$name" "$([[ ${1-} == help ]] && echo "${2-}" || echo "${1-}")"
@@ -377,16 +317,15 @@ answer() {
   if is_kept "$name" "$@"; then runs_kept "$program" "$name" "$@"; else runs "$program" "$name" "$@"; fi
   status=$?
   if [[ $status == 2 && $said == 'refused: G1 Usage' ]]; then
-    usage_of "$name" "$1" >&2
-    hint=$(tell_unknown "$name" "$@")
-    [[ -n $hint ]] || hint=$(tell_misapplied "$name" "$@")
-    [[ -z $hint ]] || echo "$hint" >&2
+    tell_usage "$name" "$@" >&2
   elif [[ $status == 2 && $said == 'refused: G2 File' && -t 2 ]]; then
     tell_unread "$@"
-  elif [[ $status == 2 ]] && refuses_text "$said "; then
-    tell_what_to_try "$name" "$program" "$said " "$@"
+  elif [[ $status == 2 ]] && refuses_text "${refused:-$said} "; then
+    tell_what_to_try "$name" "$program" "${refused:-$said} " "$@"
   elif [[ $status == 2 && $name == mscview && $said == 'refused: F34 NoSuchName' ]]; then
     tell_names "$program" "$@" >&2
+  elif [[ $status == 2 && $name == mscview && $said =~ ^'refused: F'(31 NoSuchEvent$|40 ) ]]; then
+    tell_instances "$said" "$program" "$@" >&2
   elif [[ $status == 2 && $name == mscview && -t 2 ]]; then
     tell_missing "$said" >&2
   elif [[ $status != 2 && $name == mscview && $said =~ ' of the schedule did nothing, ' && -t 2 ]]; then

@@ -1,5 +1,5 @@
 # shellcheck shell=bash
-# Read beside front.sh: words behind refusals that are about options of a command line. They use what front.sh defines.
+# Read beside front.sh: words behind refusals, of command lines, of names and of texts. They use what front.sh defines.
 
 # The value of an option among the words of a command line, or nothing.
 value_among() {
@@ -18,11 +18,59 @@ value_among() {
   done
 }
 
+# Tells what makes a chart of another tool's text, which --from has named, for a command that reads only charts.
+tell_import() {
+  local from=$1 files=FILE..
+  case $from in
+    mscgen | plantuml | mermaid) files=FILE ;;
+    shiviz) ;;
+    *) from=log ;;
+  esac
+  echo "try: $(typed mscview) import --from $from $files >a.msc"
+}
+
+# Tells the first word of a refused command line that isn't known, and which there are: a command, an option, or the value of
+# one that has a choice.
+tell_unknown() {
+  local name=$1 command=${2-} parts option value
+  local -a known
+  shift 2
+  parts=$(parts_of_usage "$name")
+  mapfile -t known < <(sed -n 's/^command //p' <<<"$parts")
+  if ! is_among "$command" "${known[@]}"; then
+    echo "$name has no command $(quoted "$command"): it has $(listed and "${known[@]}")"
+    return
+  fi
+  while (($# > 0)) && [[ $1 != -- ]]; do
+    option=${1%%=*} value=${2-}
+    [[ $1 != *=* ]] || value=${1#*=}
+    if [[ $option == --* ]]; then
+      mapfile -t known < <(sed -n "s/^option $command //p" <<<"$parts")
+      if ! is_among "$option" "${known[@]}"; then
+        ((${#known[@]} > 0)) || known=(none)
+        echo "$command has no $(quoted "$option"): it has $(listed and "${known[@]}")"
+        [[ ! "$name $command $option" =~ ^mscview\ (compare|export)\ --from$ ]] || tell_import "$value"
+        return
+      fi
+      mapfile -t known < <(sed -n "s/^value $command $option //p" <<<"$parts" | tr ' ' '\n' | awk '!has[$0]++')
+      if ((${#known[@]} > 0)) && [[ ${known[0]} != - && -n $value ]] && ! is_among "$value" "${known[@]}"; then
+        echo "$option takes no $(quoted "$value"): it takes $(listed or "${known[@]}")"
+        # (a log becomes a chart first)
+        [[ ! "$name $option $value" =~ ^mscview\ --from\ (log|shiviz)$ ]] ||
+          echo "try: $(typed mscview) import --from $value FILE.. >run.msc; $(typed mscview) $command run.msc"
+        return
+      fi
+      ((${#known[@]} == 0 || $# == 1)) || [[ $1 == *=* ]] || shift
+    fi
+    shift
+  done
+}
+
 # Tells of a refused command line of mscview, whose words are all known, the first option that doesn't apply to what is read,
 # and to what it does. Luck isn't known of charts, and not of each log: so --luck is told there if no other option is.
 tell_misapplied() {
   local name=$1 command=${2-} from word of_luck=
-  [[ $name == mscview && $command =~ ^(import|races|draw|page)$ ]] || return 0
+  [[ $name == mscview && $command =~ ^(import|races|draw|page|why|witness|mend)$ ]] || return 0
   shift 2
   from=$(value_among --from "$@")
   for word; do
@@ -49,6 +97,26 @@ tell_misapplied() {
     return
   done
   [[ -z $of_luck ]] || echo "$of_luck"
+}
+
+# Tells which option has taken a file of a command line without another one, so that standard input was read.
+tell_taken() {
+  local name=$1 before='' earlier='' before_that='' word option rest='' at=1
+  shift
+  [[ $name == mscview && $(free_words "$@") == 0 ]] || return 1
+  for word in "${@:2}"; do
+    at=$((at + 1))
+    if [[ $word != -* && -f $word ]] && is_no_file "$word" "$before" "$earlier" "$before_that"; then
+      for option in "$before" "$earlier" "$before_that"; do [[ $option != --* ]] || break; done
+      echo "standard input was read: $option takes $(value_of "$option"), and has taken $(quoted "$word")"
+      (($# == at)) || rest=" $(quoted "${@:at+1}")"
+      [[ $option != "$before" ]] ||
+        echo "try: $(typed mscview) $(quoted "${@:1:at-1}") $(value_of "$option")$rest $(quoted "$word")"
+      return
+    fi
+    before_that=$earlier earlier=$before before=$word
+  done
+  return 1
 }
 
 # The instances of a file, which is a schedule or a chart, one on each line; nothing where mscview doesn't answer at once.
@@ -80,4 +148,80 @@ tell_names() {
   else
     echo 'each name has to be that of an instance, and is given once'
   fi
+}
+
+# Tells that a file has no such instance, and which it has, or that only one of two files has an instance.
+tell_instances() {
+  local refusal=$1 program=$2 file
+  local -a there=()
+  shift 2
+  if [[ $refusal == 'refused: F40 '* ]]; then
+    echo "only one of the two recordings has this instance"
+    return
+  fi
+  file=$(file_among "$@") || file=
+  [[ " $*" == *' --from'[\ =]* ]] || mapfile -t there < <(instances_of "$program" "$file")
+  echo "the chart has no instance of this name${there[0]+: the instances are $(listed and "${there[@]}")}"
+}
+
+# Tells on a terminal which event or pair a refusal is about.
+tell_missing() {
+  local refusal=$1 name count
+  case $refusal in
+    'refused: F31 NoSuchEvent '*)
+      read -r _ _ _ name count <<<"$refusal"
+      if ((count > 0)); then echo "$name has events 1 to $count"; else echo "$name has no events"; fi
+      ;;
+    'refused: F32 NotAPair '*) echo "event ${refusal##* } is a send, and a race ends in a receive" ;;
+    'refused: F32 NotAPair') echo 'the first of the two events has to be the earlier one' ;;
+  esac
+}
+
+# Tells what the options of a refused import have to do with it: `mscview explain` reads the text without them.
+tell_of_options() {
+  local refusal=$1 words=$2 told=$3 tool
+  if [[ $refusal == 'refused: F21 '* && $words == *' --skip'[\ =]* ]]; then
+    echo 'what --skip leaves of the text ends too early'
+  elif [[ $refusal =~ ^'refused: F'(35|38|51)' ' ]]; then
+    [[ $words != *' --skip'[\ =]* ]] || echo 'the remaining lines have to be valid: skip an else with its branch, and an end with its frame'
+    [[ $refusal != 'refused: F35 '* || "$words " != *' --strict '* || $told =~ ^'a '(chart|schedule)', ' ]] ||
+      echo '--strict refuses constructs that a chart cannot express; without it they are skipped with a warning'
+    tool=$(tool_in "$told") || return 0
+    [[ $words != *' --from'[\ =]* || $words == *" --from"[\ =]"$tool"* ]] || echo "it looks like a diagram for --from $tool"
+  fi
+}
+
+# Tells what takes a file that a program's command has refused, by what `mscview explain` writes of the file: nothing of what
+# only --strict refuses, or what is no log, for there it has no more to tell.
+tell_who_takes() {
+  local name=$1 command=$2 file=$3 told=$4 refusal=$5 words=$6
+  if [[ $refusal =~ ^'refused: F'(35|38|51)' ' ]]; then
+    if [[ $told =~ ^'a '(chart|schedule)', ' ]]; then
+      echo "$(quoted "$file") is a ${BASH_REMATCH[1]} already, and needs no import"
+      echo "try: $(typed mscview) races $(quoted "$file")"
+      return
+    fi
+    [[ $refusal == 'refused: F35 '* && ! ($words == *' --strict '* && $told == *$'\nnothing is wrong with it'*) ]] || return 0
+  fi
+  case $name:$command:$told in
+    mscrun:check:'a schedule, '*)
+      echo "$(quoted "$file") is a schedule, and check takes a chart"
+      echo "try: $(typed mscrun) replay $(quoted "$file")"
+      ;;
+    mscrun:replay:'a chart, '* | mscrun:random:'a chart, '* | mscrun:threads:'a chart, '*)
+      echo "$(quoted "$file") is a chart, and $command takes a schedule"
+      # (a chart with what mscrun printed behind it is for mscview alone)
+      if [[ $told == *'mscrun check refuses what stands here'* ]]; then
+        echo "try: $(typed mscview) races $(quoted "$file")"
+      else
+        echo "try: $(typed mscrun) check $(quoted "$file")"
+      fi
+      ;;
+    mscrun:*:'a diagram of '*) echo "try: $(typed mscview) $(quoted races --from "$(tool_in "$told")" "$file")" ;;
+    *$'\nhelp: mscview tidy writes '*)
+      echo "$command reads only the exact text, without comments, blank lines and arrows, and tidy writes it"
+      echo "try: $(typed mscview) tidy $(quoted "$file")"
+      ;;
+    *) echo "try: $(typed mscview) explain $(quoted "${file:-FILE}")" ;;
+  esac
 }
