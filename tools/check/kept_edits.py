@@ -1,4 +1,5 @@
-"""What is kept of edits that were refused, for tools/check/refused_edits: in a checkout, and on the machine for others."""
+"""What is kept of edits that were refused, for tools/check/refused_edits: in a checkout, on the machine for others, and in the
+repository."""
 import hashlib
 import os
 
@@ -16,6 +17,7 @@ class Kept:
         for name in ("refused_edits", "crate_functions.py"):
             with open(os.path.join(CHECKS, name), "rb") as tool:
                 rests_on.append(tool.read())
+        self.name = crate.name
         self.sum = hashlib.sha256(repr(rests_on).encode()).hexdigest()
         self.files = (f"{root}/out/edits/{crate.name}", f"{MACHINE}/{crate.name}-{self.sum}")
 
@@ -41,6 +43,37 @@ class Kept:
             except OSError:
                 # (it is tried again then)
                 continue
+
+
+class Noted:
+    """The crates whose edits were all refused when they were last tried, as the repository notes them: each with its sum."""
+
+    ABOUT = """# Crates whose edits were all refused as they are now, each with a sum of all that this rests on. ./test tries one of four
+# of them, by the commit's number; those that have changed since, and ./test all, are tried always. It is written by
+# tools/check/refused_edits --note, over proved libraries.
+"""
+
+    def __init__(self, root):
+        self.path = f"{root}/tools/check/edits_refused.txt"
+        self.sums = {}
+        try:
+            with open(self.path, encoding="utf-8") as file:
+                self.sums = dict(line.split() for line in file if line.strip() and not line.startswith("#"))
+        except OSError:
+            return
+
+    def has(self, kept):
+        return self.sums.get(kept.name) == kept.sum
+
+    def write(self, crates):
+        """Notes of these crates those of which it is kept that all was refused. The others' notes stay."""
+        for kept in crates:
+            if kept.read():
+                self.sums[kept.name] = kept.sum
+            else:
+                self.sums.pop(kept.name, None)
+        with open(self.path, "w", encoding="utf-8") as file:
+            file.write(self.ABOUT + "".join(f"{name} {self.sums[name]}\n" for name in sorted(self.sums)))
 
 
 def forget_oldest():

@@ -80,10 +80,11 @@ weigh_sources() {
 # Says each minute how many edits of how many were tried, by the lines of a file, and how long the rest is likely to take. It
 # goes on until it is ended.
 tell_edits() {
-  local file=$1 all tried over began=$SECONDS
-  all=$(find "$root"/crates/*/must-fail -name '*.edit' | wc -l)
+  local file=$1 written all tried over began=$SECONDS
+  written=$(find "$root"/crates/*/must-fail -name '*.edit' | wc -l)
   while sleep 60 >/dev/null 2>&1; do
     tried=$(grep -cE '^(held|FAILED|left) ' "$file")
+    all=$((written - $(awk '/^rests / { edits += $3 } END { print edits + 0 }' "$file")))
     over=$((SECONDS - began))
     ((10 * tried < all)) || expected_part[edits]=$((over * all / tried))
     echo "edits: $tried of $all after $(clock "$over"); $(about "$(seconds_left edits "$over")") left for all"
