@@ -1,5 +1,5 @@
-"""What is kept of edits that were refused, for tools/check/refused_edits: in a checkout, on the machine for others, and in the
-repository."""
+"""What is kept of edits that were refused, for tools/check/refused_edits: in a checkout, on the machine for others, and in
+the repository."""
 import hashlib
 import os
 
@@ -7,6 +7,8 @@ CHECKS = os.path.dirname(os.path.abspath(__file__))
 # What the machine keeps, and of how many crates at most.
 MACHINE = os.path.join(os.environ.get("XDG_CACHE_HOME") or os.path.expanduser("~/.cache"), "mscrun", "edits")
 MOST_KEPT = 500
+# Of how many crates that are as they were one is tried.
+TURNS = 4
 
 
 class Kept:
@@ -48,9 +50,9 @@ class Kept:
 class Noted:
     """The crates whose edits were all refused when they were last tried, as the repository notes them: each with its sum."""
 
-    ABOUT = """# Crates whose edits were all refused as they are now, each with a sum of all that this rests on. ./test tries one of four
-# of them, by the commit's number; those that have changed since, and ./test all, are tried always. It is written by
-# tools/check/refused_edits --note, over proved libraries.
+    ABOUT = """# Crates whose edits were all refused as they are now, each with a sum of all that this rests on. ./test
+# tries one of four of them, by the commit's number; those that have changed since, and ./test all, are tried
+# always. It is written by tools/check/refused_edits --note, over proved libraries.
 """
 
     def __init__(self, root):
@@ -74,6 +76,16 @@ class Noted:
                 self.sums.pop(kept.name, None)
         with open(self.path, "w", encoding="utf-8") as file:
             file.write(self.ABOUT + "".join(f"{name} {self.sums[name]}\n" for name in sorted(self.sums)))
+
+
+def by_turns(root, tasks, turn):
+    """Of these crates, with their edits, those that are tried this time, and the others, which are as they were."""
+    noted, tried, resting, turns = Noted(root), [], [], turn
+    for task in tasks:
+        is_resting = noted.has(Kept(root, *task))
+        turns += is_resting
+        (resting if is_resting and turns % TURNS else tried).append(task)
+    return tried, resting
 
 
 def forget_oldest():
