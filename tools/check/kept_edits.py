@@ -1,5 +1,5 @@
-"""What is kept of edits that were refused, for tools/check/refused_edits: in a checkout, on the machine for others, and in
-the repository."""
+"""What is kept of edits that were refused, for tools/check/refused_edits: in a checkout, on the machine for others, and
+in the repository."""
 import hashlib
 import os
 
@@ -48,7 +48,7 @@ class Kept:
 
 
 class Noted:
-    """The crates whose edits were all refused when they were last tried, as the repository notes them: each with its sum."""
+    """The crates whose edits were all refused when last tried, each with its sum, as the repository has them."""
 
     ABOUT = """# Crates whose edits were all refused as they are now, each with a sum of all that this rests on. ./test
 # tries one of four of them, by the commit's number; those that have changed since, and ./test all, are tried
