@@ -12,8 +12,8 @@ use smallvec::SmallVec;
 use std::alloc::{AllocError, Global};
 use std::marker::Model;
 
-/// The most entries that a [`Clock`] has in place, and the most changes that a [`Diff`] has. With more they take memory.
-/// So nothing takes memory here for up to this many instances.
+/// The most entries that a [`Clock`] has in place, and the most changes that a [`Diff`] has. With more they take
+/// memory. So nothing takes memory here for up to this many instances.
 pub const INLINE_ENTRIES: usize = 8;
 
 const _: () = prove!(INLINE_ENTRIES == 8);
