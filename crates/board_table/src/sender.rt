@@ -138,10 +138,12 @@ fn begin_in(
     let diff = Diff::none(recorder.alloc());
     *slot = Some(Packet { message, diff });
     let Some(packet) = slot else { unreachable!() };
-    let Ok(()) = recorder.begin_send(base, &mut packet.diff) else {
+    let begun = recorder.begin_send(base, &mut packet.diff);
+    // This reads the packet once more, so that a proof sees in the slot what was written through the packet.
+    let _changes = packet.diff.len();
+    let Ok(()) = begun else {
         return Err(taken_out(slot));
     };
-    base.apply(&packet.diff);
     Ok(())
 }
 

@@ -1,7 +1,7 @@
 -- Lemmas on differences: the changes of the first instances, one more instance at a time.
 use Rattle.std.proofs.Common.{◌≡◌, ◌≢◌, ◌⊎◌, ℕ, suc, ◌+◌, ◌<◌, ◌≤◌, List, [], ◌∷◌, ◌++◌, map, length, get_or, set, take, drop, All, Contains, subst, refl, sym, ap, ◌∙◌, inl, inr, arith, append_assoc}
 use Rattle.std.proofs.lemmas.Bool.{cases_lt, cases_eq}
-use Rattle.std.proofs.lemmas.List.{take_more, drop_more, set_at, length-take-le, take_all, drop_all, append-nil, map_push, length_push, get_or_append_left, get_or_push}
+use Rattle.std.proofs.lemmas.List.{take_more, drop_more, set_at, length-take-le, take_all, drop_all, append-nil, map_push, length_push, get_or_append_left, get_or_at, get_or_push}
 use Rattle.std.proofs.lemmas.List.Elements.{All-nil, All-push, All-map, Contains-push, Contains-append_left, Contains-push_cases}
 use Rattle.std.specs.List.Sorted.{IsStrictlyIncreasing}
 use Rattle.clock.specs.Clocks.{with_entry}
@@ -63,6 +63,18 @@ up_to_same base clock n diff within same entry h = record {
   applied = h.applied ∙ ap (λ rest. take n clock ++ rest) (drop_more base n 0 (omega arith)) ∙ ap (λ x. take n clock ++ x ∷ drop (n + 1) base) (sym entry) ∙ sym (seam_more base clock n within);
   count = omega (arith, h.count);
 }
+
+-- after the changes so far the base's next entry is its own
+pub base_next : (base clock : List ℕ) (n : ℕ) (diff : List Change) (now : List ℕ) → n < length clock → length clock ≡ length base
+    → now ≡ apply_diff base diff → IsDiffUpTo base clock n diff → get_or now n 0 ≡ get_or base n 0
+base_next base clock n diff now within same made h =
+    ap (λ (xs : List ℕ). get_or xs n 0) (made ∙ h.applied ∙ ap (λ rest. take n clock ++ rest) (drop_more base n 0 (omega arith)))
+    ∙ get_or_at (take n clock) (get_or base n 0) (drop (n + 1) base) 0 n (length-take-le n clock (omega arith))
+
+-- the next change sets the base's next entry
+pub based_push : (base : List ℕ) (n x : ℕ) (diff : List Change) (now : List ℕ) → now ≡ apply_diff base diff
+    → set now n x ≡ apply_diff base (diff ++ record { instance = suc n; entry = x } ∷ [])
+based_push base n x diff now made = ap (λ (xs : List ℕ). set xs n x) made ∙ sym (apply_diff-push base diff (record { instance = suc n; entry = x }))
 
 -- the next four instances have the same entries in both
 pub up_to_four : (base clock : List ℕ) (n : ℕ) (diff : List Change) → n + 4 ≤ length clock → length clock ≡ length base

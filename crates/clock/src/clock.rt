@@ -1,5 +1,5 @@
 //! The clock of an instance.
-ghost use Rattle.std.specs.Prelude.{◌≡◌, ◌≤◌, ℕ, length, replicate, nat_eq, All, IsOk, IfOk, OnOk};
+ghost use Rattle.std.specs.Prelude.{◌≡◌, ◌≤◌, ℕ, length, replicate, nat_eq, All, IsOk, IfOk, OnOk, OnErr};
 ghost use Rattle.std.specs.Cmp.{partial_equiv_from_equiv};
 ghost use Rattle.std.specs.Cmp.Lexicographic.{pointwise, nat_list_eq_equiv};
 ghost use Rattle.clock.specs.Clocks.{entry_of, with_entry, merged};
@@ -7,28 +7,28 @@ ghost use Rattle.clock.specs.Diffs.{IsDiff, apply_diff, AgreeBut};
 
 use crate::Diff;
 use crate::entries::{entry_after, raise, set_changes};
-use arrayvec::ArrayVec;
 use chart::{InstanceNo, MAX_INSTANCES};
+use smallvec::SmallVec;
 use std::alloc::{AllocError, Global};
 use std::marker::Model;
 
-/// The most changes that a [`Diff`] has in place. With more changes it takes memory. So nothing takes memory here for
-/// up to this many instances. For more instances, only differences of more changes do.
+/// The most entries that a [`Clock`] has in place, and the most changes that a [`Diff`] has. With more they take
+/// memory. So nothing takes memory here for up to this many instances.
 pub const INLINE_ENTRIES: usize = 8;
 
 const _: () = prove!(INLINE_ENTRIES == 8);
 
-/// A vector time: one entry for each of 2 to [`MAX_INSTANCES`] instances (Fidge 1988, Mattern 1989). All entries are in
-/// place.
+/// A vector time: one entry for each of 2 to [`MAX_INSTANCES`] instances (Fidge 1988, Mattern 1989). Up to
+/// [`INLINE_ENTRIES`] entries are in place.
 ///
 /// A contract sees the list of the entries. The entry of instance `p` is at index `p - 1`.
 #[derive(Debug, Drop)]
 pub struct Clock {
-    entries: ArrayVec<u32, MAX_INSTANCES>,
+    entries: SmallVec<u32, INLINE_ENTRIES>,
 }
 
 impl Model for Clock {
-    ghost use Rattle.std.specs.Prelude.{ℕ, ◌≤◌, List, length};
+    ghost use Rattle.std.specs.Prelude.{ℕ, ◌≡◌, ◌≤◌, List, length};
     ghost use Rattle.chart.specs.declared.instance.TheConstants.{MAX_INSTANCES};
 
     ghost Value = { List ℕ };
@@ -41,17 +41,17 @@ impl Model for Clock {
 impl Clock {
     /// The clock of `n` instances, none of whose events are known.
     ///
-    /// It takes no memory, for any number of instances. So it never returns F6, although its type allows this.
-    pub fn zero(_alloc: Global, n: usize) -> Result<Clock, AllocError>
+    /// F6: it fails only if there is no memory for more than [`INLINE_ENTRIES`] entries. With fewer it takes none.
+    pub fn zero(alloc: Global, n: usize) -> Result<Clock, AllocError>
         requires at_least_two { 2 ≤ n }
         requires at_most { n ≤ MAX_INSTANCES }
         ensures value { IfOk result (λ clock. clock ≡ replicate n 0) }
         ensures len { IfOk result (λ clock. length clock ≡ n) }
         ensures succeeds { n ≤ INLINE_ENTRIES → IsOk result }
     {
-        let mut entries = ArrayVec::from_array_in((), [0; MAX_INSTANCES]);
-        entries.truncate(n);
-        Ok(Clock { entries })
+        Ok(Clock {
+            entries: SmallVec::from_elem(alloc, 0, n)?,
+        })
     }
 
     /// How many instances have an entry.
@@ -95,23 +95,21 @@ impl Clock {
 
     /// A copy.
     ///
-    /// It takes no memory, for any number of instances. So it never returns F6, although its type allows this.
+    /// F6: it fails only if there is no memory for more than [`INLINE_ENTRIES`] entries. With fewer it takes none.
     #[inline(always)]
-    pub fn copied(&self, _alloc: Global) -> Result<Clock, AllocError>
+    pub fn copied(&self, alloc: Global) -> Result<Clock, AllocError>
         ensures value { IfOk result (λ clock. clock ≡ self.now) }
         ensures len { IfOk result (λ clock. length clock ≡ length self.now) }
         ensures succeeds { length self.now ≤ INLINE_ENTRIES → IsOk result }
     {
-        let mut entries = ArrayVec::new();
-        match entries.try_extend_from_slice(self.entries.as_slice()) {
-            Ok(()) => Ok(Clock { entries }),
-            Err(_) => unreachable!(),
-        }
+        Ok(Clock {
+            entries: SmallVec::from_slice(alloc, self.entries.as_slice())?,
+        })
     }
 
     /// A copy whose entry for `p` is `index`: the clock of the event of `p` with this number.
     ///
-    /// It takes no memory, like [`Clock::copied`].
+    /// F6: it fails only if there is no memory, like [`Clock::copied`].
     #[inline(always)]
     pub fn stamped(&self, alloc: Global, p: InstanceNo, index: u32) -> Result<Clock, AllocError>
         requires { p ≤ length self.now }
@@ -168,6 +166,25 @@ impl Clock {
         ensures alone { (p : ℕ) → AgreeBut p base.now self.now → IsOk result }
     {
         diff.find(self.entries.as_slice(), base.entries.as_slice())
+    }
+
+    /// Makes `diff` the difference that [`Clock::diff_from`] returns, as [`Clock::diff_into`] does, and `base` this
+    /// clock, in one pass. If it is refused, `base` is unchanged, and the old changes of `diff` are dropped.
+    ///
+    /// F6: it fails when [`Clock::diff_into`] does.
+    #[inline(always)]
+    pub fn diff_over(&self, base: &mut Clock, diff: &mut Diff) -> Result<(), AllocError>
+        requires { length self.now ≡ length base.old }
+        ensures exact { OnOk result (IsDiff base.old self.now diff.new) }
+        ensures restores { OnOk result (apply_diff base.old diff.new ≡ self.now) }
+        ensures within { OnOk result (All (λ change. change.instance ≤ length self.now) diff.new) }
+        ensures at_most { OnOk result (length diff.new ≤ length self.now) }
+        ensures base { OnOk result (base.new ≡ self.now) }
+        ensures base_err { OnErr result (base.new ≡ base.old) }
+        ensures succeeds { length self.now ≤ INLINE_ENTRIES → IsOk result }
+        ensures alone { (p : ℕ) → AgreeBut p base.old self.now → IsOk result }
+    {
+        diff.follow(self.entries.as_slice(), base.entries.as_mut_slice())
     }
 
     /// Sets the entries that the difference lists. It takes no memory.

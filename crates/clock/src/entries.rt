@@ -1,11 +1,10 @@
 //! Operations of clocks on their entries, as slices.
-ghost use Rattle.std.specs.Prelude.{◌≡◌, ◌≤◌, ◌+◌, ℕ, true, length, take, slice_index, All, IsSome, IfSome, OnOk};
+ghost use Rattle.std.specs.Prelude.{◌≡◌, ◌≤◌, ◌+◌, ℕ, true, length, take, slice_index, All, IsSome, IfSome, IfNone};
 ghost use Rattle.clock.specs.Clocks.{entry_of, merged};
 ghost use Rattle.clock.specs.Diffs.{IsDiff, apply_diff, AgreeBut};
 
 use crate::{Change, INLINE_ENTRIES};
 use chart::{InstanceNo, MAX_INSTANCES};
-use std::alloc::AllocError;
 
 /// Raises each entry to the other's, if that is greater.
 #[inline(always)]
@@ -21,33 +20,27 @@ pub(crate) fn raise(entries: &mut [u32], others: &[u32])
 /// Writes the entries that differ from the base's into the first places, each with its instance. It returns how many
 /// there are, or `None` if there are more than places.
 #[inline(always)]
-pub(crate) fn find_few(
-    entries: &[u32],
-    base: &[u32],
-    few: &mut [Change; INLINE_ENTRIES],
-) -> Option<usize>
+pub(crate) fn find_changes(entries: &[u32], base: &[u32], places: &mut [Change]) -> Option<usize>
     requires same_length { length entries.now ≡ length base.now }
     requires limit { length entries.now ≤ MAX_INSTANCES }
-    ensures len { length few.new ≡ INLINE_ENTRIES }
-    ensures count { IfSome result (λ count. count ≤ INLINE_ENTRIES) }
-    ensures exact { IfSome result (λ count. IsDiff base.now entries.now (take count few.new)) }
-    ensures restores { IfSome result (λ count. apply_diff base.now (take count few.new) ≡ entries.now) }
+    requires places { INLINE_ENTRIES ≤ length places.old }
+    ensures len { length places.new ≡ length places.old }
+    ensures count { IfSome result (λ count. count ≤ length places.old) }
+    ensures exact { IfSome result (λ count. IsDiff base.now entries.now (take count places.new)) }
+    ensures restores { IfSome result (λ count. apply_diff base.now (take count places.new) ≡ entries.now) }
     ensures within { IfSome result (λ count.
-        All (λ change. change.instance ≤ length entries.now) (take count few.new)) }
-    ensures at_most { IfSome result (λ count. length (take count few.new) ≤ length entries.now) }
-    ensures succeeds { length entries.now ≤ INLINE_ENTRIES → IsSome result }
+        All (λ change. change.instance ≤ length entries.now) (take count places.new)) }
+    ensures at_most { IfSome result (λ count. count ≤ length entries.now) }
+    ensures succeeds { length entries.now ≤ length places.old → IsSome result }
     ensures alone { (p : ℕ) → AgreeBut p base.now entries.now → IsSome result }
 {
     if INLINE_ENTRIES < entries.len() {
-        return find_by_fours(entries, base, few);
+        return find_by_fours(entries, base, places);
     }
     let mut count = 0;
     for (place, entry) in entries.iter().enumerate() {
         if *entry != base[place] {
-            if count == INLINE_ENTRIES {
-                return None;
-            }
-            few[count] = Change {
+            places[count] = Change {
                 instance: InstanceNo::at_place(place),
                 entry: *entry,
             };
@@ -57,18 +50,58 @@ pub(crate) fn find_few(
     Some(count)
 }
 
-/// The same for larger boards: four entries at a time are skipped if none of them differs.
+/// The same, and sets the base's entries to these, in one pass. If there are more changes than places, the base is
+/// unchanged.
+#[inline(always)]
+pub(crate) fn follow(entries: &[u32], base: &mut [u32], places: &mut [Change]) -> Option<usize>
+    requires same_length { length entries.now ≡ length base.old }
+    requires limit { length entries.now ≤ MAX_INSTANCES }
+    requires places { INLINE_ENTRIES ≤ length places.old }
+    ensures len { length places.new ≡ length places.old }
+    ensures count { IfSome result (λ count. count ≤ length places.old) }
+    ensures exact { IfSome result (λ count. IsDiff base.old entries.now (take count places.new)) }
+    ensures restores { IfSome result (λ count. apply_diff base.old (take count places.new) ≡ entries.now) }
+    ensures within { IfSome result (λ count.
+        All (λ change. change.instance ≤ length entries.now) (take count places.new)) }
+    ensures at_most { IfSome result (λ count. count ≤ length entries.now) }
+    ensures base { IsSome result → base.new ≡ entries.now }
+    ensures base_none { IfNone result (base.new ≡ base.old) }
+    ensures succeeds { length entries.now ≤ length places.old → IsSome result }
+    ensures alone { (p : ℕ) → AgreeBut p base.old entries.now → IsSome result }
+{
+    if INLINE_ENTRIES < entries.len() {
+        let count = find_by_fours(entries, base, places)?;
+        set_changes(base, &places[..count]);
+        return Some(count);
+    }
+    let mut count = 0;
+    for (place, entry) in entries.iter().enumerate() {
+        if *entry != base[place] {
+            base[place] = *entry;
+            places[count] = Change {
+                instance: InstanceNo::at_place(place),
+                entry: *entry,
+            };
+            count += 1;
+        }
+    }
+    Some(count)
+}
+
+/// The same as [`find_changes`] for larger boards: four entries at a time are skipped if none of them differs.
 #[inline(never)]
-fn find_by_fours(entries: &[u32], base: &[u32], few: &mut [Change; INLINE_ENTRIES]) -> Option<usize>
+fn find_by_fours(entries: &[u32], base: &[u32], places: &mut [Change]) -> Option<usize>
     requires same_length { length entries.now ≡ length base.now }
     requires limit { length entries.now ≤ MAX_INSTANCES }
-    ensures len { length few.new ≡ INLINE_ENTRIES }
-    ensures count { IfSome result (λ count. count ≤ INLINE_ENTRIES) }
-    ensures exact { IfSome result (λ count. IsDiff base.now entries.now (take count few.new)) }
-    ensures restores { IfSome result (λ count. apply_diff base.now (take count few.new) ≡ entries.now) }
+    requires places { INLINE_ENTRIES ≤ length places.old }
+    ensures len { length places.new ≡ length places.old }
+    ensures count { IfSome result (λ count. count ≤ length places.old) }
+    ensures exact { IfSome result (λ count. IsDiff base.now entries.now (take count places.new)) }
+    ensures restores { IfSome result (λ count. apply_diff base.now (take count places.new) ≡ entries.now) }
     ensures within { IfSome result (λ count.
-        All (λ change. change.instance ≤ length entries.now) (take count few.new)) }
-    ensures at_most { IfSome result (λ count. length (take count few.new) ≤ length entries.now) }
+        All (λ change. change.instance ≤ length entries.now) (take count places.new)) }
+    ensures at_most { IfSome result (λ count. count ≤ length entries.now) }
+    ensures succeeds { length entries.now ≤ length places.old → IsSome result }
     ensures alone { (p : ℕ) → AgreeBut p base.now entries.now → IsSome result }
 {
     let mut found = 0;
@@ -79,10 +112,10 @@ fn find_by_fours(entries: &[u32], base: &[u32], few: &mut [Change; INLINE_ENTRIE
         } else if entries[place] == base[place] {
             place += 1;
         } else {
-            if found == INLINE_ENTRIES {
+            if found == places.len() {
                 return None;
             }
-            few[found] = Change {
+            places[found] = Change {
                 instance: InstanceNo::at_place(place),
                 entry: entries[place],
             };
@@ -107,36 +140,6 @@ fn are_four_same(entries: &[u32], base: &[u32], first: usize) -> bool
         & (entries[first + 1] == base[first + 1])
         & (entries[first + 2] == base[first + 2])
         & (entries[first + 3] == base[first + 3])
-}
-
-/// Replaces the list by the entries that differ from the base's, each with its instance.
-///
-/// F6: it fails only if there is no memory.
-#[cold]
-#[inline(never)]
-pub(crate) fn find_many(
-    entries: &[u32],
-    base: &[u32],
-    more: &mut Vec<Change>,
-) -> Result<(), AllocError>
-    requires same_length { length entries.now ≡ length base.now }
-    requires limit { length entries.now ≤ MAX_INSTANCES }
-    ensures exact { OnOk result (IsDiff base.now entries.now more.new.items) }
-    ensures restores { OnOk result (apply_diff base.now more.new.items ≡ entries.now) }
-    ensures within { OnOk result (All (λ change. change.instance ≤ length entries.now) more.new.items) }
-    ensures at_most { OnOk result (length more.new.items ≤ length entries.now) }
-{
-    more.clear();
-    more.reserve(entries.len())?;
-    for (place, entry) in entries.iter().enumerate() {
-        if *entry != base[place] {
-            more.push_reserved(Change {
-                instance: InstanceNo::at_place(place),
-                entry: *entry,
-            });
-        }
-    }
-    Ok(())
 }
 
 /// Sets the entries that the changes give.

@@ -7,10 +7,10 @@
 //! - A stamp changes one entry, in a copy or in place ([`Clock::stamped`], [`Clock::stamp`]). It can also make the
 //!   difference for this change ([`Clock::stamp_over`]).
 //! - A difference has exactly the entries that differ ([`Clock::diff_from`], in place [`Clock::diff_into`]). Applied
-//!   to its base it gives the clock back ([`Clock::apply`]). An entry after a difference can be read before it is
-//!   applied ([`Clock::entry_after`]).
-//! - No call on a clock of at most [`INLINE_ENTRIES`] entries is refused. Only a difference of more changes takes
-//!   memory.
+//!   to its base it gives the clock back ([`Clock::apply`]). Both can be done in one pass ([`Clock::diff_over`]). An
+//!   entry after a difference can be read before it is applied ([`Clock::entry_after`]).
+//! - No call on a clock of at most [`INLINE_ENTRIES`] entries is refused or takes memory. A clock of more entries takes
+//!   memory when it is made, and so does a difference of more changes.
 #![tactic(auto)]
 
 mod clock;

@@ -66,7 +66,7 @@ impl Model for Recorder {
 impl Recorder {
     /// The recorder of instance `p` of `n`, which has done nothing yet.
     ///
-    /// It takes no memory, for any number of instances. So it never returns F6, although its type allows this.
+    /// F6: it fails only if there is no memory. Up to [`clock::INLINE_ENTRIES`] instances it takes none.
     pub fn new(alloc: Global, p: InstanceNo, n: usize) -> Result<Recorder, AllocError>
         requires at_least_two { 2 ≤ n }
         requires at_most { n ≤ MAX_INSTANCES }
@@ -130,7 +130,7 @@ impl Recorder {
 
     /// The clock of the next event, if it is a send: what is known, with the send itself. Nothing is recorded.
     ///
-    /// It takes no memory, for any number of instances. So it never returns F6, although its type allows this.
+    /// F6: it fails only if there is no memory. Up to [`clock::INLINE_ENTRIES`] instances it takes none.
     #[inline(always)]
     pub fn next_clock(&self) -> Result<Clock, AllocError>
         requires { length self.now.line.events < MAX_EVENTS }
@@ -175,7 +175,8 @@ impl Recorder {
 
     /// Records a send to this instance, and returns its clock: what is known, with the send itself.
     ///
-    /// The first of F7 and F6 that applies refuses it, and then nothing has changed. With room it takes no memory.
+    /// The first of F7 and F6 that applies refuses it, and then nothing has changed. With room it takes no memory up to
+    /// [`clock::INLINE_ENTRIES`] instances.
     #[inline(always)]
     pub fn send(&mut self, to: InstanceNo, name: Name) -> Result<Clock, RecordError>
         requires among { to ≤ length self.old.knowledge }
@@ -202,28 +203,31 @@ impl Recorder {
 
     /// Prepares the next event as a send, which [`Recorder::record_begun`] then records. It makes room for the send on
     /// the line, stamps the knowledge with the send's number, and makes the difference: what changed in the send's
-    /// clock since the base. No clock is copied. So the message can be on its way before its send is recorded.
+    /// clock since the base. Afterwards the base is this clock. No clock is copied. So the message can be on its way
+    /// before its send is recorded.
     ///
     /// F6: it fails only if there is no memory, and then nothing has changed except the difference. With room it needs
     /// none up to [`clock::INLINE_ENTRIES`] instances, and none if nothing new is known of the others since the base.
     #[inline(always)]
-    pub fn begin_send(&mut self, base: &Clock, diff: &mut Diff) -> Result<(), AllocError>
-        requires entries { length base.now ≡ length self.old.knowledge }
+    pub fn begin_send(&mut self, base: &mut Clock, diff: &mut Diff) -> Result<(), AllocError>
+        requires entries { length base.old ≡ length self.old.knowledge }
         requires short { length self.old.line.events < MAX_EVENTS }
         ensures ok { OnOk result (self.new ≡ begun_send self.old) }
-        ensures exact { OnOk result (IsDiff base.now (send_clock self.old) diff.new) }
-        ensures clock { OnOk result (apply_diff base.now diff.new ≡ send_clock self.old) }
-        ensures within { OnOk result (All (λ change. change.instance ≤ length base.now) diff.new) }
+        ensures exact { OnOk result (IsDiff base.old (send_clock self.old) diff.new) }
+        ensures clock { OnOk result (apply_diff base.old diff.new ≡ send_clock self.old) }
+        ensures within { OnOk result (All (λ change. change.instance ≤ length base.old) diff.new) }
+        ensures base { OnOk result (base.new ≡ send_clock self.old) }
         ensures room { 0 < self.old.room → length self.old.knowledge ≤ INLINE_ENTRIES → IsOk result }
-        ensures alone { 0 < self.old.room → AgreeBut self.old.line.instance base.now self.old.knowledge → IsOk result }
+        ensures alone { 0 < self.old.room → AgreeBut self.old.line.instance base.old self.old.knowledge → IsOk result }
         ensures err { OnErr result (self.new ≡ self.old) }
+        ensures base_err { OnErr result (base.new ≡ base.old) }
     {
         self.line.reserve(1)?;
         let own = self.line.instance();
         let next = self.line.len() as u32 + 1;
         let before = self.knowledge.entry(own);
         self.knowledge.stamp(own, next);
-        let Ok(()) = self.knowledge.diff_into(base, diff) else {
+        let Ok(()) = self.knowledge.diff_over(base, diff) else {
             set_back(&mut self.knowledge, own, before);
             return Err(AllocError);
         };

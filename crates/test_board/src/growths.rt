@@ -1,6 +1,6 @@
 //! Tests of calls whose growth is refused. Each call is made once more, and then returns its full answer. A test ends
 //! with a growth of its own. The refusal of this growth shows that each one before it was refused in an earlier run of
-//! the test. Posts of nine instances take memory for a difference of nine changes. Posts of two instances never do.
+//! the test. Posts of nine instances take memory for their clocks. Posts of two instances never do.
 ghost use Rattle.std.specs.Prelude.{◌≤◌};
 
 use crate::calls::{

@@ -1,5 +1,5 @@
-//! Tests of the calls of a recorder among nine instances, whose differences may take memory. Each growth is refused
-//! once. The call is then made once more, and returns its full answer.
+//! Tests of the calls of a recorder among nine instances, whose clocks take memory. Each growth is refused once. The
+//! call is then made once more, and returns its full answer.
 ghost use Rattle.std.specs.Prelude.{◌≡◌, ◌≢◌, ◌≤◌, length};
 
 use crate::calls::{are, every_growth_was_refused, instance, name};

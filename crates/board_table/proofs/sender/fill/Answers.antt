@@ -44,3 +44,10 @@ returns-clause-packets c = let a = after c in let l = c.args.lane.now in let me 
 pub returns-clause-vacant : goal.returns-clause-vacant
 returns-clause-vacant c = let a = after c in let l = c.args.lane.now in let me = c.args.seat.now.me in
     ap suc (ap (λ (m : Mine). vacant_out m) a.2 ∙ filling_vacant l.instances l.capacity l.sender l.receiver (length (sent (held me).seen l.sender l.receiver)) a.0 (packets_out me ++ c.args.packet ∷ [])) ∙ a.1
+
+-- the first slot is empty
+pub exchange-requires : goal.exchange-requires
+exchange-requires c =
+    let me = c.args.seat.now.me in
+    let first = first_vacant c.args.lane.now me c.args.count c.requires.filling c.requires.room c.requires.count in
+    (c.requires.table, (None, first ∙ ap (λ (i : ℕ). (i, None) ∷ rest me.1) (sym c.slot.ensures.value)))
