@@ -1,7 +1,10 @@
 pub mod CapacityCarets
 pub mod CaretLemmas
+pub mod ChartCarets
+pub mod ChartEventCarets
 pub mod ChartFormCarets
 pub mod ChartForms
+pub mod ChartHeadCarets
 pub mod ChartReads
 pub mod ChartWalks
 pub mod CheckOrders
@@ -10,6 +13,7 @@ pub mod CommandCarets
 pub mod CommandWalks
 pub mod EventLineLemmas
 pub mod FormLemmas
+pub mod FreshNames
 pub mod LineBlocks
 pub mod NameLemmas
 pub mod ScheduleTexts
