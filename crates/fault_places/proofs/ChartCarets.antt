@@ -208,3 +208,29 @@ instance_line_caret known names states.Done words cause of few e = absurd (no_fo
 pub instance_caret : (first bytes : List ℕ) (number : ℕ) (cause : Cause) → is_of_instance cause ≡ true → names_in bytes ≡ Err (Line number cause) → IsFaultAt first bytes number cause
 unfolding spot_of
 instance_caret first bytes number cause of e = fault_at first bytes number cause e (λ names state line few fault. instance_line_caret (words_of first) names state (words_of line) cause of few fault)
+
+-- ---- unknown instances
+
+-- the first look finds no unknown instance
+pub no_unknown : (names : List (List ℕ)) (state : State) (words : List (List ℕ)) → line_fault names state words ≡ Some causes.UnknownInstance → ⊥
+no_unknown names states.Start words e = not_start names words causes.UnknownInstance refl e
+no_unknown names states.Outside words e = by (outside_line names words causes.UnknownInstance refl e)
+  where
+    late : (p : List ℕ) → IsHeadFault names p causes.UnknownInstance → ⊥
+    late p (of_name bad) = only_names p causes.UnknownInstance bad refl
+    late p (given is there same) = absurd cc
+    late p (too_many is long same) = absurd cc
+
+    by : IsHeadLine names words causes.UnknownInstance ⊎ IsEndLine names words causes.UnknownInstance → ⊥
+    by (inr l) = (let same : causes.Instances ≡ causes.UnknownInstance = l.cause_is in absurd cc)
+    by (inl l) = late l.p (head_fault names l.p causes.UnknownInstance l.fault)
+no_unknown names (states.Inside own events region) words e =
+    let l = event_line names own events region words causes.UnknownInstance refl e in
+    by l.m l.p (pair_fault own events l.m l.p causes.UnknownInstance l.fault)
+  where
+    by : (m p : List ℕ) → IsPairFault own events m p causes.UnknownInstance → ⊥
+    by m p (of_message bad) = only_names m causes.UnknownInstance bad refl
+    by m p (of_partner is bad) = only_names p causes.UnknownInstance bad refl
+    by m p (itself is same) = absurd cc
+    by m p (no_room many same) = absurd cc
+no_unknown names states.Done words e = no_form causes.UnknownInstance refl e

@@ -12,7 +12,7 @@ use Rattle.fault_places.proofs.FreshNames.{a_named, b_named, not_same}
 use Rattle.fault_places.proofs.SpotLemmas.{spot_same, goes_on}
 use Rattle.fault_places.specs.Carets.{fault_of, is_past, GoesOn, Takes}
 use Rattle.fault_places.specs.ChartCarets.{want_of, line_fault, MayName, MayBe, may_go_on, IsChartCaret}
-use Rattle.fault_places.specs.Spots.{name_in, named_by, is_name, is_partner, is_wrong, instead, inner, spot_from}
+use Rattle.fault_places.specs.Spots.{name_in, named_by, is_name, is_unknown, is_partner, is_wrong, instead, inner, spot_from}
 use Rattle.fault_places.specs.Wants.{on, begins_out, begins_in, chart_next, next}
 use Rattle.fault_places.specs.declared.spot.Spot.{Spot}
 use Rattle.fault_places.specs.declared.want.Want.{Want}
@@ -60,10 +60,10 @@ all_stop causes.UnknownInstance = refl
 abbrev pub step_as : Saying → State → Result Step Cause
 step_as saying state = Ok (saying, state)
 
-abbrev sent : List ℕ → ℕ → List ℕ × List ℕ → Result Step Cause
+abbrev pub sent : List ℕ → ℕ → List ℕ × List ℕ → Result Step Cause
 sent own events pair = Ok (sayings.Send pair.1 pair.0, states.Inside own (events + 1) regions.Closed)
 
-abbrev received : List ℕ → ℕ → Region → List ℕ × List ℕ → Result Step Cause
+abbrev pub received : List ℕ → ℕ → Region → List ℕ × List ℕ → Result Step Cause
 received own events region pair = Ok (sayings.Receive pair.1 pair.0, states.Inside own (events + 1) (after_receive region))
 
 sent_fault : (names : List (List ℕ)) (own : List ℕ) (events : ℕ) (r : Result (List ℕ × List ℕ) Cause) → fault_of ((r >>= sent own events) >>= λ step. names_after names step.0) ≡ fault_of r
@@ -111,6 +111,10 @@ pub record IsWay (region : Region) (k t : List ℕ) (message side partner : Want
   pub other : (names : List (List ℕ)) (own : List ℕ) (events : ℕ) (m s w : List ℕ) → Reads k own events m w (line_fault names (states.Inside own events region) (k ∷ m ∷ s ∷ w ∷ []))
   pub alone : (names : List (List ℕ)) (own : List ℕ) (events : ℕ) → line_fault names (states.Inside own events region) (k ∷ []) ≡ Some causes.Syntax
   pub places : ArePlaces message partner
+  pub first_known : (known : List (List ℕ)) (own : List ℕ) (events : ℕ) → is_unknown known (want_of (states.Inside own events region)) k ≡ false
+  pub message_known : (known : List (List ℕ)) (m : List ℕ) → is_unknown known message m ≡ false
+  pub side_known : (known : List (List ℕ)) → is_unknown known side t ≡ false
+  pub partner_unknown : (known : List (List ℕ)) (w : List ℕ) → is_unknown known partner w ≡ true
 
 sends_other : (names : List (List ℕ)) (own : List ℕ) (events : ℕ) (m s w : List ℕ) → Reads (codes "out") own events m w (line_fault names (states.Inside own events regions.Closed) (codes "out" ∷ m ∷ s ∷ w ∷ []))
 unfolding event_of send_of is_keyword spelled
@@ -133,7 +137,7 @@ unfolding event_of receive_of is_keyword spelled
 receives_read region names own events m w = received_fault names own events region (names_of own events m (name_part w))
 
 pub sends : IsWay regions.Closed (codes "out") (codes "to") wants.Sent wants.To wants.Receiver
-unfolding next chart_next begins_out event_of alone_of send_of is_keyword is_last_word spelled
+unfolding is_unknown next chart_next begins_out event_of alone_of send_of is_keyword is_last_word spelled
 sends = record {
   first = λ own events. refl;
   second = λ m. refl;
@@ -153,6 +157,10 @@ sends = record {
   other = sends_other;
   alone = λ names own events. refl;
   places = outward;
+  first_known = λ known own events. refl;
+  message_known = λ known m. refl;
+  side_known = λ known. refl;
+  partner_unknown = λ known w. refl;
 }
 
 -- what holds of a line that begins with `in`, whether a coregion is open or not
@@ -161,15 +169,16 @@ record IsIn (region : Region) : Type 0 where
   first_name : (own : List ℕ) (events : ℕ) → is_name (want_of (states.Inside own events region)) ≡ false
   first_partner : (own : List ℕ) (events : ℕ) → is_partner (want_of (states.Inside own events region)) ≡ false
   alone : (names : List (List ℕ)) (own : List ℕ) (events : ℕ) → line_fault names (states.Inside own events region) (codes "in" ∷ []) ≡ Some causes.Syntax
+  first_known : (known : List (List ℕ)) (own : List ℕ) (events : ℕ) → is_unknown known (want_of (states.Inside own events region)) (codes "in") ≡ false
 
 is_in : (region : Region) → IsIn region
-unfolding next chart_next begins_out begins_in alone_of is_last_word spelled
-is_in regions.Closed = record { first = λ own events. refl; first_name = λ own events. refl; first_partner = λ own events. refl; alone = λ names own events. refl }
-is_in regions.Empty = record { first = λ own events. refl; first_name = λ own events. refl; first_partner = λ own events. refl; alone = λ names own events. refl }
-is_in regions.Held = record { first = λ own events. refl; first_name = λ own events. refl; first_partner = λ own events. refl; alone = λ names own events. refl }
+unfolding is_unknown next chart_next begins_out begins_in alone_of is_last_word spelled
+is_in regions.Closed = record { first = λ own events. refl; first_name = λ own events. refl; first_partner = λ own events. refl; alone = λ names own events. refl; first_known = λ known own events. refl }
+is_in regions.Empty = record { first = λ own events. refl; first_name = λ own events. refl; first_partner = λ own events. refl; alone = λ names own events. refl; first_known = λ known own events. refl }
+is_in regions.Held = record { first = λ own events. refl; first_name = λ own events. refl; first_partner = λ own events. refl; alone = λ names own events. refl; first_known = λ known own events. refl }
 
 pub receives : (region : Region) → IsWay region (codes "in") (codes "from") wants.Received wants.From wants.Sender
-unfolding next chart_next
+unfolding is_unknown next chart_next
 receives region =
     let its = is_in region in
     record {
@@ -191,6 +200,10 @@ receives region =
       other = receives_other region;
       alone = its.alone;
       places = inward;
+      first_known = its.first_known;
+      message_known = λ known m. refl;
+      side_known = λ known. refl;
+      partner_unknown = λ known w. refl;
     }
 
 -- ---- a line with a fault of another kind is that of an event
@@ -367,7 +380,7 @@ spot_second c known line begin message k m others n w x s =
     goes_on c known line begin message 0 0 k (k ∷ m ∷ others) (m ∷ others) refl (record { first = m; others = others; is = refl }) w n
     ∙ spot_same c known line message 1 (0 + (length k + 1)) m (m ∷ others) others refl x s
 
-spot_fourth : (c : Cause) (known line : List (List ℕ)) (begin message side partner : Want) (k m t w : List ℕ) → next begin k ≡ Some message → next message m ≡ Some side → next side t ≡ Some partner
+pub spot_fourth : (c : Cause) (known line : List (List ℕ)) (begin message side partner : Want) (k m t w : List ℕ) → next begin k ≡ Some message → next message m ≡ Some side → next side t ≡ Some partner
     → is_wrong c known line begin 0 k ≡ false → is_wrong c known line message 1 m ≡ false → is_wrong c known line side 2 t ≡ false → is_wrong c known line partner 3 w ≡ true → instead c partner w ≡ partner
     → spot_from c known line begin 0 0 (k ∷ m ∷ t ∷ w ∷ []) ≡ record { place = (((0 + (length k + 1)) + (length m + 1)) + (length t + 1)) + min (inner c) (length w); want = partner }
 spot_fourth c known line begin message side partner k m t w n n' n'' x x' x'' wrong s =

@@ -106,7 +106,7 @@ syntax_caret first names state line fault =
 
 -- ---- the text
 
-drop_front : (xs ys : List (List ℕ)) → drop (length xs) (xs ++ ys) ≡ ys
+pub drop_front : (xs ys : List (List ℕ)) → drop (length xs) (xs ++ ys) ≡ ys
 drop_front [] ys = refl
 drop_front (x ∷ xs) ys = drop_front xs ys
 

@@ -5,6 +5,7 @@ pub mod ChartEventCarets
 pub mod ChartFormCarets
 pub mod ChartForms
 pub mod ChartHeadCarets
+pub mod ChartPartnerCarets
 pub mod ChartReads
 pub mod ChartWalks
 pub mod CheckOrders

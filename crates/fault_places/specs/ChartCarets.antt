@@ -1,6 +1,6 @@
 -- What the caret of a fault in a chart's text promises, over the definitions that read its lines (this project's profile of
 -- the text of ITU-T Z.120).
-use Rattle.std.specs.Prelude.{◌≡◌, ◌≢◌, ℕ, ◌+◌, ◌-◌, Bool, true, false, List, [], ◌∷◌, ◌++◌, length, take, drop, min, Option, Some, Err, codes, Contains}
+use Rattle.std.specs.Prelude.{◌≡◌, ◌≢◌, ℕ, ◌+◌, ◌-◌, Bool, true, false, List, [], ◌∷◌, ◌++◌, length, take, drop, min, Option, Some, Ok, Err, codes, Contains}
 use Rattle.std.specs.List.{AllByRecursion}
 use Rattle.chart.specs.Names.{IsName}
 use Rattle.chart.specs.Words.{Name, Text}
@@ -11,8 +11,9 @@ use Rattle.fault_places.specs.Standings.{line_at, first_or}
 use Rattle.fault_places.specs.declared.spot.Spot.{Spot}
 use Rattle.fault_places.specs.declared.want.Want.{Want}
 use Rattle.fault_places.specs.declared.want.Want.TheVariants as wants
+use Rattle.msc_text.specs.Reader.Builders.{BuilderView, blank, built}
 use Rattle.msc_text.specs.Reader.LastWords.{semi}
-use Rattle.msc_text.specs.Reader.Reading.{names_after, look_from, names_in}
+use Rattle.msc_text.specs.Reader.Reading.{names_after, look_from, build_from, names_in, chart_of}
 use Rattle.msc_text.specs.Reader.Steps.{step_by}
 use Rattle.msc_text.specs.declared.reader.state.State.{State}
 use Rattle.msc_text.specs.declared.reader.state.State.TheVariants as states
@@ -167,3 +168,38 @@ is_of_instance _ = false
 abbrev pub ChartInstanceCaretLaw : Type 0
 ChartInstanceCaretLaw = (first bytes : Text) (number : ℕ) (cause : Cause) → is_of_instance cause ≡ true
     → names_in bytes ≡ Err (Line number cause) → IsFaultAt first bytes number cause
+
+-- An unknown partner, which the second look finds.
+
+-- the fault of a line with these words, as both looks find it: in this state, after instances with these names of which
+-- this is built; all instances have the names in known
+abbrev pub whole_fault : List Name → List Name → BuilderView → State → List Text → Option Cause
+whole_fault known names d state words =
+    fault_of (step_by state words >>= λ step. names_after names step.0 >>= λ more. built known d step.0)
+
+-- the names that an unknown partner may have in place of its own: those of the other instances
+abbrev pub IsOther : List Name → State → Name → Type 0
+IsOther known state name = Contains known name × (name ≢ own_of state)
+
+-- the second look builds this of these lines
+pub record AreBuilt (above : List Text) (known : List Name) (state : State) (d : BuilderView) : Type 0 where
+  pub go_on : (lines : List Text) → build_from known states.Start blank 1 (above ++ lines) ≡ build_from known state d (length above + 1) lines
+
+-- where the second look finds an unknown partner
+pub record IsUnknownAt (first bytes : Text) (number : ℕ) : Type 0 where
+  pub known : List Name
+  pub all : names_in bytes ≡ Ok known
+  pub names : List Name
+  pub state : State
+  pub d : BuilderView
+  pub read : AreRead (lines_above bytes number) names state
+  pub built_so : AreBuilt (lines_above bytes number) known state d
+  pub begin : line_at wants.Msc (lines_above bytes number) ≡ want_of state
+  pub fault : whole_fault known names d state (words_of (line_in bytes number)) ≡ Some causes.UnknownInstance
+  pub caret : IsChartCaret (whole_fault known names d state) (IsOther known state) state causes.UnknownInstance (words_of (line_in bytes number))
+      (spot_of causes.UnknownInstance first (line_in bytes number) (line_at wants.Msc (lines_above bytes number)))
+
+-- the line of an event whose partner is no instance of the text
+abbrev pub ChartPartnerCaretLaw : Type 0
+ChartPartnerCaretLaw = (first bytes : Text) (number : ℕ) → chart_of bytes ≡ Err (Line number causes.UnknownInstance)
+    → IsUnknownAt first bytes number

@@ -2,7 +2,7 @@
 //! that does nothing.
 ghost use Rattle.fault_places.specs.Carets.{FormLaw, FormCaretLaw, CommandCaretLaw};
 ghost use Rattle.fault_places.specs.ChartCarets.{ChartFormLaw, ChartFormCaretLaw, ChartNameCaretLaw, ChartEventCaretLaw};
-ghost use Rattle.fault_places.specs.ChartCarets.{ChartInstanceCaretLaw};
+ghost use Rattle.fault_places.specs.ChartCarets.{ChartInstanceCaretLaw, ChartPartnerCaretLaw};
 ghost use Rattle.fault_places.specs.EventLines.{LineLaw};
 ghost use Rattle.fault_places.specs.ScheduleCarets.{CapacityCaretLaw, ScheduleFaultLaw};
 
@@ -53,6 +53,13 @@ pub fn chart_instance_caret_law()
 /// that does. For an event too many nothing is shown that may be there.
 pub fn chart_event_caret_law()
     ensures { ChartEventCaretLaw }
+{}
+
+/// The caret of an event's line in a chart whose partner is no instance of the text (F23). The words before the caret begin
+/// a line that is read. No line that begins with these words and the word at the caret is read. Each other instance that
+/// may be there makes such a line.
+pub fn chart_partner_caret_law()
+    ensures { ChartPartnerCaretLaw }
 {}
 
 /// The caret of a schedule's line that is refused for its form (F20). The words before the caret begin a line that
