@@ -29,7 +29,7 @@ use Rattle.texts.specs.declared.fault.Cause.TheVariants as causes
 use Rattle.texts.specs.declared.fault.Fault.TheVariants.{Line}
 
 -- a word that is no name has no other fault
-only_names : (word : List ℕ) (cause : Cause) → name_or_cause word ≡ Err cause → is_past 1 (Some cause) ≡ true → ⊥
+pub only_names : (word : List ℕ) (cause : Cause) → name_or_cause word ≡ Err cause → is_past 1 (Some cause) ≡ true → ⊥
 only_names word cause e h = by (name_of word) e
   where
     by : (r : Result (List ℕ) NameError) → named r ≡ Err cause → ⊥

@@ -87,7 +87,7 @@ pub data IsHeadFault : List (List ℕ) → List ℕ → Cause → Type 0 where
   too_many : {names : List (List ℕ)} {p : List ℕ} {cause : Cause} → IsName p → eqb (length names) MAX_INSTANCES ≡ true → causes.Instances ≡ cause → IsHeadFault names p cause
 
 -- a name that is given, by whether it was given before, and whether there are as many as may be
-abbrev new_fault : Bool → Bool → List (List ℕ) → Option Cause
+abbrev pub new_fault : Bool → Bool → List (List ℕ) → Option Cause
 new_fault x y more = fault_of {A = List (List ℕ)} (cond x (Err causes.Duplicate) (cond y (Err causes.Instances) (Ok more)))
 
 pub head_fault : (names : List (List ℕ)) (p : List ℕ) (cause : Cause) → fault_of (name_or_cause p >>= with_name names) ≡ Some cause → IsHeadFault names p cause

@@ -13,6 +13,7 @@ pub mod CommandCaretLemmas
 pub mod CommandCarets
 pub mod CommandWalks
 pub mod EventLineLemmas
+pub mod FirstLineCarets
 pub mod FormLemmas
 pub mod FreshNames
 pub mod LineBlocks

@@ -4,7 +4,7 @@ ghost use Rattle.fault_places.specs.Carets.{FormLaw, FormCaretLaw, CommandCaretL
 ghost use Rattle.fault_places.specs.ChartCarets.{ChartFormLaw, ChartFormCaretLaw, ChartNameCaretLaw, ChartEventCaretLaw};
 ghost use Rattle.fault_places.specs.ChartCarets.{ChartInstanceCaretLaw, ChartPartnerCaretLaw};
 ghost use Rattle.fault_places.specs.EventLines.{LineLaw};
-ghost use Rattle.fault_places.specs.ScheduleCarets.{CapacityCaretLaw, ScheduleFaultLaw};
+ghost use Rattle.fault_places.specs.ScheduleCarets.{FirstLineCaretLaw, CapacityCaretLaw, ScheduleFaultLaw};
 
 /// The number that [`crate::line_of_event`] finds for an event of a chart is that of the line with this event. The text
 /// begins with the chart's text, and above the line it has exactly what the chart's text has before the event.
@@ -74,6 +74,14 @@ pub fn form_caret_law()
 /// the caret passes them. Each word that may be there begins a line that does.
 pub fn command_caret_law()
     ensures { CommandCaretLaw }
+{}
+
+/// The caret of a schedule's first line with a word that is no name (F2 to F4), with a name that it has twice (F22), or with
+/// too many instances or too few (F8). The words before the caret begin a line that passes the checks up to that one. No
+/// line that begins with these words and the word at the caret passes them. Each name that may be there begins a line that
+/// does.
+pub fn first_line_caret_law()
+    ensures { FirstLineCaretLaw }
 {}
 
 /// The caret of a schedule's second line with another number than 1 to 64 (F9). The words before the caret begin a line
