@@ -1,5 +1,5 @@
 -- A chart's line that is refused for another cause than its form: its caret, and what may be there.
-use Rattle.std.proofs.Common.{◌≡◌, ℕ, ◌+◌, ◌≤◌, Bool, true, false, cond, ◌&&◌, List, [], ◌∷◌, length, Result, Ok, Err, ◌⊎◌, inl, inr, refl, sym, ap, ◌∙◌, subst}
+use Rattle.std.proofs.Common.{◌≡◌, ℕ, ◌≤◌, Bool, true, false, cond, ◌&&◌, List, [], ◌∷◌, length, Result, Ok, Err, ◌⊎◌, inl, inr, refl, sym, ap, ◌∙◌, subst}
 use Rattle.std.specs.Prelude.{Some, codes}
 use Rattle.std.proofs.lemmas.Bool.{false≢true}
 use Rattle.chart.specs.Keywords.{is_keyword}
@@ -13,7 +13,7 @@ use Rattle.fault_places.proofs.ChartFormCarets.{fault_at}
 use Rattle.fault_places.proofs.ChartHeadCarets.{IsHeadLine, IsEndLine, outside_line, IsHeadFault, head_fault, name_caret, given_caret, many_caret, few_caret}
 use Rattle.fault_places.proofs.ChartHeadCarets.IsHeadFault.{of_name, given, too_many}
 use Rattle.fault_places.specs.Carets.{fault_of, is_past}
-use Rattle.fault_places.specs.ChartCarets.{want_of, line_fault, is_of_event, is_of_instance, IsFaultAt}
+use Rattle.fault_places.specs.ChartCarets.{line_fault, is_of_event, is_of_instance, IsFaultAt}
 use Rattle.fault_places.specs.Spots.{spot_of}
 use Rattle.msc_text.specs.ChartText.{chart_name}
 use Rattle.msc_text.specs.Reader.LastWords.{is_last_word}

@@ -1,7 +1,6 @@
 -- The line of an event in a chart that is refused for another cause than its form: its caret, and what may be there.
-use Rattle.std.proofs.Common.{◌≡◌, ◌≢◌, ℕ, ◌+◌, Bool, true, false, cond, ◌&&◌, List, [], ◌∷◌, ◌++◌, length, Result, Ok, Err, ◌⊎◌, inl, inr, refl, sym, ap, ◌∙◌, subst, arith}
+use Rattle.std.proofs.Common.{◌≡◌, ◌≢◌, ℕ, ◌+◌, Bool, true, false, cond, ◌&&◌, List, [], ◌∷◌, length, Result, Ok, Err, ◌⊎◌, inl, inr, refl, sym, ap, ◌∙◌, subst, arith}
 use Rattle.std.specs.Prelude.{Option, None, Some, codes, bytes_eq, is_err, nat_le, min, unwrap_or}
-use Rattle.std.specs.List.{AllByRecursion}
 use Rattle.std.proofs.lemmas.Bool.{false≢true, and_parts}
 use Rattle.std.proofs.lemmas.Option.{same_Some}
 use Rattle.chart.specs.Keywords.{spelled, is_keyword}
@@ -14,13 +13,12 @@ use Rattle.fault_places.specs.Carets.{fault_of, is_past, GoesOn, Takes}
 use Rattle.fault_places.specs.ChartCarets.{want_of, line_fault, MayName, MayBe, may_go_on, IsChartCaret}
 use Rattle.fault_places.specs.Spots.{name_in, named_by, is_name, is_unknown, is_partner, is_wrong, instead, inner, spot_from}
 use Rattle.fault_places.specs.Wants.{on, begins_out, begins_in, chart_next, next}
-use Rattle.fault_places.specs.declared.spot.Spot.{Spot}
 use Rattle.fault_places.specs.declared.want.Want.{Want}
 use Rattle.fault_places.specs.declared.want.Want.TheVariants as wants
 use Rattle.msc_text.proofs.ReaderLemmas.Semicolons.{before_again, plain_again}
 use Rattle.msc_text.specs.Reader.LastWords.{semi, is_last_word}
 use Rattle.msc_text.specs.Reader.Reading.{names_after}
-use Rattle.msc_text.specs.Reader.Steps.{Step, name_part, is_plain, pair_of, names_of, after_receive, send_of, receive_of, is_closed, event_of, alone_of, inside_by}
+use Rattle.msc_text.specs.Reader.Steps.{Step, name_part, is_plain, pair_of, names_of, after_receive, send_of, receive_of, is_closed, event_of, alone_of}
 use Rattle.msc_text.specs.declared.reader.state.Region.{Region}
 use Rattle.msc_text.specs.declared.reader.state.Region.TheVariants as regions
 use Rattle.msc_text.specs.declared.reader.state.Saying.{Saying}

@@ -3,7 +3,7 @@
 use Rattle.std.proofs.Common.{◌≡◌, ℕ, ◌+◌, ◌≤◌, Bool, true, false, cond, eqb, ltb, List, [], ◌∷◌, ◌++◌, length, Result, Ok, Err, ◌⊎◌, inl, inr, refl, sym, ap, ◌∙◌, subst, arith}
 use Rattle.std.specs.Prelude.{Option, None, Some, codes, bytes_eq, is_err, min, unwrap_or}
 use Rattle.std.specs.List.{list_any}
-use Rattle.std.proofs.lemmas.Bool.{false≢true, eqb-true, ltb-true, ne_eqb, le-ltb}
+use Rattle.std.proofs.lemmas.Bool.{eqb-true, ltb-true, ne_eqb, le-ltb}
 use Rattle.std.proofs.lemmas.Option.{same_Some}
 use Rattle.chart.specs.Keywords.{spelled, is_keyword}
 use Rattle.chart.specs.Names.{IsName}
@@ -12,8 +12,8 @@ use Rattle.chart.specs.declared.name.NameError.{NameError}
 use Rattle.fault_places.proofs.ChartEventCarets.{CaretAt, step_as, no_form, all_stop, last_lacks}
 use Rattle.fault_places.proofs.FreshNames.{a_named, fresh, not_found}
 use Rattle.fault_places.proofs.SpotLemmas.{spot_wrong, spot_same, goes_on}
-use Rattle.fault_places.specs.Carets.{fault_of, is_past, Takes}
-use Rattle.fault_places.specs.ChartCarets.{want_of, line_fault, MayName, IsChartCaret}
+use Rattle.fault_places.specs.Carets.{fault_of, is_past}
+use Rattle.fault_places.specs.ChartCarets.{line_fault, MayName, IsChartCaret}
 use Rattle.fault_places.specs.Spots.{name_in, is_again, is_too_many, is_wrong, instead, inner, spot_from}
 use Rattle.fault_places.specs.Wants.{named_on, chart_next, next}
 use Rattle.fault_places.specs.declared.want.Want.TheVariants as wants
@@ -87,7 +87,7 @@ pub data IsHeadFault : List (List ℕ) → List ℕ → Cause → Type 0 where
   too_many : {names : List (List ℕ)} {p : List ℕ} {cause : Cause} → IsName p → eqb (length names) MAX_INSTANCES ≡ true → causes.Instances ≡ cause → IsHeadFault names p cause
 
 -- a name that is given, by whether it was given before, and whether there are as many as may be
-abbrev pub new_fault : Bool → Bool → List (List ℕ) → Option Cause
+abbrev new_fault : Bool → Bool → List (List ℕ) → Option Cause
 new_fault x y more = fault_of {A = List (List ℕ)} (cond x (Err causes.Duplicate) (cond y (Err causes.Instances) (Ok more)))
 
 pub head_fault : (names : List (List ℕ)) (p : List ℕ) (cause : Cause) → fault_of (name_or_cause p >>= with_name names) ≡ Some cause → IsHeadFault names p cause

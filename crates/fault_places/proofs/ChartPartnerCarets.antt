@@ -1,9 +1,9 @@
 -- The line of an event in a chart whose partner is no instance: its caret, and what may be there.
-use Rattle.std.proofs.Common.{◌≡◌, ◌≢◌, ℕ, suc, ◌+◌, ◌-◌, ◌≤◌, Bool, true, false, cond, eqb, ltb, List, [], ◌∷◌, ◌++◌, length, take, drop, All, Contains, Result, Ok, Err, ◌⊎◌, inl, inr, refl, sym, ap, ◌∙◌, subst, arith, add-zero, append_assoc}
-use Rattle.std.specs.Prelude.{Option, None, Some, codes, bytes_eq, nat_le, min}
+use Rattle.std.proofs.Common.{◌≡◌, ◌≢◌, ℕ, suc, ◌+◌, ◌-◌, ◌≤◌, Bool, true, false, cond, eqb, ltb, List, [], ◌∷◌, ◌++◌, length, take, drop, Contains, Result, Ok, Err, ◌⊎◌, inl, inr, refl, sym, ap, ◌∙◌, subst, arith, add-zero, append_assoc}
+use Rattle.std.specs.Prelude.{Option, None, Some, codes, nat_le, min}
 use Rattle.std.specs.List.{AllByRecursion}
 use Rattle.std.proofs.Math.Seq.{take-append_seam}
-use Rattle.std.proofs.lemmas.Bool.{false≢true, ltb-false, lt-leb}
+use Rattle.std.proofs.lemmas.Bool.{ltb-false, lt-leb}
 use Rattle.std.proofs.lemmas.List.Elements.{All-from_recursion}
 use Rattle.chart.specs.Charts.{LineView}
 use Rattle.chart.specs.Events.{partner_of, region_of}
@@ -17,11 +17,11 @@ use Rattle.chart.specs.declared.line.TheConstants.{MAX_EVENTS}
 use Rattle.fault_places.proofs.ChartCarets.{no_unknown}
 use Rattle.fault_places.proofs.ChartEventCarets.{IsWay, sends, receives, sent, received, may_partner, last_lacks, spot_fourth}
 use Rattle.fault_places.proofs.ChartFormCarets.{drop_front}
-use Rattle.fault_places.proofs.ChartReads.{want_goes, line_err, stopped}
+use Rattle.fault_places.proofs.ChartReads.{want_goes, stopped}
 use Rattle.fault_places.proofs.CommandCaretLemmas.{other_name, known_there}
 use Rattle.fault_places.proofs.FreshNames.{not_same}
 use Rattle.fault_places.specs.Carets.{fault_of, is_past}
-use Rattle.fault_places.specs.ChartCarets.{want_of, own_of, IsChartCaret, lines_above, line_in, whole_fault, IsOther, IsUnknownAt}
+use Rattle.fault_places.specs.ChartCarets.{want_of, IsChartCaret, lines_above, line_in, whole_fault, IsOther, IsUnknownAt}
 use Rattle.fault_places.specs.Spots.{is_wrong, instead, inner, spot_from, spot_of}
 use Rattle.fault_places.specs.Standings.{line_at, first_or}
 use Rattle.fault_places.specs.Wants.{on, next}
@@ -31,7 +31,7 @@ use Rattle.msc_text.proofs.ReaderLemmas.Found.{IsPrefix, same_prefix, is_finishe
 use Rattle.msc_text.proofs.ReaderLemmas.Looks.{look_goes_on, build_goes_on}
 use Rattle.msc_text.proofs.ReaderLemmas.Moves.{IsEvent, Moves, saying_words}
 use Rattle.msc_text.proofs.ReaderLemmas.Moves.Moves.{begins, heads, ends, sends as sends_one, receives as receives_one, opens, shuts, leaves}
-use Rattle.msc_text.proofs.ReaderLemmas.Onward.{Builds, Outcome, onward}
+use Rattle.msc_text.proofs.ReaderLemmas.Onward.{Outcome, onward}
 use Rattle.msc_text.proofs.ReaderLemmas.Sayings.{Says, step-says}
 use Rattle.msc_text.proofs.ReaderLemmas.SayingsAgain.{line-is}
 use Rattle.msc_text.proofs.ReaderLemmas.Semicolons.{before_again, plain_again}
@@ -39,7 +39,7 @@ use Rattle.msc_text.proofs.ReaderLemmas.Standing.{SoFar}
 use Rattle.msc_text.specs.Reader.Builders.{BuilderView, blank, pushed, with_event, with_head, with_foot, with_coregion, with_send, with_receive, built}
 use Rattle.msc_text.specs.Reader.LastWords.{semi}
 use Rattle.msc_text.specs.Reader.Reading.{names_after, look_from, build_from, names_in, lines_in, are_read, chart_of}
-use Rattle.msc_text.specs.Reader.Steps.{Step, name_part, is_plain, pair_of, names_of, after_receive, send_of, receive_of, event_of, step_by, step_of}
+use Rattle.msc_text.specs.Reader.Steps.{Step, name_part, pair_of, names_of, after_receive, send_of, receive_of, event_of, step_by, step_of}
 use Rattle.msc_text.specs.declared.reader.state.Region.{Region}
 use Rattle.msc_text.specs.declared.reader.state.Region.TheVariants as regions
 use Rattle.msc_text.specs.declared.reader.state.Saying.{Saying}
@@ -49,8 +49,8 @@ use Rattle.msc_text.specs.declared.reader.state.State.TheVariants as states
 use Rattle.texts.proofs.NewNames.{with_name-names, with_name-is}
 use Rattle.texts.proofs.Results.{bind_err, guard_ok, in_line_ok, name_again, ok_is}
 use Rattle.texts.specs.Faults.{◌>>=◌, in_line}
-use Rattle.texts.specs.Instances.{known_of, with_name}
-use Rattle.texts.specs.Lines.{lines_of, end_of, words_of, name_or_cause}
+use Rattle.texts.specs.Instances.{known_of}
+use Rattle.texts.specs.Lines.{lines_of, end_of, words_of}
 use Rattle.texts.specs.declared.fault.Cause.{Cause}
 use Rattle.texts.specs.declared.fault.Cause.TheVariants as causes
 use Rattle.texts.specs.declared.fault.Fault.{Fault}

@@ -1,6 +1,6 @@
 -- A schedule's first line that is refused for a name, or for the number of its instances: its caret, and what may be there.
-use Rattle.std.proofs.Common.{◌≡◌, ℕ, ◌+◌, ◌-◌, ◌<◌, ◌≤◌, Bool, true, false, cond, not, ◌||◌, ◌&&◌, eqb, ltb, List, [], ◌∷◌, ◌++◌, length, Contains, Result, Ok, Err, ◌⊎◌, inl, inr, refl, sym, ap, ◌∙◌, subst, arith, append-nil, append_assoc, length-append}
-use Rattle.std.specs.Prelude.{Option, None, Some, codes, bytes_eq, is_err, min}
+use Rattle.std.proofs.Common.{◌≡◌, ℕ, ◌+◌, ◌-◌, ◌≤◌, Bool, true, false, cond, not, ◌||◌, ◌&&◌, eqb, ltb, List, [], ◌∷◌, ◌++◌, length, Result, Ok, Err, ◌⊎◌, inl, inr, refl, sym, ap, ◌∙◌, subst, arith, append-nil, append_assoc, length-append}
+use Rattle.std.specs.Prelude.{Option, Some, codes, bytes_eq, is_err, min}
 use Rattle.std.specs.List.{list_all, list_any}
 use Rattle.std.proofs.lemmas.Bool.{false≢true, and_parts, and_from, eqb-true, eqb-false, eq-eqb, ne_eqb, ltb-true, le-ltb}
 use Rattle.std.proofs.lemmas.Option.{same_Some}
@@ -8,8 +8,8 @@ use Rattle.chart.specs.Names.{IsName}
 use Rattle.chart.specs.declared.instance.TheConstants.{MAX_INSTANCES}
 use Rattle.chart.specs.declared.name.NameError.{NameError}
 use Rattle.fault_places.proofs.ChartCarets.{only_names}
-use Rattle.fault_places.proofs.ChartEventCarets.{no_form, all_stop}
-use Rattle.fault_places.proofs.ChartHeadCarets.{IsHeadFault, head_fault, new_fault}
+use Rattle.fault_places.proofs.ChartEventCarets.{no_form}
+use Rattle.fault_places.proofs.ChartHeadCarets.{IsHeadFault, head_fault}
 use Rattle.fault_places.proofs.ChartHeadCarets.IsHeadFault.{of_name, given, too_many}
 use Rattle.fault_places.proofs.FreshNames.{a_named, fresh, not_found}
 use Rattle.fault_places.proofs.SpotLemmas.{spot_wrong, spot_ends, goes_on}
