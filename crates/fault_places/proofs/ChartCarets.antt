@@ -7,8 +7,9 @@ use Rattle.chart.specs.Names.{name_of}
 use Rattle.chart.specs.declared.keyword.Keyword.TheVariants as keywords
 use Rattle.chart.specs.declared.instance.TheConstants.{MAX_INSTANCES}
 use Rattle.chart.specs.declared.name.NameError.{NameError}
-use Rattle.fault_places.proofs.ChartEventCarets.{CaretAt, step_as, no_form, IsEventLine, event_line, IsPairFault, pair_fault, message_caret, partner_caret, itself_caret, full_caret}
-use Rattle.fault_places.proofs.ChartEventCarets.IsPairFault.{of_message, of_partner, itself, no_room}
+use Rattle.fault_places.proofs.ChartEventCarets.{message_caret, partner_caret, itself_caret, full_caret}
+use Rattle.fault_places.proofs.ChartEventLines.{CaretAt, step_as, no_form, IsEventLine, event_line, IsPairFault, pair_fault}
+use Rattle.fault_places.proofs.ChartEventLines.IsPairFault.{of_message, of_partner, itself, no_room}
 use Rattle.fault_places.proofs.ChartFormCarets.{fault_at}
 use Rattle.fault_places.proofs.ChartHeadCarets.{IsHeadLine, IsEndLine, outside_line, IsHeadFault, head_fault, name_caret, given_caret, many_caret, few_caret}
 use Rattle.fault_places.proofs.ChartHeadCarets.IsHeadFault.{of_name, given, too_many}

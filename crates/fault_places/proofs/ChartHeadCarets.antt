@@ -9,7 +9,7 @@ use Rattle.chart.specs.Keywords.{spelled, is_keyword}
 use Rattle.chart.specs.Names.{IsName}
 use Rattle.chart.specs.declared.instance.TheConstants.{MAX_INSTANCES}
 use Rattle.chart.specs.declared.name.NameError.{NameError}
-use Rattle.fault_places.proofs.ChartEventCarets.{CaretAt, step_as, no_form, all_stop, last_lacks}
+use Rattle.fault_places.proofs.ChartEventLines.{CaretAt, step_as, no_form, all_stop, last_lacks}
 use Rattle.fault_places.proofs.FreshNames.{a_named, fresh, not_found}
 use Rattle.fault_places.proofs.SpotLemmas.{spot_wrong, spot_same, goes_on}
 use Rattle.fault_places.specs.Carets.{fault_of, is_past}

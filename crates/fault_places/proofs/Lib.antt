@@ -2,11 +2,13 @@ pub mod CapacityCarets
 pub mod CaretLemmas
 pub mod ChartCarets
 pub mod ChartEventCarets
+pub mod ChartEventLines
 pub mod ChartFormCarets
 pub mod ChartForms
 pub mod ChartHeadCarets
 pub mod ChartPartnerCarets
 pub mod ChartReads
+pub mod ChartSecondLooks
 pub mod ChartWalks
 pub mod CheckOrders
 pub mod CommandCaretLemmas
@@ -14,6 +16,7 @@ pub mod CommandCarets
 pub mod CommandWalks
 pub mod EventLineLemmas
 pub mod FirstLineCarets
+pub mod FirstLineWalks
 pub mod FormLemmas
 pub mod FreshNames
 pub mod LineBlocks
