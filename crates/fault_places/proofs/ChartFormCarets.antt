@@ -1,14 +1,15 @@
 -- The caret of a chart's line that is refused for its form, and what may be there.
-use Rattle.std.proofs.Common.{◌≡◌, ℕ, ◌+◌, ◌-◌, true, false, List, [], ◌∷◌, ◌++◌, length, take, drop, Err, refl, sym, ap, ◌∙◌, subst, arith, append-nil}
+use Rattle.std.proofs.Common.{◌≡◌, ℕ, ◌+◌, ◌-◌, ◌≤◌, true, false, List, [], ◌∷◌, ◌++◌, length, take, drop, Err, refl, sym, ap, ◌∙◌, subst, arith, append-nil}
 use Rattle.std.specs.Prelude.{Option, Some, codes}
 use Rattle.std.proofs.Math.Seq.{take-append_seam}
 use Rattle.std.proofs.lemmas.Bool.{false≢true}
+use Rattle.chart.specs.declared.instance.TheConstants.{MAX_INSTANCES}
 use Rattle.fault_places.proofs.CaretLemmas.{place_is, stops_form}
 use Rattle.fault_places.proofs.ChartForms.{chart_form}
 use Rattle.fault_places.proofs.ChartReads.{stopped}
 use Rattle.fault_places.proofs.ChartWalks.{is_of_chart, goes_further, found_form, filler, fills, own_form, receiver_form, sender_form, sent_name, received_name}
 use Rattle.fault_places.specs.Carets.{is_past, has_form}
-use Rattle.fault_places.specs.ChartCarets.{want_of, line_fault, MayBe, may_go_on, IsChartCaret, lines_above, line_in, IsFaultAt}
+use Rattle.fault_places.specs.ChartCarets.{want_of, line_fault, MayName, MayBe, may_go_on, IsChartCaret, lines_above, line_in, IsFaultAt}
 use Rattle.fault_places.specs.Spots.{spot_of}
 use Rattle.fault_places.specs.Standings.{line_at, first_or}
 use Rattle.fault_places.specs.Wants.{begins_out, begins_in, named_on, chart_next, next}
@@ -28,36 +29,36 @@ use Rattle.texts.specs.declared.fault.Fault.TheVariants.{Line}
 
 -- ---- what may be there
 
-takes_chart : (read : List (List ℕ) → Option Cause) (before : List (List ℕ)) (want : Want) → is_of_chart want ≡ true → ((more : List (List ℕ)) → is_past 0 (read (before ++ more)) ≡ has_form want more)
-    → MayBe read 0 before want
+takes_chart : (read : List (List ℕ) → Option Cause) (may : List ℕ → Type 0) (before : List (List ℕ)) (want : Want) → is_of_chart want ≡ true → ((more : List (List ℕ)) → is_past 0 (read (before ++ more)) ≡ has_form want more)
+    → MayBe read 0 may before want
 unfolding next chart_next begins_out begins_in named_on name_part is_plain
-takes_chart read before wants.Msc h l = (codes "run;" ∷ [], (lacks_if 32 (codes "run;") refl, tt), l (codes "msc" ∷ codes "run;" ∷ []))
-takes_chart read before wants.ChartName h l = ([], tt, l (codes "run;" ∷ []))
-takes_chart read before wants.InstanceOrEnd h l =
+takes_chart read may before wants.Msc h l = (codes "run;" ∷ [], (lacks_if 32 (codes "run;") refl, tt), l (codes "msc" ∷ codes "run;" ∷ []))
+takes_chart read may before wants.ChartName h l = ([], tt, l (codes "run;" ∷ []))
+takes_chart read may before wants.InstanceOrEnd h l =
     ((codes "a;" ∷ [], (lacks_if 32 (codes "a;") refl, tt), l (codes "instance" ∷ codes "a;" ∷ [])), (([], tt, l (codes "endmsc;" ∷ [])), tt))
-takes_chart read before wants.InstanceName h l = λ name is. ([], tt, l (semi name ∷ []) ∙ own_form name is)
-takes_chart read before wants.Event h l = (
+takes_chart read may before wants.InstanceName h l = λ name is m. ([], tt, l (semi name ∷ []) ∙ own_form name is)
+takes_chart read may before wants.Event h l = (
   (codes "a" ∷ codes "to" ∷ codes "a;" ∷ [], (lacks_if 32 (codes "a") refl, (lacks_if 32 (codes "to") refl, (lacks_if 32 (codes "a;") refl, tt))), l (codes "out" ∷ codes "a" ∷ codes "to" ∷ codes "a;" ∷ [])),
   (
     (codes "a" ∷ codes "from" ∷ codes "a;" ∷ [], (lacks_if 32 (codes "a") refl, (lacks_if 32 (codes "from") refl, (lacks_if 32 (codes "a;") refl, tt))), l (codes "in" ∷ codes "a" ∷ codes "from" ∷ codes "a;" ∷ [])),
     (([], tt, l (codes "concurrent;" ∷ [])), (([], tt, l (codes "endinstance;" ∷ [])), tt)),
   ),
 )
-takes_chart read before wants.OpenedEvent h l =
+takes_chart read may before wants.OpenedEvent h l =
     (codes "a" ∷ codes "from" ∷ codes "a;" ∷ [], (lacks_if 32 (codes "a") refl, (lacks_if 32 (codes "from") refl, (lacks_if 32 (codes "a;") refl, tt))), l (codes "in" ∷ codes "a" ∷ codes "from" ∷ codes "a;" ∷ []))
-takes_chart read before wants.HeldEvent h l = (
+takes_chart read may before wants.HeldEvent h l = (
   (codes "a" ∷ codes "from" ∷ codes "a;" ∷ [], (lacks_if 32 (codes "a") refl, (lacks_if 32 (codes "from") refl, (lacks_if 32 (codes "a;") refl, tt))), l (codes "in" ∷ codes "a" ∷ codes "from" ∷ codes "a;" ∷ [])),
   (([], tt, l (codes "endconcurrent;" ∷ [])), tt),
 )
-takes_chart read before wants.Sent h l = λ name is. (codes "to" ∷ codes "a;" ∷ [], (lacks_if 32 (codes "to") refl, (lacks_if 32 (codes "a;") refl, tt)), l (name ∷ codes "to" ∷ codes "a;" ∷ []) ∙ sent_name name is)
-takes_chart read before wants.To h l = (codes "a;" ∷ [], (lacks_if 32 (codes "a;") refl, tt), l (codes "to" ∷ codes "a;" ∷ []))
-takes_chart read before wants.Receiver h l = λ name is. ([], tt, l (semi name ∷ []) ∙ receiver_form name is)
-takes_chart read before wants.Received h l = λ name is. (codes "from" ∷ codes "a;" ∷ [], (lacks_if 32 (codes "from") refl, (lacks_if 32 (codes "a;") refl, tt)), l (name ∷ codes "from" ∷ codes "a;" ∷ []) ∙ received_name name is)
-takes_chart read before wants.From h l = (codes "a;" ∷ [], (lacks_if 32 (codes "a;") refl, tt), l (codes "from" ∷ codes "a;" ∷ []))
-takes_chart read before wants.Sender h l = λ name is. ([], tt, l (semi name ∷ []) ∙ sender_form name is)
-takes_chart read before wants.LineEnd h l = ap (λ words. is_past 0 (read words)) (sym (append-nil before)) ∙ l []
-takes_chart read before wants.ChartEnd h l = tt
-takes_chart read before _ h l = absurd (false≢true h)
+takes_chart read may before wants.Sent h l = λ name is. (codes "to" ∷ codes "a;" ∷ [], (lacks_if 32 (codes "to") refl, (lacks_if 32 (codes "a;") refl, tt)), l (name ∷ codes "to" ∷ codes "a;" ∷ []) ∙ sent_name name is)
+takes_chart read may before wants.To h l = (codes "a;" ∷ [], (lacks_if 32 (codes "a;") refl, tt), l (codes "to" ∷ codes "a;" ∷ []))
+takes_chart read may before wants.Receiver h l = λ name is m. ([], tt, l (semi name ∷ []) ∙ receiver_form name is)
+takes_chart read may before wants.Received h l = λ name is. (codes "from" ∷ codes "a;" ∷ [], (lacks_if 32 (codes "from") refl, (lacks_if 32 (codes "a;") refl, tt)), l (name ∷ codes "from" ∷ codes "a;" ∷ []) ∙ received_name name is)
+takes_chart read may before wants.From h l = (codes "a;" ∷ [], (lacks_if 32 (codes "a;") refl, tt), l (codes "from" ∷ codes "a;" ∷ []))
+takes_chart read may before wants.Sender h l = λ name is m. ([], tt, l (semi name ∷ []) ∙ sender_form name is)
+takes_chart read may before wants.LineEnd h l = ap (λ words. is_past 0 (read words)) (sym (append-nil before)) ∙ l []
+takes_chart read may before wants.ChartEnd h l = tt
+takes_chart read may before _ h l = absurd (false≢true h)
 
 -- ---- the caret
 
@@ -69,7 +70,7 @@ begins_chart (states.Inside own events regions.Empty) = refl
 begins_chart (states.Inside own events regions.Held) = refl
 begins_chart states.Done = refl
 
-begins_further : (state : State) → may_go_on state ≡ true → goes_further (want_of state) ≡ true
+begins_further : (state : State) → may_go_on causes.Syntax state ≡ true → goes_further (want_of state) ≡ true
 begins_further states.Start h = refl
 begins_further states.Outside h = refl
 begins_further (states.Inside own events regions.Closed) h = refl
@@ -78,7 +79,7 @@ begins_further (states.Inside own events regions.Held) h = refl
 begins_further states.Done h = absurd (false≢true h)
 
 pub syntax_caret : (first : List ℕ) (names : List (List ℕ)) (state : State) (line : List ℕ) → line_fault names state (words_of line) ≡ Some causes.Syntax
-    → IsChartCaret (line_fault names state) state causes.Syntax (words_of line) (spot_of causes.Syntax first line (want_of state))
+    → IsChartCaret (line_fault names state) (MayName names state causes.Syntax) state causes.Syntax (words_of line) (spot_of causes.Syntax first line (want_of state))
 unfolding spot_of
 syntax_caret first names state line fault =
     let begin : Want = want_of state in
@@ -100,22 +101,22 @@ syntax_caret first names state line fault =
           (let fill = fills spot.want f.kind (f.further (begins_further state may)) in
           (filler spot.want, fill.1, leads (filler spot.want) ∙ fill.0));
       stops = stops_form read f.before f.from spot.want leads f.faulty;
-      may_be = takes_chart read f.before spot.want f.kind leads;
+      may_be = takes_chart read (MayName names state causes.Syntax) f.before spot.want f.kind leads;
     }
 
 -- ---- the text
 
-drop_front : (xs ys : List (List ℕ)) → drop (length xs) (xs ++ ys) ≡ ys
+pub drop_front : (xs ys : List (List ℕ)) → drop (length xs) (xs ++ ys) ≡ ys
 drop_front [] ys = refl
 drop_front (x ∷ xs) ys = drop_front xs ys
 
 -- a fault of the first look, with the caret of its line
 pub fault_at : (first bytes : List ℕ) (number : ℕ) (cause : Cause) → names_in bytes ≡ Err (Line number cause)
-    → ((names : List (List ℕ)) (state : State) (line : List ℕ) → line_fault names state (words_of line) ≡ Some cause → IsChartCaret (line_fault names state) state cause (words_of line) (spot_of cause first line (want_of state)))
+    → ((names : List (List ℕ)) (state : State) (line : List ℕ) → length names ≤ MAX_INSTANCES → line_fault names state (words_of line) ≡ Some cause → IsChartCaret (line_fault names state) (MayName names state cause) state cause (words_of line) (spot_of cause first line (want_of state)))
     → IsFaultAt first bytes number cause
 unfolding names_in
 fault_at first bytes number cause e caret =
-    let s = stopped [] states.Start 1 (lines_of bytes) (end_of bytes) number cause e in
+    let s = stopped [] states.Start 1 (lines_of bytes) (end_of bytes) number cause (omega arith) e in
     let counted = s.counted in
     let count : number - 1 ≡ length s.above = omega arith in
     let above : lines_above bytes number ≡ s.above = ap (λ k. take k (lines_of bytes)) count ∙ ap (take (length s.above)) s.are ∙ take-append_seam s.above s.below in
@@ -132,9 +133,9 @@ fault_at first bytes number cause e caret =
       };
       begin = begin;
       fault = fault;
-      caret = subst (λ want. IsChartCaret (line_fault s.after s.reached) s.reached cause (words_of (line_in bytes number)) (spot_of cause first (line_in bytes number) want)) (sym begin)
-          (caret s.after s.reached (line_in bytes number) fault);
+      caret = subst (λ want. IsChartCaret (line_fault s.after s.reached) (MayName s.after s.reached cause) s.reached cause (words_of (line_in bytes number)) (spot_of cause first (line_in bytes number) want)) (sym begin)
+          (caret s.after s.reached (line_in bytes number) s.few fault);
     }
 
 pub form_caret : (first bytes : List ℕ) (number : ℕ) → names_in bytes ≡ Err (Line number causes.Syntax) → IsFaultAt first bytes number causes.Syntax
-form_caret first bytes number e = fault_at first bytes number causes.Syntax e (λ names state line fault. syntax_caret first names state line fault)
+form_caret first bytes number e = fault_at first bytes number causes.Syntax e (λ names state line few fault. syntax_caret first names state line fault)

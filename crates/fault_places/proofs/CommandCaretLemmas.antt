@@ -37,7 +37,7 @@ use Rattle.texts.specs.declared.fault.Cause.TheVariants as causes
 
 -- ---- names that pass
 
-known_there : (names : List (List ℕ)) (name : List ℕ) → AreNames names → (there : Contains names name) → known_of names name ≡ Ok (suc there.0)
+pub known_there : (names : List (List ℕ)) (name : List ℕ) → AreNames names → (there : Contains names name) → known_of names name ≡ Ok (suc there.0)
 unfolding known_of
 known_there names name are there =
     let k : ℕ = there.0 in
@@ -103,7 +103,7 @@ first_name : (names : List (List ℕ)) → 2 ≤ length names → All IsName nam
 first_name [] some named = absurd (omega arith)
 first_name (x ∷ xs) some named = (x, named 0 x (omega arith), (0, omega arith, refl))
 
-other_name : (names : List (List ℕ)) (actor : List ℕ) → 2 ≤ length names → AreNames names → All IsName names → (name : List ℕ) × IsName name × Contains names name × (name ≢ actor)
+pub other_name : (names : List (List ℕ)) (actor : List ℕ) → 2 ≤ length names → AreNames names → All IsName names → (name : List ℕ) × IsName name × Contains names name × (name ≢ actor)
 other_name [] actor some are named = absurd (omega arith)
 other_name (x ∷ []) actor some are named = absurd (omega arith)
 other_name (x ∷ y ∷ xs) actor some are named = by (bytes_eq x actor) refl
