@@ -10,8 +10,11 @@
 mod first;
 mod laws;
 mod past;
+mod plain;
+mod searches;
 mod settling;
 mod sources;
+mod turns;
 
 pub use laws::freeing_law;
 pub use settling::settle;
