@@ -1,8 +1,8 @@
 -- A walk along the lines of a log: what is searched, and which turns come.
-use Rattle.std.proofs.Common.{◌≡◌, ℕ, zero, suc, ◌+◌, ◌<◌, ◌≤◌, ◌==◌, ◌⊎◌, inl, inr, Bool, true, false, cond, List, [], ◌∷◌, Option, None, Some, length, set, get_or, replicate, refl, sym, ap, ap₂, ◌∙◌, subst, arith, eqb-true}
+use Rattle.std.proofs.Common.{◌≡◌, ℕ, zero, suc, ◌+◌, ◌<◌, ◌≤◌, ◌==◌, ◌⊎◌, inl, inr, Bool, true, false, cond, List, [], ◌∷◌, Option, None, Some, length, set, get_or, replicate, refl, sym, ap, ap₂, ◌∙◌, subst, arith, eqb-true, take, take_all, drop, ◌++◌}
 use Rattle.std.specs.Prelude.{All, Contains, map}
 use Rattle.std.proofs.lemmas.Bool.{cases_eq, cases_lt, eq-eqb, false≢true}
-use Rattle.std.proofs.lemmas.List.{get_or_default, length-set, get_or-set_same, get_or-set_other, get_or-replicate, get_or_past, length-replicate, length-map, get_or-map}
+use Rattle.std.proofs.lemmas.List.{get_or_default, length-set, get_or-set_same, get_or-set_other, get_or-replicate, get_or_past, length-replicate, length-map, get_or-map, drop_all, append-nil}
 use Rattle.std.proofs.lemmas.List.Elements.{All-contains, All-get_or, All-map, All-weaker}
 use Rattle.chart.specs.declared.instance.TheConstants.{MAX_INSTANCES}
 use Rattle.log_chart.specs.BegunTables.{IsRising}
@@ -340,7 +340,7 @@ apart_lines n p lines are = record {
   numbered = All-map (λ (x : LogLine). x.number < n) (apart p) lines (All-weaker (λ (x : LogLine). x.number < n) (λ x. (apart p x).number < n) (λ x less. subst (λ k. k < n) (sym (apart_stripped p x).number) less) lines are.numbered);
   sends = All-map (λ (x : LogLine). IsWithin n x.send) (apart p) lines (All-weaker (λ (x : LogLine). IsWithin n x.send) (λ x. IsWithin n (apart p x).send) within lines are.sends);
   rise = λ i j d less inside.
-      let j_in : j < length lines = omega (arith, inside, length-map (apart p) lines) in
+      let j_in : j < length lines = omega (arith, inside, length-map lines (apart p)) in
       let i_is : get_or (map (apart p) lines) i d ≡ apart p (get_or lines i d) = get_or-map (apart p) lines i d d (omega (arith, less, j_in)) in
       let j_is : get_or (map (apart p) lines) j d ≡ apart p (get_or lines j d) = get_or-map (apart p) lines j d d j_in in
       let a : (get_or (map (apart p) lines) i d).number ≡ (get_or lines i d).number = ap (λ (x : LogLine). x.number) i_is ∙ (apart_stripped p (get_or lines i d)).number in
@@ -398,3 +398,13 @@ walk_begins log first others tops sends firsts nexts pasts n have within is plai
       stripped = subst (λ l. AreStripped first.host l (kept log)) (sym others_are) (all_stripped first.host (kept log));
       none = λ j on sooner. is_first.first j on (sym (same on.line) ∙ sooner);
     }
+
+-- what a borrowed list of the same length leaves
+pub put_back : (count : ℕ) (after pasts : List Past) → length after ≡ length pasts → length pasts ≤ count → take count (after ++ drop (length after) pasts) ≡ after
+put_back count after pasts same few =
+    ap (λ d. take count (after ++ d)) (drop_all (length after) pasts (omega (arith, same))) ∙ ap (take count) (append-nil after) ∙ take_all count after (omega (arith, same, few))
+
+pub asked_length : (tops sends firsts : List (Option ℕ)) (p : ℕ) (e : Entry) (n : ℕ) (pasts after : List Past) (answer : Bool) → HasAsked tops sends firsts p e n pasts after answer → length after ≡ length pasts
+asked_length tops sends firsts p e n pasts after answer (other differ same is_false) = ap length same
+asked_length tops sends firsts p e n pasts after answer (none head same is_false) = ap length same
+asked_length tops sends firsts p e n pasts after answer (asked i s own one at head has) = ap length has.pasts_are ∙ length-set pasts i has.past
