@@ -5,6 +5,8 @@
 //! first. The log is then paired anew, until there is no such receive. Which receive is freed doesn't depend on the
 //! order between the lines of several hosts ([`freeing_law`]).
 //!
+//! If each lane to a host has one stream, one walk along the host's line frees all of its receives that turns free.
+//!
 //! Other searches of a log can use the tables of what is directly before each line ([`sources_of`]).
 
 mod first;

@@ -64,6 +64,14 @@ impl Lanes {
             sender.is_none()
         }
     }
+
+    /// Whether each line has the stream of its lane, and the name of its host.
+    fn have_all(&self, first: &Entry, log: &[Entry]) -> bool
+        ensures { IsTrue result → All (IsPlainLine (λ c. slice_index_or self.now.senders.items c None)
+            (λ q. slice_index_or self.now.streams.items q None) first.now) log.now }
+    {
+        log.iter().all(|entry| self.have(first, entry))
+    }
 }
 
 /// Whether each lane to a line's host has one stream, which no other lane has, and the host has a name of its own. It
@@ -73,5 +81,5 @@ pub(crate) fn is_plain(alloc: Global, log: &[Entry], first: &Entry) -> Result<bo
     ensures { IfOk result (λ plain. IsTrue plain → IsPlain first.now log.now) }
 {
     let lanes = Lanes::to(alloc, log, first.host)?;
-    Ok(log.iter().all(|entry| lanes.have(first, entry)))
+    Ok(lanes.have_all(first, log))
 }
