@@ -1,5 +1,5 @@
 //! Frees receives until no line comes before itself.
-ghost use Rattle.std.specs.Prelude.{◌≤◌, length, IfOk, OnOk, MatchOption};
+ghost use Rattle.std.specs.Prelude.{◌≡◌, ◌<◌, ◌≤◌, length, slice_index_or, IfOk, OnOk, MatchOption};
 ghost use Rattle.chart.specs.declared.instance.TheConstants.{MAX_INSTANCES};
 ghost use Rattle.log_chart.specs.Entries.{HaveStreams};
 ghost use Rattle.log_chart.specs.HostLines.{kept};
@@ -22,6 +22,14 @@ fn next_freed(alloc: Global, hosts: usize, log: &[Entry]) -> Result<Option<usize
     first_on_cycle(alloc, log.len(), hosts, &lines)
 }
 
+/// The line with a number.
+fn line_at(log: &[Entry], number: usize) -> Entry
+    requires { number < length log.now }
+    ensures { result ≡ slice_index_or log.now number result }
+{
+    log[number]
+}
+
 /// Frees receives of a log of `hosts` hosts until no line comes before itself.
 ///
 /// Each turn frees one receive of those that take a send of the log and come before themselves. It is one of the host
@@ -36,7 +44,7 @@ pub fn settle(alloc: Global, hosts: usize, log: &mut [Entry]) -> Result<(), Allo
     ensures { OnOk result (Settles log.old log.new) }
 {
     'turns: while let Some(number) = next_freed(alloc, hosts, log)? {
-        let first = log[number];
+        let first = line_at(log, number);
         if is_plain(alloc, log, &first)? {
             free_along(alloc, log, &first, number)?;
         } else {

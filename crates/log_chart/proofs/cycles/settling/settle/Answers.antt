@@ -46,3 +46,16 @@ pub free_along-requires-clause-on : goal.free_along-requires-clause-on
 free_along-requires-clause-on c =
     let log = c.turns.log in
     subst (λ f. MatchOption f (HasNone (kept log)) (IsFirst (kept log))) c.in-Some.is c.in_ok-number.ensures
+
+pub line_at-requires : goal.line_at-requires
+line_at-requires c =
+    let log = c.turns.log in
+    let first : IsFirst (kept log) c.in-Some.number = subst (λ f. MatchOption f (HasNone (kept log)) (IsFirst (kept log))) c.in-Some.is c.in_ok-number.ensures in
+    (first_takes log c.in-Some.number first).1
+
+pub turns-preserved-in-Continue-branch-4 : goal.turns-preserved-in-Continue-branch-4
+turns-preserved-in-Continue-branch-4 c = record {
+  streams = c.in_ok-free_along.ensures.streams;
+  among = c.in_ok-free_along.ensures.among c.args.hosts c.turns.invariant.among;
+  so_far = λ out settles. c.turns.invariant.so_far out (c.in_ok-free_along.ensures.turns out settles);
+}
