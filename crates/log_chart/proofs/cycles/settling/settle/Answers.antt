@@ -47,8 +47,8 @@ free_along-requires-clause-on c =
     let log = c.turns.log in
     subst (λ f. MatchOption f (HasNone (kept log)) (IsFirst (kept log))) c.in-Some.is c.in_ok-number.ensures
 
-pub line_at-requires : goal.line_at-requires
-line_at-requires c =
+pub line_at-first-requires : goal.line_at-first-requires
+line_at-first-requires c =
     let log = c.turns.log in
     let first : IsFirst (kept log) c.in-Some.number = subst (λ f. MatchOption f (HasNone (kept log)) (IsFirst (kept log))) c.in-Some.is c.in_ok-number.ensures in
     (first_takes log c.in-Some.number first).1
