@@ -3,3 +3,9 @@ pub mod HandedLemmas
 pub mod SearchLemmas
 pub mod SettleLemmas
 pub mod SourceLemmas
+pub mod FreedLemmas
+pub mod PlainLemmas
+pub mod KeptLemmas
+pub mod OracleLemmas
+pub mod TurnLemmas
+pub mod WalkLemmas

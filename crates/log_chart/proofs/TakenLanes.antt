@@ -23,7 +23,7 @@ stream_at [] n = 0
 stream_at (e ∷ log) zero = e.stream
 stream_at (e ∷ log) (suc n) = stream_at log n
 
-abbrev AreStreams : (ℕ → ℕ) → ℕ → List Entry → Type 0
+abbrev pub AreStreams : (ℕ → ℕ) → ℕ → List Entry → Type 0
 AreStreams stream k [] = Unit {0}
 AreStreams stream k (e ∷ log) = (stream k ≡ e.stream) × AreStreams stream (k + 1) log
 
@@ -35,7 +35,7 @@ streams_later : (f : ℕ → ℕ) (k : ℕ) (log : List Entry) → AreStreams (�
 streams_later f k [] streams = tt
 streams_later f k (e ∷ log) streams = (streams.0, streams_later f (k + 1) log streams.1)
 
-streams_all : (log : List Entry) → AreStreams (stream_at log) 0 log
+pub streams_all : (log : List Entry) → AreStreams (stream_at log) 0 log
 streams_all [] = tt
 streams_all (e ∷ log) = (refl, streams_later (stream_at (e ∷ log)) 0 log (streams_same (stream_at log) (λ n. stream_at (e ∷ log) (n + 1)) (λ n. rw (add-one n) refl) 0 log (streams_all log)))
 
@@ -82,7 +82,7 @@ rest_rises : (xs : List ℕ) → IsRising xs → IsRising (drop 1 xs)
 rest_rises [] rising = tt
 rest_rises (x ∷ xs) rising = rising.1
 
-left_then : (stream : ℕ → ℕ) (left : ℕ → List ℕ) (e : Entry) → AreLeft stream left → AreLeft stream (left_after left e)
+pub left_then : (stream : ℕ → ℕ) (left : ℕ → List ℕ) (e : Entry) → AreLeft stream left → AreLeft stream (left_after left e)
 left_then stream left e are = record {
   own = λ c s has. are.own c s (after_has left e c s has);
   rising = λ c. go (takes e.kind && e.stream == c) c (are.rising c);
@@ -93,11 +93,11 @@ left_then stream left e are = record {
     go false c rises = rises
 
 -- the send that a line takes is the first of its stream
-first_has : (xs : List ℕ) (s : ℕ) → first_of xs ≡ Some s → Has xs s
+pub first_has : (xs : List ℕ) (s : ℕ) → first_of xs ≡ Some s → Has xs s
 first_has [] s is = absurd (cc is)
 first_has (x ∷ xs) s is = inl (cc is)
 
-took : (left : ℕ → List ℕ) (e : Entry) (s : ℕ) → send_for left e ≡ Some s → (takes e.kind ≡ true) × (first_of (left e.stream) ≡ Some s)
+pub took : (left : ℕ → List ℕ) (e : Entry) (s : ℕ) → send_for left e ≡ Some s → (takes e.kind ≡ true) × (first_of (left e.stream) ≡ Some s)
 took left e s is = go (takes e.kind) refl is
   where
     go : (its : Bool) → takes e.kind ≡ its → cond its (first_of (left e.stream)) None ≡ Some s → (takes e.kind ≡ true) × (first_of (left e.stream) ≡ Some s)
@@ -153,7 +153,7 @@ module _ (stream : ℕ → ℕ) (q p : ℕ) where
       go false send f rest = rest
 
 -- lines are on the lanes of their streams
-sends_nothing : (left : ℕ → List ℕ) (e : Entry) → is_send e.kind ≡ true → send_for left e ≡ None
+pub sends_nothing : (left : ℕ → List ℕ) (e : Entry) → is_send e.kind ≡ true → send_for left e ≡ None
 sends_nothing left e sends = go e.kind sends
   where
     go : (kind : Kind) → is_send kind ≡ true → cond (takes kind) (first_of (left e.stream)) None ≡ None

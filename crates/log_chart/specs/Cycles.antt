@@ -4,3 +4,4 @@ pub mod HandingOver
 pub mod Order
 pub mod Searching
 pub mod Sources
+pub mod Turns

@@ -5,13 +5,18 @@
 //! first. The log is then paired anew, until there is no such receive. Which receive is freed doesn't depend on the
 //! order between the lines of several hosts ([`freeing_law`]).
 //!
+//! If each lane to a host has one stream, one walk along the host's line frees all of its receives that turns free.
+//!
 //! Other searches of a log can use the tables of what is directly before each line ([`sources_of`]).
 
 mod first;
 mod laws;
 mod past;
+mod plain;
+mod searches;
 mod settling;
 mod sources;
+mod turns;
 
 pub use laws::freeing_law;
 pub use settling::settle;

@@ -28,7 +28,8 @@ pub fn is_send(kind: Kind) -> bool
     }
 }
 
-fn takes(kind: Kind) -> bool
+/// Whether it takes a send of the log.
+pub(crate) fn takes(kind: Kind) -> bool
     ensures { result ≡ takes kind }
 {
     match kind {
@@ -38,7 +39,7 @@ fn takes(kind: Kind) -> bool
 }
 
 /// The sends of each stream. It fails only if there is no memory.
-fn sends_of(alloc: Global, log: &[Entry]) -> Result<Chains, AllocError>
+pub(crate) fn sends_of(alloc: Global, log: &[Entry]) -> Result<Chains, AllocError>
     requires { HaveStreams log.now }
     ensures lists { IfOk result (λ chains. length chains.first.items ≡ length log.now) }
     ensures sends { IfOk result (λ chains. AreChains chains.first.items chains.next.items (sends_from 0 log.now)) }
@@ -56,7 +57,7 @@ fn sends_of(alloc: Global, log: &[Entry]) -> Result<Chains, AllocError>
 }
 
 /// The send that a line takes, of those that remain.
-fn send_for(left: &mut Chains, entry: &Entry) -> Option<usize>
+pub(crate) fn send_for(left: &mut Chains, entry: &Entry) -> Option<usize>
     requires { entry.now.stream < length left.old.first.items }
     ensures lists { length left.new.first.items ≡ length left.old.first.items }
     ensures value { (lists : ℕ → List ℕ) → AreChains left.old.first.items left.old.next.items lists

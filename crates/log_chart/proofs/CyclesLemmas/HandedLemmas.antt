@@ -18,16 +18,16 @@ use Rattle.log_chart.specs.Cycles.Order.Follows.{host, message}
 use Rattle.log_chart.specs.Cycles.Order.Comes.{direct, through}
 use Rattle.log_chart.proofs.CyclesLemmas.FirstLemmas.{by_host_total, lt_less}
 
-less_number : (a b : ℕ) → is_lt (nat_cmp a b) ≡ true → a < b
+pub less_number : (a b : ℕ) → is_lt (nat_cmp a b) ≡ true → a < b
 less_number a b its = subst (λ o. MatchOrdering o (a < b) (a ≡ b) (b < a)) (lt_less (nat_cmp a b) its) (ranked a b (nat_cmp a b) refl)
 
-number_less : (a b : ℕ) → a < b → is_lt (nat_cmp a b) ≡ true
+pub number_less : (a b : ℕ) → a < b → is_lt (nat_cmp a b) ≡ true
 number_less a b less = rw (lt-ltb a b less) refl
 
 same_number : (a b : ℕ) → nat_cmp a b ≡ Equal → a ≡ b
 same_number a b is = subst (λ o. MatchOrdering o (a < b) (a ≡ b) (b < a)) is (ranked a b (nat_cmp a b) refl)
 
-same_name : (a b : List ℕ) → slice_cmp nat_cmp a b ≡ Equal → a ≡ b
+pub same_name : (a b : List ℕ) → slice_cmp nat_cmp a b ≡ Equal → a ≡ b
 same_name a b is = (bytes_eq-Decides a b).0 (sym (is_eq-slice_cmp a b) ∙ ap is_eq is)
 
 tied : (x y : LogLine) → by_host x y ≡ Equal → x.number ≡ y.number

@@ -19,9 +19,10 @@ use Rattle.log_chart.proofs.OrderLemmas.{IsAbove, Rises, Within, kept_within, ke
 use Rattle.log_chart.specs.Cycles.Freeing.{IsFirst, HasNone, freed, Settles, AreAmong, HaveLanes}
 use Rattle.log_chart.specs.Cycles.Freeing.Settles.{done, turn}
 use Rattle.log_chart.specs.Cycles.Sources.{AreLines, HaveHosts}
+use Rattle.log_chart.specs.Cycles.Turns.{takers}
 
 -- a line of the log has its entry, and it has a send only if it is a receive that isn't freed
-abbrev IsLineOf : List Entry → ℕ → LogLine → Type 0
+abbrev pub IsLineOf : List Entry → ℕ → LogLine → Type 0
 IsLineOf log n x = (e : Entry) × (i : ℕ) × (i < length log) × (get_or log i e ≡ e) × (x.number ≡ n + i) × (x.entry ≡ e) × ((s : ℕ) → x.send ≡ Some s → takes e.kind ≡ true)
 
 later_line : (log : List Entry) (e : Entry) (n : ℕ) (x : LogLine) → IsLineOf log (n + 1) x → IsLineOf (e ∷ log) n x
@@ -128,10 +129,6 @@ freed_all P keeps zero (x ∷ log) all = All-cons P (record x { kind = Freed }) 
 freed_all P keeps (suc k) (x ∷ log) all = All-cons P x (freed k log) (All-head P x log all) (freed_all P keeps k log (All-tail P x log all))
 
 -- fewer lines take sends
-abbrev pub takers : List Entry → ℕ
-takers [] = 0
-takers (e ∷ log) = cond (takes e.kind) 1 0 + takers log
-
 pub freed_less : (k : ℕ) (log : List Entry) (e : Entry) → k < length log → get_or log k e ≡ e → takes e.kind ≡ true → takers (freed k log) < takers log
 freed_less k [] e within is one = absurd (omega arith)
 freed_less zero (x ∷ log) e within is one =
@@ -149,7 +146,7 @@ pub freed_among : (hosts k : ℕ) (log : List Entry) → AreAmong hosts log → 
 freed_among hosts k log among = freed_all (λ (e : Entry). AreTwo hosts e.host e.peer) (λ e its. its) k log among
 
 -- what holds of a line that takes a send holds of it when it is freed
-freed_one : (P : Entry → Type 0) → ((e : Entry) → takes e.kind ≡ true → P e → P (record e { kind = Freed })) → (k : ℕ) (log : List Entry) (e : Entry) → k < length log → get_or log k e ≡ e
+pub freed_one : (P : Entry → Type 0) → ((e : Entry) → takes e.kind ≡ true → P e → P (record e { kind = Freed })) → (k : ℕ) (log : List Entry) (e : Entry) → k < length log → get_or log k e ≡ e
     → takes e.kind ≡ true → All P log → All P (freed k log)
 freed_one P keeps k [] e within is one all = absurd (omega arith)
 freed_one P keeps zero (x ∷ log) e within is one all =

@@ -1,12 +1,14 @@
 //! Frees receives until no line comes before itself.
-ghost use Rattle.std.specs.Prelude.{◌≡◌, ◌<◌, ◌≤◌, length, IfOk, OnOk, MatchOption};
+ghost use Rattle.std.specs.Prelude.{◌≡◌, ◌<◌, ◌≤◌, length, slice_index_or, IfOk, OnOk, MatchOption};
 ghost use Rattle.chart.specs.declared.instance.TheConstants.{MAX_INSTANCES};
 ghost use Rattle.log_chart.specs.Entries.{HaveStreams};
 ghost use Rattle.log_chart.specs.HostLines.{kept};
-ghost use Rattle.log_chart.specs.Cycles.Freeing.{IsFirst, HasNone, freed, Settles, AreAmong};
+ghost use Rattle.log_chart.specs.Cycles.Freeing.{IsFirst, HasNone, Settles, AreAmong};
 
 use crate::cycles::first::first_on_cycle;
-use crate::{Entry, Kind, kept_lines};
+use crate::cycles::plain::is_plain;
+use crate::cycles::turns::{free, free_along};
+use crate::{Entry, kept_lines};
 use std::alloc::{AllocError, Global};
 
 /// The receive that is freed next, if there is one. It fails only if there is no memory.
@@ -20,16 +22,12 @@ fn next_freed(alloc: Global, hosts: usize, log: &[Entry]) -> Result<Option<usize
     first_on_cycle(alloc, log.len(), hosts, &lines)
 }
 
-/// Frees a receive.
-fn free(log: &mut [Entry], number: usize)
-    requires { number < length log.old }
-    ensures { log.new ≡ freed number log.old }
+/// The line with a number.
+fn line_at(log: &[Entry], number: usize) -> Entry
+    requires { number < length log.now }
+    ensures { result ≡ slice_index_or log.now number result }
 {
-    let entry = log[number];
-    log[number] = Entry {
-        kind: Kind::Freed,
-        ..entry
-    };
+    log[number]
 }
 
 /// Frees receives of a log of `hosts` hosts until no line comes before itself.
@@ -46,7 +44,12 @@ pub fn settle(alloc: Global, hosts: usize, log: &mut [Entry]) -> Result<(), Allo
     ensures { OnOk result (Settles log.old log.new) }
 {
     'turns: while let Some(number) = next_freed(alloc, hosts, log)? {
-        free(log, number);
+        let first = line_at(log, number);
+        if is_plain(alloc, log, &first)? {
+            free_along(alloc, log, &first, number)?;
+        } else {
+            free(log, number);
+        }
     }
     Ok(())
 }

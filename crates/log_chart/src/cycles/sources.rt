@@ -16,7 +16,7 @@ pub struct Sources {
 }
 
 /// What a table has for the line with this number.
-fn entry_of(table: &[Option<usize>], number: usize) -> Option<usize>
+pub(crate) fn entry_of(table: &[Option<usize>], number: usize) -> Option<usize>
     ensures { result ≡ slice_index_or table.now number None }
 {
     match table.get(number) {
@@ -42,7 +42,7 @@ impl Sources {
 }
 
 /// A table of `count` numbers with nothing for any of them. It fails only if there is no memory.
-fn nothing(alloc: Global, count: usize) -> Result<Vec<Option<usize>>, AllocError>
+pub(crate) fn nothing(alloc: Global, count: usize) -> Result<Vec<Option<usize>>, AllocError>
     ensures { IfOk result (λ table. table.items ≡ replicate count None) }
 {
     let table = vec![in alloc; None; count]?;

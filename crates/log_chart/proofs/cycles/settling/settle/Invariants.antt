@@ -2,7 +2,7 @@ use Rattle.std.proofs.Common.{List}
 use Rattle.log_chart.specs.Entries.{HaveStreams}
 use Rattle.log_chart.specs.declared.entry.Entry.{Entry}
 use Rattle.log_chart.specs.Cycles.Freeing.{Settles, AreAmong}
-use Rattle.log_chart.proofs.CyclesLemmas.SettleLemmas.{takers}
+use Rattle.log_chart.specs.Cycles.Turns.{takers}
 use Rattle.log_chart.proofs.cycles.settling.settle.Given as goal
 
 abbrev pub invariant-turns : goal.invariant-turns
