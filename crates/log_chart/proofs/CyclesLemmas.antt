@@ -8,4 +8,5 @@ pub mod PlainLemmas
 pub mod KeptLemmas
 pub mod OracleLemmas
 pub mod TurnLemmas
+pub mod AskedLemmas
 pub mod WalkLemmas

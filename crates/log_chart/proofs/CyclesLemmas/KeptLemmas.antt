@@ -141,8 +141,8 @@ module _ (whole : List LogLine) (stream : ℕ → ℕ) (c k q p : ℕ) where
       go true f rest =
           let own = alike.0.takes_own s (sent_at x.send f) in
           ap (λ r. Some (overtaking r s)) (
-            ap₂ (first_sent ys) alike.0.sender alike.0.receiver
-            ∙ first_alike (sender_of x.entry) (receiver_of x.entry) (λ e g. differs (own ∙ here.stream e g)) xs ys alike.1 tail
+          ap₂ (first_sent ys) alike.0.sender alike.0.receiver
+          ∙ first_alike (sender_of x.entry) (receiver_of x.entry) (λ e g. differs (own ∙ here.stream e g)) xs ys alike.1 tail
           )
       go false f rest = rest
 
@@ -269,7 +269,7 @@ module _ (log : List Entry) (k : ℕ) (f : Entry) (within : k < length log) (is 
       go false g =
           ap stays
           (sym (fate_of_alike (matched log) (stream_at log) f.stream k q p (matched log) (matched (freed k log)) x y matched_alike alone_lines alike
-            (All-contains (λ (l : LogLine). IsAlone f.stream q p l.entry) (matched log) x alone_lines has) (eqb-false x.entry.stream f.stream g)))
+          (All-contains (λ (l : LogLine). IsAlone f.stream q p l.entry) (matched log) x alone_lines has) (eqb-false x.entry.stream f.stream g)))
 
   pub kept_alike : AreAlike (matched log) (stream_at log) f.stream k (kept log) (kept (freed k log))
   kept_alike =

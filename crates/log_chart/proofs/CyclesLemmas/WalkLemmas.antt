@@ -1,32 +1,32 @@
 -- A walk along the lines of a log: what is searched, and which turns come.
-use Rattle.std.proofs.Common.{◌≡◌, ℕ, zero, suc, ◌+◌, ◌<◌, ◌≤◌, ◌==◌, ◌⊎◌, inl, inr, Bool, true, false, cond, List, [], ◌∷◌, Option, None, Some, length, set, get_or, replicate, refl, sym, ap, ap₂, ◌∙◌, subst, arith, eqb-true, take, take_all, drop, ◌++◌}
+use Rattle.std.proofs.Common.{◌≡◌, ℕ, zero, suc, ◌+◌, ◌<◌, ◌==◌, ◌⊎◌, inl, inr, Bool, true, false, cond, List, [], ◌∷◌, Option, None, Some, length, get_or, replicate, refl, sym, ap, ap₂, ◌∙◌, subst, arith, eqb-true, take}
 use Rattle.std.specs.Prelude.{All, Contains, map}
 use Rattle.std.proofs.lemmas.Bool.{cases_eq, cases_lt, eq-eqb, false≢true}
-use Rattle.std.proofs.lemmas.List.{get_or_default, length-set, get_or-set_same, get_or-set_other, get_or-replicate, get_or_past, length-replicate, length-map, get_or-map, drop_all, append-nil}
+use Rattle.std.proofs.lemmas.List.{get_or_default, length-set, get_or-set_same, get_or-set_other, get_or-replicate, get_or_past, length-replicate, length-map, get_or-map}
 use Rattle.std.proofs.lemmas.List.Elements.{All-contains, All-get_or, All-map, All-weaker}
 use Rattle.chart.specs.declared.instance.TheConstants.{MAX_INSTANCES}
 use Rattle.log_chart.specs.BegunTables.{IsRising}
 use Rattle.log_chart.specs.Chains.{IsChain, AreChains, first_of}
 use Rattle.log_chart.specs.Entries.{is_send, takes, HaveStreams}
-use Rattle.log_chart.specs.Fates.{sender_of, receiver_of, fate_of, stays}
+use Rattle.log_chart.specs.Fates.{fate_of, stays}
 use Rattle.log_chart.specs.FateTables.{IsWithin}
 use Rattle.log_chart.specs.HostLines.{kept}
 use Rattle.log_chart.specs.Matching.{send_for, left_after, matched}
 use Rattle.log_chart.specs.declared.cycles.past.Past.{Past}
 use Rattle.log_chart.specs.declared.entry.Entry.{Entry}
 use Rattle.log_chart.specs.declared.matching.LogLine.{LogLine}
-use Rattle.log_chart.specs.Cycles.Freeing.{IsOnCycle, is_sooner, IsFirst, freed}
+use Rattle.log_chart.specs.Cycles.Freeing.{is_sooner, IsFirst, freed}
 use Rattle.log_chart.specs.Cycles.Order.{Comes}
 use Rattle.log_chart.specs.Cycles.Order.Follows.{host, message}
 use Rattle.log_chart.specs.Cycles.Order.Comes.{direct, through}
-use Rattle.log_chart.specs.Cycles.Searching.{IsSeen, IsClosed, AreBefore, IsPast}
+use Rattle.log_chart.specs.Cycles.Searching.{IsSeen, IsClosed, AreBefore}
 use Rattle.log_chart.specs.Cycles.Sources.{AreLines, Leads, AreSources}
 use Rattle.log_chart.specs.Cycles.Sources.Leads.{through as leads_through}
 use Rattle.log_chart.specs.Cycles.Turns.{IsPlainLine, IsPlain, apart, left_before, takers, IsReady, HasSearched, HasAsked}
 use Rattle.log_chart.specs.Cycles.Turns.HasAsked.{other, none, asked}
 use Rattle.log_chart.proofs.LaneLists.{Has}
 use Rattle.log_chart.proofs.RisingLists.{below_has}
-use Rattle.log_chart.proofs.TakenLanes.{AreLeft, first_has, took, after_has}
+use Rattle.log_chart.proofs.TakenLanes.{first_has, took, after_has}
 use Rattle.log_chart.proofs.MatchingLemmas.{left_more}
 use Rattle.log_chart.proofs.ChainLemmas.{chains_same}
 use Rattle.log_chart.proofs.CyclesLemmas.FreedLemmas.{first_in, later_in}
@@ -256,7 +256,7 @@ module _ (initial log : List Entry) (first : Entry) (others : List LogLine) (top
     pasts_whole = ap length has.pasts_are ∙ length-set pasts i has.past ∙ turns.pasts_whole;
     searched = subst (λ m. AreSearched tops sends m turns.streams (left_before (freed n log) (n + 1)) after) (sym (freed_length n log))
         (searched_less tops sends (length log) turns.streams (left_before log n) (left_before (freed n log) (n + 1)) after (λ c t there. subst (λ l. Has l t) (sym (left_freed log n e within is one c)) there)
-          (searched_next own one i s after answer at head has));
+        (searched_next own one i s after answer at head has));
   }
 
   -- it isn't
@@ -398,13 +398,3 @@ walk_begins log first others tops sends firsts nexts pasts n have within is plai
       stripped = subst (λ l. AreStripped first.host l (kept log)) (sym others_are) (all_stripped first.host (kept log));
       none = λ j on sooner. is_first.first j on (sym (same on.line) ∙ sooner);
     }
-
--- what a borrowed list of the same length leaves
-pub put_back : (count : ℕ) (after pasts : List Past) → length after ≡ length pasts → length pasts ≤ count → take count (after ++ drop (length after) pasts) ≡ after
-put_back count after pasts same few =
-    ap (λ d. take count (after ++ d)) (drop_all (length after) pasts (omega (arith, same))) ∙ ap (take count) (append-nil after) ∙ take_all count after (omega (arith, same, few))
-
-pub asked_length : (tops sends firsts : List (Option ℕ)) (p : ℕ) (e : Entry) (n : ℕ) (pasts after : List Past) (answer : Bool) → HasAsked tops sends firsts p e n pasts after answer → length after ≡ length pasts
-asked_length tops sends firsts p e n pasts after answer (other differ same is_false) = ap length same
-asked_length tops sends firsts p e n pasts after answer (none head same is_false) = ap length same
-asked_length tops sends firsts p e n pasts after answer (asked i s own one at head has) = ap length has.pasts_are ∙ length-set pasts i has.past

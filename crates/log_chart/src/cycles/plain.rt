@@ -58,8 +58,7 @@ impl Lanes {
         let sender = entry_of(&self.senders, entry.stream);
         if receiver_of(entry) == first.host {
             let number = sender_of(entry).number();
-            is_number(sender, number)
-                && is_number(entry_of(&self.streams, number), entry.stream)
+            is_number(sender, number) && is_number(entry_of(&self.streams, number), entry.stream)
         } else {
             sender.is_none()
         }

@@ -4,7 +4,8 @@ use Rattle.log_chart.specs.Cycles.Sources.{AreLines, AreSources}
 use Rattle.log_chart.specs.Cycles.Turns.{apart, left_before, HasAsked}
 use Rattle.log_chart.specs.declared.cycles.past.Past.{Past}
 use Rattle.log_chart.proofs.CyclesLemmas.SettleLemmas.{kept_are, freed_length}
-use Rattle.log_chart.proofs.CyclesLemmas.WalkLemmas.{ready, walk_begins, walk_freed, walk_passed, apart_lines, put_back, asked_length}
+use Rattle.log_chart.proofs.CyclesLemmas.WalkLemmas.{ready, walk_begins, walk_freed, walk_passed, apart_lines}
+use Rattle.log_chart.proofs.CyclesLemmas.AskedLemmas.{put_back, asked_length}
 use Rattle.log_chart.proofs.cycles.turns.free_along.Goals.{then-branch, else-branch}
 use Rattle.log_chart.proofs.cycles.turns.free_along.Goals as goal
 
@@ -41,8 +42,8 @@ is_on_cycle-requires-clause-ready c =
     subst (λ m. AreSources others m tops sends) (sym whole) (subst (λ l. AreSources l (length log) tops sends) c.deref-2.ensures.value c.in_ok-sources.ensures) in
     let within : c.loop-place.place < length c.loop-place.log = omega (arith, c.loop-place-test.true, ap length c.free.ensures, freed_length c.args.number log, whole) in
     λ i s x i_in is_own one at head x_is.
-        ready log c.loop-place.log c.args.first.now others tops sends c.loop-place.left.first.items c.loop-place.left.next.items c.loop-place.pasts.items c.loop-place.place c.loop-place.invariant numbered sources
-        c.index-log-place.result within (sym c.index-log-place.is) i s x (omega (arith, i_in, ap length c.deref_mut.ensures.value)) is_own one at head (x_is ∙ ap (λ (l : List Past). get_or l i x) c.deref_mut.ensures.value)
+    ready log c.loop-place.log c.args.first.now others tops sends c.loop-place.left.first.items c.loop-place.left.next.items c.loop-place.pasts.items c.loop-place.place c.loop-place.invariant numbered sources
+    c.index-log-place.result within (sym c.index-log-place.is) i s x (omega (arith, i_in, ap length c.deref_mut.ensures.value)) is_own one at head (x_is ∙ ap (λ (l : List Past). get_or l i x) c.deref_mut.ensures.value)
 
 pub loop-place-preserved : goal.loop-place-preserved
 loop-place-preserved c =
