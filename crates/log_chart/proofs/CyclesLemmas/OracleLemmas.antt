@@ -1,7 +1,7 @@
 -- A receive is on a cycle exactly if it comes before the send that it takes over the lines of other hosts, where no
 -- receive of its host above it is on a cycle.
-use Rattle.std.proofs.Common.{◌≡◌, ℕ, ◌<◌, ◌≤◌, ◌⊎◌, inl, inr, List, Option, None, Some, length, get_or, refl, sym, ap, ◌∙◌, subst, arith}
-use Rattle.std.specs.Prelude.{Contains}
+use Rattle.std.proofs.Common.{◌≡◌, ℕ, zero, suc, ◌<◌, ◌≤◌, ◌⊎◌, inl, inr, List, [], ◌∷◌, Option, None, Some, length, get_or, refl, sym, ap, ◌∙◌, subst, arith}
+use Rattle.std.specs.Prelude.{Contains, map}
 use Rattle.std.proofs.lemmas.Bool.{cases_eq, cases_lt, cases_order}
 use Rattle.std.proofs.lemmas.List.{get_or_default}
 use Rattle.log_chart.specs.declared.matching.LogLine.{LogLine}
@@ -9,7 +9,9 @@ use Rattle.log_chart.specs.Cycles.Order.{Follows, Comes}
 use Rattle.log_chart.specs.Cycles.Order.Follows.{host, message}
 use Rattle.log_chart.specs.Cycles.Order.Comes.{direct, through}
 use Rattle.log_chart.specs.Cycles.Sources.{AreLines}
+use Rattle.log_chart.specs.Cycles.Turns.{apart}
 use Rattle.log_chart.proofs.CyclesLemmas.SourceLemmas.{rises}
+use Rattle.log_chart.proofs.CyclesLemmas.FreedLemmas.{first_in, later_in}
 
 -- there is one line of each number
 pub one_line : (n : ℕ) (lines : List LogLine) → AreLines n lines → (x y : LogLine) → Contains lines x → Contains lines y → x.number ≡ y.number → x ≡ y
@@ -115,3 +117,14 @@ module _ (p n : ℕ) (others lines : List LogLine) (numbered : AreLines n others
         let u = stripped.back r has_r in
         let its = own_only r.number r.number (reach r.number r.number cycle (inl refl)) u.0 u.1 u.2.number (u.2.host ∙ own_r) in
         omega (arith, its.0)
+
+-- the lines without the sends of a place have the lines that they are of
+pub map_back : (p : ℕ) (lines : List LogLine) (u : LogLine) → Contains (map (apart p) lines) u → (x : LogLine) × Contains lines x × (apart p x ≡ u)
+map_back p [] u has = absurd (omega (arith, has.1))
+map_back p (x ∷ lines) u (zero, less, is) = (x, first_in x lines, is)
+map_back p (x ∷ lines) u (suc i, less, is) = let w = map_back p lines u (i, omega (arith, less), is) in (w.0, later_in x w.0 lines w.1, w.2)
+
+pub map_in : (p : ℕ) (lines : List LogLine) (x : LogLine) → Contains lines x → Contains (map (apart p) lines) (apart p x)
+map_in p [] x has = absurd (omega (arith, has.1))
+map_in p (y ∷ lines) x (zero, less, is) = (zero, omega arith, ap (apart p) is)
+map_in p (y ∷ lines) x (suc i, less, is) = later_in _ _ _ (map_in p lines x (i, omega (arith, less), is))

@@ -29,9 +29,8 @@ use Rattle.log_chart.proofs.RisingLists.{below_has}
 use Rattle.log_chart.proofs.TakenLanes.{first_has, took, after_has}
 use Rattle.log_chart.proofs.MatchingLemmas.{left_more}
 use Rattle.log_chart.proofs.ChainLemmas.{chains_same}
-use Rattle.log_chart.proofs.CyclesLemmas.FreedLemmas.{first_in, later_in}
 use Rattle.log_chart.proofs.CyclesLemmas.KeptLemmas.{filter_in, in_filter, stays_before}
-use Rattle.log_chart.proofs.CyclesLemmas.OracleLemmas.{IsStripped, AreStripped, comes_lines, off_cycle}
+use Rattle.log_chart.proofs.CyclesLemmas.OracleLemmas.{IsStripped, AreStripped, map_back, map_in, comes_lines, off_cycle}
 use Rattle.log_chart.proofs.CyclesLemmas.PlainLemmas.{IsAlone}
 use Rattle.log_chart.proofs.CyclesLemmas.SearchLemmas.{past_all}
 use Rattle.log_chart.proofs.CyclesLemmas.SettleLemmas.{takes_no_send, kept_all, kept_are, first_takes, freed_less, freed_length}
@@ -305,16 +304,6 @@ module _ (initial log : List Entry) (first : Entry) (others : List LogLine) (top
       clear (asked i s own one at head has) x x_in named x_at t takes_t cycle = not_found own one i s after answer fails at head has x x_in x_at t takes_t cycle
 
 -- the lines of which those of a host take no send
-map_back : (p : ℕ) (lines : List LogLine) (u : LogLine) → Contains (map (apart p) lines) u → (x : LogLine) × Contains lines x × (apart p x ≡ u)
-map_back p [] u has = absurd (omega (arith, has.1))
-map_back p (x ∷ lines) u (zero, less, is) = (x, first_in x lines, is)
-map_back p (x ∷ lines) u (suc i, less, is) = let w = map_back p lines u (i, omega (arith, less), is) in (w.0, later_in x w.0 lines w.1, w.2)
-
-map_in : (p : ℕ) (lines : List LogLine) (x : LogLine) → Contains lines x → Contains (map (apart p) lines) (apart p x)
-map_in p [] x has = absurd (omega (arith, has.1))
-map_in p (y ∷ lines) x (zero, less, is) = (zero, omega arith, ap (apart p) is)
-map_in p (y ∷ lines) x (suc i, less, is) = later_in _ _ _ (map_in p lines x (i, omega (arith, less), is))
-
 apart_stripped : (p : ℕ) (x : LogLine) → IsStripped p (apart p x) x
 apart_stripped p x = go (x.entry.host == p) refl
   where
