@@ -178,7 +178,8 @@ tell_hosts() {
   local refusal=$1 program=$2 text again kind host peer
   shift 2
   text=$(printf '%s\n' "${of_hosts[@]}")
-  if [[ $refusal == 'refused: F52 '* || $text != *', which no line names as a peer: --peer '* ]] && { [[ -t 2 ]] || is_short_import "$@"; }; then
+  if [[ $refusal == 'refused: F52 '* || $text != *', which no line names as a peer: --peer '* ]] &&
+    { [[ -t 2 ]] || is_short_import "$@"; }; then
     ! again=$(import_again '' "$program" "$@" 2>&1) || text=$again
   fi
   while IFS= read -r kind && IFS= read -r host && IFS= read -r peer; do
