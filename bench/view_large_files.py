@@ -1,6 +1,6 @@
 """Times three commands of mscview with large files, and with files half as large, which take turns: each time is the
-median of five runs, with what is written thrown away, and each ratio the median of those of the turns. A second program,
-another mscview, takes turns too, with the larger files.
+median of five runs, with what is written thrown away, and each ratio the median of those of the turns. Another mscview
+takes turns too, with the larger files.
 
 explain reads a schedule of two instances with 60,000 commands that do nothing: receives of what its last line sends.
 compare reads two recordings of 32 instances with 4,096 events each. Each instance sends to two others and receives
