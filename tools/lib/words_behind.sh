@@ -1,5 +1,5 @@
 # shellcheck shell=bash
-# Read beside front.sh: words behind refusals, of command lines, of names and of texts. They use what front.sh defines.
+# Read beside front.sh: words behind refusals, of command lines and of texts. They use what front.sh defines.
 
 # The value of an option among the words of a command line, or nothing.
 value_among() {
