@@ -319,7 +319,7 @@ add_words() {
   elif [[ $status == 2 && $name == mscview && $said =~ ^'refused: F'(31 NoSuchEvent$|40 ) ]]; then
     tell_instances "$said" "$program" "$@" >&2
   elif [[ $name == mscview && -n $lineless && ($status != 2 || $refusal == 'refused: F52 '*) ]]; then
-    tell_hosts "$refusal" "$program" "$@" >&2
+    tell_hosts "$program" "$@" >&2
   elif [[ $status == 2 && $name == mscview && -t 2 ]]; then
     tell_missing "$said" >&2
   elif [[ $status != 2 && $name == mscview && $said =~ ' of the schedule did nothing, ' && -t 2 ]]; then

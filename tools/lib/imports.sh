@@ -140,21 +140,23 @@ show_place() (
 # Of what import writes of a log, its chart and its warnings, three lines for each two words that may be for one host: `alike`,
 # where the names of the warning aren't the words of the log, or `alone`, the word of a host that has lines of its own and that
 # no line names, and the word of a peer. Alone are those that are the only ones of their kind, if the host's lines don't name it.
-# A word is left out where a warning can't show each of its bytes.
+# Nothing is told of a word of which a warning can't show each byte, or where one `name` may be of a host or of a message.
 words_for_one_host() {
   LC_ALL=C awk '
     function own(name) { return name in word ? word[name] : name }
+    function is_unclear(name) { return name in message && has_word[name] == 1 }
     function tell(kind, host, peer) {
       if (index(own(host), "=") || index(own(peer), ",") || own(host) own(peer) ~ /[?\\]/) return
+      if (is_unclear(host) || is_unclear(peer)) return
       print kind; print own(host); print own(peer)
     }
     function begun(text) { sub(/;$/, "", text); return text }
     / has no line of its own$/ { lineless[$1] = 1 }
     /^[^ ]+ may be [^ ]+, which no line names as a peer: --peer / { alike[++many] = $1; hosts[many] = $4; sub(/,$/, "", hosts[many]) }
-    /^name [^ ]+ is "/ { if (!($2 in word)) word[$2] = substr($0, length($2) + 11, length($0) - length($2) - 11) }
+    /^name [^ ]+ is "/ { if (!has_word[$2]++) word[$2] = substr($0, length($2) + 11, length($0) - length($2) - 11) }
     /^[^ ]+ [0-9]+ is invented: / { invented[$1, $2] = 1 }
     /^instance [^ ]+;$/ { line[++lines] = begun($2); events = 0 }
-    /^(out|in) [^ ]+ (to|from) [^ ]+;$/ { events++; event[++all] = line[lines] SUBSEP events; partner[all] = begun($4) }
+    /^(out|in) [^ ]+ (to|from) [^ ]+;$/ { events++; message[$2]; event[++all] = line[lines] SUBSEP events; partner[all] = begun($4) }
     END {
       for (at = 1; at <= many; at++)
         if (own(alike[at]) != alike[at] || own(hosts[at]) != hosts[at]) tell("alike", hosts[at], alike[at])
@@ -172,14 +174,13 @@ words_for_one_host() {
     }'
 }
 
-# Tells of a log, of which some warnings are `of_hosts`, which of its words may be for one host. Where these warnings don't say it,
-# import reads the log once more, if it is short or on a terminal.
+# Tells of a log, of which some warnings are `of_hosts`, which of its words may be for one host. Import reads it once more, if it
+# is short or on a terminal; else there are only these warnings.
 tell_hosts() {
-  local refusal=$1 program=$2 text again kind host peer
-  shift 2
+  local program=$1 text again kind host peer
+  shift
   text=$(printf '%s\n' "${of_hosts[@]}")
-  if [[ $refusal == 'refused: F52 '* || $text != *', which no line names as a peer: --peer '* ]] &&
-    { [[ -t 2 ]] || is_short_import "$@"; }; then
+  if [[ -t 2 ]] || is_short_import "$@"; then
     ! again=$(import_again '' "$program" "$@" 2>&1) || text=$again
   fi
   while IFS= read -r kind && IFS= read -r host && IFS= read -r peer; do
