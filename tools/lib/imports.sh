@@ -81,11 +81,12 @@ names_of() {
 # Tells what is wrong with the names of a refused command line: which one --only or --join has twice, or which instances there are.
 tell_names() {
   local program=$1 option=--only left_out='' name
-  local -a there=()
+  local -a there=() options files
   local -A given=()
   shift
   # (the names of --join are looked up first)
-  if [[ " $*" == *' --join'[\ =]* ]] && { [[ $1 == import ]] || ! import_again '' "$program" "$@" >/dev/null 2>&1; }; then
+  if [[ " $*" == *' --join'[\ =]* ]] &&
+    { [[ $1 == import ]] || { sort_import '' "$@" && ! import_again '' "$program" "$@" >/dev/null 2>&1; }; }; then
     option=--join left_out=--join
   fi
   while IFS= read -r name; do
@@ -129,7 +130,7 @@ show_place() (
     before=..$before
   fi
   if ((${#behind} > 40)); then
-    while [[ ${behind:cut:1} == $continues ]]; do cut=$((cut - 1)); done
+    while [[ ${behind:cut} == $continues* ]]; do cut=$((cut - 1)); done
     behind=${behind:0:cut}..
   fi
   before=${before//[[:cntrl:]]/ } behind=${behind//[[:cntrl:]]/ }
