@@ -1,7 +1,7 @@
 # shellcheck shell=bash
 # Read by ./mscrun and ./mscview, and by what ./install puts into PREFIX/bin. They set `usages` to the folder with the usage
 # texts and `version` to the file with the version, and define `at_once`, whether the program of a name answers at once. They
-# read spent_turns.sh, words_behind.sh and reasons.sh too. They call `answer` with the program's name, a command that runs the
+# read spent_turns.sh, words_behind.sh, reasons.sh and imports.sh too. They call `answer` with the program's name, a command that runs the
 # program of a name with words, and the words of the command line.
 
 # Whether the words ask for help.
@@ -74,11 +74,12 @@ parts_of_usage() {
 }
 
 # Runs these words, and passes on what they say on standard error as it comes. `said` is its last line then, and `refused`
-# that of a refusal, which may have further lines behind it.
+# that of a refusal, which may have further lines behind it. `of_hosts` are the warnings about names and hosts of a log, and
+# `lineless` is set where one of them is about a host without lines.
 passing_on() {
   local line open=
   shopt -s lastpipe
-  said='' refused=''
+  said='' refused='' lineless='' of_hosts=()
   # (standard output may be closed, and is to be so for the program)
   ! { exec 3>&1; } 2>/dev/null || open=1
   if [[ -n $open ]]; then
@@ -88,7 +89,11 @@ passing_on() {
   fi | while IFS= read -r line || [[ -n $line ]]; do
     printf '%s\n' "$line" >&2
     said=$line
-    [[ $line != 'refused: '* ]] || refused=$line
+    case $line in
+      'refused: '*) refused=$line ;;
+      *' has no line of its own') lineless=1 of_hosts+=("$line") ;;
+      'name '* | *', which no line names as a peer: --peer '*) of_hosts+=("$line") ;;
+    esac
   done
   return "${PIPESTATUS[0]}"
 }
@@ -295,12 +300,40 @@ tell_usage() {
   [[ $hint == "$name has no command "* ]] || usage_of "$name" "$2"
 }
 
-# Answers the words of a command line: the usage and the version where it asks for them, which takes no program. What the
-# program refuses as a command line has behind it why, and the usage. What it refuses as a text has what to try, and on a terminal
-# a file that can't be read its name. There is also told what says why commands of a schedule did nothing, and what instances on
-# threads waited for.
+# Adds to what a program has answered, a status with a refusal or another last line, what is known of it. What is refused as a
+# command line has behind it why, and the usage; as a text, what to try; and on a terminal a file that can't be read its name.
+# There is also told what says why commands of a schedule did nothing, and what instances on threads waited for.
+add_words() {
+  local name=$1 program=$2 status=$3 refusal=${refused:-$said}
+  shift 3
+  if [[ $status == 2 && $said == 'refused: G1 Usage' ]]; then
+    tell_usage "$name" "$@" >&2
+  elif [[ $status == 2 && $said == 'refused: G2 File' && -t 2 ]]; then
+    tell_unread "$@"
+  elif [[ $status == 2 ]] && refuses_text "$refusal "; then
+    tell_what_to_try "$name" "$program" "$refusal " "$@"
+  elif [[ $status == 2 && $name == mscview && $said == 'refused: F34 NoSuchName' ]]; then
+    tell_names "$program" "$@" >&2
+  elif [[ $status == 2 && $name == mscview && $refusal =~ ^'refused: F39 BadPattern '([0-9]+)$ ]]; then
+    show_place "$(value_among --pattern "$@")" "${BASH_REMATCH[1]}" >&2
+  elif [[ $status == 2 && $name == mscview && $said =~ ^'refused: F'(31 NoSuchEvent$|40 ) ]]; then
+    tell_instances "$said" "$program" "$@" >&2
+  elif [[ $name == mscview && -n $lineless && ($status != 2 || $refusal == 'refused: F52 '*) ]]; then
+    tell_hosts "$program" "$@" >&2
+  elif [[ $status == 2 && $name == mscview && -t 2 ]]; then
+    tell_missing "$said" >&2
+  elif [[ $status != 2 && $name == mscview && $said =~ ' of the schedule did nothing, ' && -t 2 ]]; then
+    tell_notes "$@"
+  elif [[ $status != 2 && -n $kept ]]; then
+    tell_spent "$kept" "$@" >&2 2>/dev/null
+  fi
+}
+
+# Answers the words of a command line: the usage and the version where it asks for them, which takes no program, and else what
+# the program answers, with what is known of it.
 answer() {
-  local name=$1 program=$2 status said refused='' kept=''
+  local name=$1 program=$2 status said refused='' lineless='' kept=''
+  local -a of_hosts=()
   shift 2
   if asks_for_help "$@"; then
     usage_of "$name" "$([[ ${1-} == help ]] && echo "${2-}" || echo "${1-}")"
@@ -316,22 +349,6 @@ answer() {
   fi
   if is_kept "$name" "$@"; then runs_kept "$program" "$name" "$@"; else runs "$program" "$name" "$@"; fi
   status=$?
-  if [[ $status == 2 && $said == 'refused: G1 Usage' ]]; then
-    tell_usage "$name" "$@" >&2
-  elif [[ $status == 2 && $said == 'refused: G2 File' && -t 2 ]]; then
-    tell_unread "$@"
-  elif [[ $status == 2 ]] && refuses_text "${refused:-$said} "; then
-    tell_what_to_try "$name" "$program" "${refused:-$said} " "$@"
-  elif [[ $status == 2 && $name == mscview && $said == 'refused: F34 NoSuchName' ]]; then
-    tell_names "$program" "$@" >&2
-  elif [[ $status == 2 && $name == mscview && $said =~ ^'refused: F'(31 NoSuchEvent$|40 ) ]]; then
-    tell_instances "$said" "$program" "$@" >&2
-  elif [[ $status == 2 && $name == mscview && -t 2 ]]; then
-    tell_missing "$said" >&2
-  elif [[ $status != 2 && $name == mscview && $said =~ ' of the schedule did nothing, ' && -t 2 ]]; then
-    tell_notes "$@"
-  elif [[ $status != 2 && -n $kept ]]; then
-    tell_spent "$kept" "$@" >&2 2>/dev/null
-  fi
+  add_words "$name" "$program" "$status" "$@"
   return "$status"
 }

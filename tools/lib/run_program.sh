@@ -5,6 +5,7 @@
 . "$root/tools/lib/spent_turns.sh"
 . "$root/tools/lib/words_behind.sh"
 . "$root/tools/lib/reasons.sh"
+. "$root/tools/lib/imports.sh"
 . "$root/tools/lib/linked_kit.sh"
 . "$root/tools/lib/kit.sh"
 . "$root/tools/lib/about.sh"

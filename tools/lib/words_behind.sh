@@ -1,5 +1,5 @@
 # shellcheck shell=bash
-# Read beside front.sh: words behind refusals, of command lines, of names and of texts. They use what front.sh defines.
+# Read beside front.sh: words behind refusals, of command lines and of texts. They use what front.sh defines.
 
 # The value of an option among the words of a command line, or nothing.
 value_among() {
@@ -117,51 +117,6 @@ tell_taken() {
     before_that=$earlier earlier=$before before=$word
   done
   return 1
-}
-
-# The instances of a file, which is a schedule or a chart, one on each line; nothing where mscview doesn't answer at once.
-instances_of() {
-  local program=$1 file=$2
-  [[ -z $file ]] || ! at_once mscview || "$program" mscview tidy "$file" 2>/dev/null </dev/null | awk '
-    /^instances / { for (at = 2; at <= NF; at++) print $at; exit }
-    /^instance [^ ]+;$/ { sub(/;$/, "", $2); print $2 }'
-}
-
-# Tells what is wrong with the names of a refused command line: which one --only has twice, or which instances the file has.
-tell_names() {
-  local program=$1 name file
-  local -a names=() there=()
-  local -A given=()
-  shift
-  IFS=, read -ra names <<<"$(value_among --only "$@")"
-  for name in "${names[@]}"; do
-    if [[ -n ${given["x$name"]-} ]]; then
-      echo "--only has $(quoted "$name") twice"
-      return
-    fi
-    given["x$name"]=1
-  done
-  file=$(file_among "$@") || file=
-  [[ " $*" == *' --from'[\ =]* ]] || mapfile -t there < <(instances_of "$program" "$file")
-  if ((${#there[@]} > 0)); then
-    echo "the instances are $(listed and "${there[@]}")"
-  else
-    echo 'each name has to be that of an instance, and is given once'
-  fi
-}
-
-# Tells that a file has no such instance, and which it has, or that only one of two files has an instance.
-tell_instances() {
-  local refusal=$1 program=$2 file
-  local -a there=()
-  shift 2
-  if [[ $refusal == 'refused: F40 '* ]]; then
-    echo "only one of the two recordings has this instance"
-    return
-  fi
-  file=$(file_among "$@") || file=
-  [[ " $*" == *' --from'[\ =]* ]] || mapfile -t there < <(instances_of "$program" "$file")
-  echo "the chart has no instance of this name${there[0]+: the instances are $(listed and "${there[@]}")}"
 }
 
 # Tells on a terminal which event or pair a refusal is about.
