@@ -86,7 +86,7 @@ tell_edits() {
     tried=$(grep -cE '^(held|FAILED|left) ' "$file")
     all=$((written - $(awk '/^rests / { edits += $3 } END { print edits + 0 }' "$file")))
     over=$((SECONDS - began))
-    ((10 * tried < all)) || expected_part[edits]=$((over * all / tried))
+    ((tried == 0 || 10 * tried < all)) || expected_part[edits]=$((over * all / tried))
     echo "edits: $tried of $all after $(clock "$over"); $(about "$(seconds_left edits "$over")") left for all"
   done
 }

@@ -150,8 +150,8 @@ impl Clock {
         Ok(diff)
     }
 
-    /// Makes `diff` the difference that [`Clock::diff_from`] returns, in place. Its old changes are dropped, even if it
-    /// is refused.
+    /// Makes `diff` the difference that [`Clock::diff_from`] returns, in place. If it is refused, `diff` may have any
+    /// changes.
     ///
     /// F6: it fails only if there is no memory for more than [`INLINE_ENTRIES`] changes. With fewer it takes none: for
     /// up to this many instances, and if only one entry differs.
@@ -169,7 +169,7 @@ impl Clock {
     }
 
     /// Makes `diff` the difference that [`Clock::diff_from`] returns, as [`Clock::diff_into`] does, and `base` this
-    /// clock, in one pass. If it is refused, `base` is unchanged, and the old changes of `diff` are dropped.
+    /// clock, in one pass. If it is refused, `base` is unchanged, and `diff` may have any changes.
     ///
     /// F6: it fails when [`Clock::diff_into`] does.
     #[inline(always)]

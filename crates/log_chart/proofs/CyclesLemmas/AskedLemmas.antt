@@ -1,5 +1,5 @@
 -- What a question about a cycle leaves of the searches that it was given.
-use Rattle.std.proofs.Common.{◌≡◌, ℕ, ◌≤◌, Bool, List, Option, length, set, ap, ◌∙◌, arith, take, take_all, drop, ◌++◌}
+use Rattle.std.proofs.Common.{◌≡◌, ℕ, ◌≤◌, Bool, List, Option, length, ap, ◌∙◌, arith, take, take_all, drop, ◌++◌}
 use Rattle.std.proofs.lemmas.List.{length-set, drop_all, append-nil}
 use Rattle.log_chart.specs.declared.cycles.past.Past.{Past}
 use Rattle.log_chart.specs.declared.entry.Entry.{Entry}

@@ -5,10 +5,8 @@ use Rattle.std.proofs.lemmas.Bool.{eqb-false, ne_eqb, eq-eqb, false≢true}
 use Rattle.log_chart.specs.Chains.{first_of}
 use Rattle.log_chart.specs.Entries.{is_send, takes}
 use Rattle.log_chart.specs.Fates.{sender_of, receiver_of}
-use Rattle.log_chart.specs.Matching.{sends_from, send_for, left_after, matched_from}
+use Rattle.log_chart.specs.Matching.{send_for, left_after, matched_from}
 use Rattle.log_chart.specs.declared.entry.Entry.{Entry}
-use Rattle.log_chart.specs.declared.entry.Kind.{Kind}
-use Rattle.log_chart.specs.declared.entry.Kind.TheVariants.{Send, Receive, Freed}
 use Rattle.log_chart.specs.declared.matching.LogLine.{LogLine}
 use Rattle.log_chart.specs.Cycles.Freeing.{freed}
 use Rattle.log_chart.proofs.TakenLanes.{AreLeft, AreStreams, left_then, first_has, took, sends_nothing}

@@ -1,13 +1,13 @@
 -- The lines that stay after a receive of a lane with one stream is freed: the same lines.
-use Rattle.std.proofs.Common.{◌≡◌, ℕ, zero, suc, ◌+◌, ◌<◌, ◌≤◌, ◌==◌, ◌&&◌, ◌⊎◌, inl, inr, Bool, true, false, cond, List, [], ◌∷◌, Option, None, Some, length, filter, get_or, refl, sym, ap, ap₂, ◌∙◌, subst, arith, add-one, eqb-true}
+use Rattle.std.proofs.Common.{◌≡◌, ℕ, zero, suc, ◌+◌, ◌<◌, ◌≤◌, ◌==◌, ◌&&◌, ◌⊎◌, inl, inr, Bool, true, false, cond, List, [], ◌∷◌, Option, None, Some, length, filter, get_or, refl, sym, ap, ap₂, ◌∙◌, subst, arith, eqb-true}
 use Rattle.std.specs.Prelude.{All, Contains, unwrap_or}
-use Rattle.std.proofs.lemmas.Bool.{eqb-false, ne_eqb, eq-eqb, false≢true, and_parts}
+use Rattle.std.proofs.lemmas.Bool.{eqb-false, ne_eqb, false≢true, and_parts}
 use Rattle.std.proofs.lemmas.List.Elements.{All-head, All-tail, All-nil, All-cons, All-contains}
 use Rattle.log_chart.specs.BegunTables.{IsRising}
 use Rattle.log_chart.specs.Entries.{is_send, takes}
 use Rattle.log_chart.specs.Fates.{sender_of, receiver_of, is_on, earlier, later_one, first_sent, last_sent, overtaking, is_sent_at, message_fate, unreceived, receive_fate, fate_of, stays}
 use Rattle.log_chart.specs.HostLines.{kept}
-use Rattle.log_chart.specs.Matching.{sends_from, send_for, left_after, matched_from, matched}
+use Rattle.log_chart.specs.Matching.{sends_from, left_after, matched_from, matched}
 use Rattle.log_chart.specs.declared.entry.Entry.{Entry}
 use Rattle.log_chart.specs.declared.fate.Fate.TheVariants.{Stays}
 use Rattle.log_chart.specs.declared.entry.Kind.TheVariants.{Freed}

@@ -1,16 +1,16 @@
 -- A lane with one stream, which no other lane has: each of its lines stays.
-use Rattle.std.proofs.Common.{◌≡◌, ℕ, zero, suc, ◌+◌, ◌<◌, ◌≤◌, ◌==◌, ◌&&◌, ◌⊎◌, inl, inr, Bool, true, false, cond, List, [], ◌∷◌, Option, None, Some, length, drop, get_or, refl, sym, ap, ap₂, ◌∙◌, subst, arith, eqb-true}
-use Rattle.std.specs.Prelude.{All, Contains, nat_lt, min, max, unwrap_or}
-use Rattle.std.proofs.lemmas.Bool.{eqb-false, ne_eqb, eq-eqb, false≢true, and_parts, and_from, le-ltb}
+use Rattle.std.proofs.Common.{◌≡◌, ℕ, zero, suc, ◌+◌, ◌≤◌, ◌==◌, ◌&&◌, ◌⊎◌, inl, inr, Bool, true, false, cond, List, [], ◌∷◌, Option, None, Some, drop, refl, sym, ap, ap₂, ◌∙◌, subst, arith, eqb-true}
+use Rattle.std.specs.Prelude.{All, Contains, unwrap_or}
+use Rattle.std.proofs.lemmas.Bool.{ne_eqb, eq-eqb, false≢true, and_parts, and_from, le-ltb}
 use Rattle.std.proofs.lemmas.List.Elements.{All-head, All-tail}
 use Rattle.log_chart.specs.BegunTables.{IsRising}
 use Rattle.log_chart.specs.Chains.{IsBelow, first_of}
 use Rattle.log_chart.specs.Entries.{is_send, takes}
-use Rattle.log_chart.specs.Fates.{sender_of, receiver_of, is_on, earlier, later_one, first_sent, last_sent, overtaking, is_sent_at, message_fate, unreceived, receive_fate, fate_of, stays}
+use Rattle.log_chart.specs.Fates.{sender_of, receiver_of, earlier, later_one, first_sent, last_sent, overtaking, is_sent_at, message_fate, unreceived, receive_fate, fate_of, stays}
 use Rattle.log_chart.specs.Matching.{sends_from, send_for, left_after, matched_from}
 use Rattle.log_chart.specs.declared.entry.Entry.{Entry}
 use Rattle.log_chart.specs.declared.fate.Fate.{Fate}
-use Rattle.log_chart.specs.declared.fate.Fate.TheVariants.{Stays, Lost, Overtakes}
+use Rattle.log_chart.specs.declared.fate.Fate.TheVariants.{Stays}
 use Rattle.log_chart.specs.declared.matching.LogLine.{LogLine}
 use Rattle.log_chart.proofs.LaneLists.{Has}
 use Rattle.log_chart.proofs.RisingLists.{below_has}

@@ -1,5 +1,5 @@
 -- One turn after another along the lines of a host, each of whose lanes has one stream.
-use Rattle.std.proofs.Common.{◌≡◌, ℕ, zero, suc, ◌+◌, ◌<◌, ◌≤◌, ◌==◌, ◌&&◌, ◌⊎◌, inl, inr, Bool, true, false, cond, List, [], ◌∷◌, Option, None, Some, length, take, drop, get_or, refl, sym, ap, ap₂, ◌∙◌, subst, arith, add-one}
+use Rattle.std.proofs.Common.{◌≡◌, ℕ, zero, suc, ◌+◌, ◌<◌, ◌==◌, ◌&&◌, ◌⊎◌, inl, inr, Bool, true, false, cond, List, [], ◌∷◌, Option, None, Some, length, take, drop, get_or, refl, sym, ap, ap₂, ◌∙◌, subst, arith, add-one}
 use Rattle.std.specs.Prelude.{All, Contains, fold}
 use Rattle.std.specs.Cmp.Lexicographic.{slice_cmp}
 use Rattle.std.specs.Ordering.{nat_cmp, ordering_then, is_lt}
@@ -7,15 +7,12 @@ use Rattle.std.specs.declared.cmp.Ordering.{Ordering}
 use Rattle.std.specs.declared.cmp.Ordering.TheVariants.{Less, Equal, Greater}
 use Rattle.std.proofs.lemmas.Bool.{cases_eq, false≢true, eqb-true}
 use Rattle.std.proofs.lemmas.Cmp.{nat_list_cmp_total, tied_itself}
-use Rattle.std.proofs.lemmas.List.{get_or_default}
 use Rattle.std.proofs.lemmas.List.Elements.{All-contains, All-get_or, All-weaker}
-use Rattle.log_chart.specs.Chains.{first_of}
 use Rattle.log_chart.specs.Entries.{is_send, takes, HaveStreams}
-use Rattle.log_chart.specs.Fates.{sender_of, receiver_of, fate_of, stays}
+use Rattle.log_chart.specs.Fates.{sender_of, receiver_of}
 use Rattle.log_chart.specs.HostLines.{kept}
 use Rattle.log_chart.specs.Matching.{sends_from, send_for, left_after, matched_from, matched}
 use Rattle.log_chart.specs.declared.entry.Entry.{Entry}
-use Rattle.log_chart.specs.declared.entry.Kind.{Kind}
 use Rattle.log_chart.specs.declared.entry.Kind.TheVariants.{Freed}
 use Rattle.log_chart.specs.declared.matching.LogLine.{LogLine}
 use Rattle.log_chart.specs.Cycles.Freeing.{IsOnCycle, is_sooner, IsFirst, freed, Settles, AreAmong}
@@ -23,17 +20,15 @@ use Rattle.log_chart.specs.Cycles.Freeing.Settles.{turn}
 use Rattle.log_chart.specs.Cycles.Order.{Follows, Comes}
 use Rattle.log_chart.specs.Cycles.Order.Follows.{host, message}
 use Rattle.log_chart.specs.Cycles.Order.Comes.{direct, through}
-use Rattle.log_chart.specs.Cycles.Sources.{AreLines}
 use Rattle.log_chart.specs.Cycles.Turns.{IsPlainLine, left_before}
 use Rattle.log_chart.proofs.LaneLists.{Has}
-use Rattle.log_chart.proofs.RisingLists.{below_has}
 use Rattle.log_chart.proofs.TakenLanes.{AreLeft, left_then, all_left, after_has, stream_at}
-use Rattle.log_chart.proofs.CyclesLemmas.FreedLemmas.{first_in, later_in}
+use Rattle.log_chart.proofs.CyclesLemmas.FreedLemmas.{later_in}
 use Rattle.log_chart.proofs.CyclesLemmas.HandedLemmas.{less_number, number_less, same_name}
-use Rattle.log_chart.proofs.CyclesLemmas.KeptLemmas.{IsLeft, IsEarlier, filter_in, in_filter, freed_sends, stays_before, left_to, left_back}
-use Rattle.log_chart.proofs.CyclesLemmas.OracleLemmas.{IsStripped, AreStripped, comes_lines, off_cycle}
+use Rattle.log_chart.proofs.CyclesLemmas.KeptLemmas.{IsLeft, freed_sends, left_to, left_back}
+use Rattle.log_chart.proofs.CyclesLemmas.OracleLemmas.{IsStripped, AreStripped}
 use Rattle.log_chart.proofs.CyclesLemmas.PlainLemmas.{IsAlone}
-use Rattle.log_chart.proofs.CyclesLemmas.SettleLemmas.{IsLineOf, takes_no_send, freed_one, freed_streams, freed_among, freed_length, kept_lines_of, kept_all, kept_are}
+use Rattle.log_chart.proofs.CyclesLemmas.SettleLemmas.{IsLineOf, takes_no_send, freed_one, freed_streams, freed_among, freed_length, kept_lines_of, kept_all}
 
 -- a line with this number and the host's name
 abbrev pub place_line : Entry → ℕ → LogLine

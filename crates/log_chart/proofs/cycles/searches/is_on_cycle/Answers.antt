@@ -1,7 +1,6 @@
-use Rattle.std.proofs.Common.{rules, ◌≡◌, ◌<◌, true, Some, length, get_or, refl, sym, ap, ◌∙◌, arith}
+use Rattle.std.proofs.Common.{rules, ◌≡◌, ◌<◌, true, length, get_or, refl, sym, ap, ◌∙◌, arith}
 use Rattle.std.proofs.lemmas.List.{get_or_default}
 use Rattle.log_chart.specs.Entries.{takes}
-use Rattle.log_chart.specs.Cycles.Turns.{IsReady}
 use Rattle.log_chart.specs.Cycles.Turns.HasAsked.{asked}
 use Rattle.log_chart.specs.declared.cycles.past.Past.{Past}
 use Rattle.log_chart.proofs.cycles.searches.is_on_cycle.Goals as goal
