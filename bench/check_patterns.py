@@ -1,7 +1,7 @@
-"""Times mscrun's check and mscview's draw of three charts of 32 lines with 4,096 events each, and tells their peak memory:
+"""Times mscrun's check and mscview's draw of three charts of 32 lines with 4,096 events each, and reports their peak memory:
 a token that is passed round, mixed traffic, and bursts of 64 messages, which bench_library makes. A check that is written by
 hand in C (bench/peers/check.c) takes its turns with them, where there is a C compiler: both have to write the same races.
-With the path of another mscrun its check does so too. The ratios of each turn's times are told by their median.
+With the path of another mscrun its check does so too. The ratios of each turn's times are reported by their median.
 
     check_patterns.py FOLDER [MSCRUN]   by the programs that are built in FOLDER
 """

@@ -1,10 +1,10 @@
-"""Times `mscview import` of logs of 131,072 lines, and tells its peak memory: 32 hosts have 4,096 events each, so that all
+"""Times `mscview import` of logs of 131,072 lines, and reports its peak memory: 32 hosts have 4,096 events each, so that all
 lines of the chart are full. Each time is the median of five runs, with what is written thrown away.
 
 A token is passed round the hosts. The log says it in plain words, with an id for each message; by an expression; in the
 words of a log for ShiViz, with a clock of three hosts in each line; and in a file for each host. In the log that begins
 in the middle, of four rounds less, the first host begins later than the others: there are cycles, and sends are invented.
-Last come logs for ShiViz whose clocks alone tell what is a message: 8,192 lines of the token, and drawn ones of five
+Last come logs for ShiViz whose clocks alone say what is a message: 8,192 lines of the token, and drawn ones of five
 hosts, in which 5,000 events of 10,000, or 8,000 of 100,000, send to another host."""
 
 import os

@@ -1,6 +1,6 @@
 """Times mscrun's replay, and random with a seed, as whole processes: microseconds a command and page faults a message. Of
 each two instances the first sends 4,096 messages to the second, 64 at a time, so a message takes two commands. With another
-mscrun both take turns, and the ratios of each turn's times are told by their median.
+mscrun both take turns, and the ratios of each turn's times are reported by their median.
 
     whole_replays.py FOLDER MSCRUN [OTHER]   the schedules are in FOLDER, called by how many instances they have
 """

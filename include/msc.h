@@ -167,7 +167,7 @@ int32_t msc_reserve_(msc_post *post, uint32_t events);
 int32_t msc_event_(msc_post *post, uint32_t number, msc_event *event, uint8_t *buffer, size_t room);
 int32_t msc_gather_(msc_post *posts, size_t count, msc_board *board);
 int32_t msc_meet_(msc_post *posts, size_t count);
-int32_t msc_carry_over_(msc_board *board, msc_post *posts, size_t count, size_t *carried, size_t room, size_t *told);
+int32_t msc_carry_over_(msc_board *board, msc_post *posts, size_t count, size_t *carried, size_t room, size_t *total);
 int32_t msc_board_text_(msc_board *board, const uint8_t *names, size_t names_length, const size_t *lengths,
                         size_t count, uint8_t *buffer, size_t room, size_t *length);
 int32_t msc_board_report_(msc_board *board, size_t number, msc_report *report, uint32_t *buffer, size_t room);
@@ -416,12 +416,12 @@ static inline int msc_board_left(msc_board *board, uint32_t from, uint32_t to, s
  * was left stays in *BOARD. */
 static inline int msc_carry_over(msc_board *board, msc_post *posts, size_t count, size_t *carried) {
     msc_event event;
-    size_t told, i;
+    size_t total, i;
     if (board == NULL || posts == NULL) return MSC_MISUSE;
     for (i = 0; i < count; i++)
         if (msc_line_event(&posts[i], 1, &event, NULL, 0) == MSC_DONE) return MSC_MISUSE;
     return msc_carry_over_(board, posts, count, carried == NULL ? (size_t *)&msc_no_bytes_ : carried,
-                           carried == NULL ? 0 : count, &told);
+                           carried == NULL ? 0 : count, &total);
 }
 
 /* Frees the result of gathering a board, which is then empty. An empty one stays empty. */

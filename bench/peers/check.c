@@ -4,7 +4,7 @@
  *   check FILE
  *
  * The exit status is 1 where there are races, 0 where there are none, and 2 where the text is none or its chart isn't
- * possible. What it doesn't do: it tells no fault's kind nor its line, and it has no proof. */
+ * possible. What it doesn't do: it reports no fault's kind nor its line, and it has no proof. */
 #include <stdbool.h>
 #include <stdint.h>
 #include <stdio.h>

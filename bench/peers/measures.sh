@@ -21,7 +21,7 @@ time_of() {
 }
 
 # Counts something in a run on one thread, by the difference of two runs of unlike length: so much a message. The words are
-# valgrind's, and behind them what stands before the number that it tells.
+# valgrind's, and behind them what stands before the number that it reports.
 count_of() {
   local tool=$1 before=$2 many
   shift 2

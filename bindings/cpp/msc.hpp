@@ -173,12 +173,12 @@ public:
 
     /* The event with this number, from 1, among those that this post has sent and received, if it exists. */
     std::optional<msc::event> event(std::uint32_t number) const {
-        msc_event told;
+        msc_event info;
         char name[32];
-        int answer = msc_line_event(handle_, number, &told, name, sizeof name);
+        int answer = msc_line_event(handle_, number, &info, name, sizeof name);
         if (answer == MSC_NO_SUCH_EVENT) return std::nullopt;
         detail::done(answer);
-        return msc::event{number, told.receives == 1, told.partner, told.region, std::string(name, told.name_length)};
+        return msc::event{number, info.receives == 1, info.partner, info.region, std::string(name, info.name_length)};
     }
 
     /* All that this post has sent and received so far. */
@@ -256,11 +256,11 @@ public:
     /* The report of each receive, ordered by instance and event. */
     std::vector<report> reports() const {
         std::vector<report> all;
-        msc_report told;
-        for (std::size_t number = 1; msc_board_report(&handle_, number, &told, nullptr, 0) == MSC_DONE; number++) {
-            std::vector<std::uint32_t> races(told.races);
-            detail::done(msc_board_report(&handle_, number, &told, races.data(), races.size()));
-            all.push_back({told.instance, told.event, std::move(races)});
+        msc_report info;
+        for (std::size_t number = 1; msc_board_report(&handle_, number, &info, nullptr, 0) == MSC_DONE; number++) {
+            std::vector<std::uint32_t> races(info.races);
+            detail::done(msc_board_report(&handle_, number, &info, races.data(), races.size()));
+            all.push_back({info.instance, info.event, std::move(races)});
         }
         return all;
     }
@@ -284,11 +284,11 @@ private:
     gathered(std::size_t size, std::uint32_t capacity) noexcept : size_(size), capacity_(capacity) {}
 
     void add_left(std::uint32_t from, std::uint32_t to, std::vector<msc::left> &all) const {
-        msc_left told;
+        msc_left info;
         std::size_t number = 1;
-        while (msc_board_left(&handle_, from, to, number, &told, nullptr, 0, nullptr, 0) == MSC_DONE) {
-            msc::left next{from, to, std::string(told.name_length, '\0'), std::string(told.body_length, '\0')};
-            detail::done(msc_board_left(&handle_, from, to, number, &told, next.name.data(), next.name.size(),
+        while (msc_board_left(&handle_, from, to, number, &info, nullptr, 0, nullptr, 0) == MSC_DONE) {
+            msc::left next{from, to, std::string(info.name_length, '\0'), std::string(info.body_length, '\0')};
+            detail::done(msc_board_left(&handle_, from, to, number, &info, next.name.data(), next.name.size(),
                                         next.body.data(), next.body.size()));
             all.push_back(std::move(next));
             number++;

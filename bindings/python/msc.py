@@ -369,13 +369,13 @@ class Post:
 
     def event(self, number: int) -> Event:
         """The event with this number, from 1, that this post has sent or received. Raises `IndexError` without one."""
-        told, name = _Event(), ctypes.create_string_buffer(32)
+        info, name = _Event(), ctypes.create_string_buffer(32)
         with self._lock:
-            answer = _library.msc_event_(self._handle, _number(number), byref(told), name, 32)
+            answer = _library.msc_event_(self._handle, _number(number), byref(info), name, 32)
         if answer == -31:
             raise IndexError(f"no event {number}")
         _done(answer)
-        return Event(number, told.receives == 1, told.partner, name.raw[: told.name].decode(), told.region or None)
+        return Event(number, info.receives == 1, info.partner, name.raw[: info.name].decode(), info.region or None)
 
     def events(self) -> Iterator[Event]:
         """What this post has sent and received so far, event by event."""
@@ -505,21 +505,21 @@ class Gathered:
             number += 1
 
     def _report(self, number: int) -> Optional[Report]:
-        told, room = _Report(), 0
+        info, room = _Report(), 0
         while True:
             races = (c_uint32 * max(1, room))()
             with self._lock:
-                answer = _library.msc_board_report_(self._handle, number, byref(told), races, room)
+                answer = _library.msc_board_report_(self._handle, number, byref(info), races, room)
             if answer == -31:
                 return None
             _done(answer)
-            if told.races <= room:
-                return Report(told.instance, told.event, tuple(races[: told.races]))
-            room = told.races
+            if info.races <= room:
+                return Report(info.instance, info.event, tuple(races[: info.races]))
+            room = info.races
 
     def left(self) -> Iterator[Left]:
         """The messages that still wait, lane by lane, in the order in which they were sent."""
-        told, name, body = _Lengths(), ctypes.create_string_buffer(32), ctypes.create_string_buffer(4096)
+        info, name, body = _Lengths(), ctypes.create_string_buffer(32), ctypes.create_string_buffer(4096)
         for sender in range(1, self._count + 1):
             for receiver in range(1, self._count + 1):
                 number = 1
@@ -527,11 +527,11 @@ class Gathered:
                     place = _Place(sender, receiver, number)
                     with self._lock:
                         answer = _library.msc_board_left_(
-                            self._handle, byref(place), byref(told), name, 32, body, 4096
+                            self._handle, byref(place), byref(info), name, 32, body, 4096
                         )
                     if _done(answer) == 1:
                         break
-                    yield Left(sender, receiver, name.raw[: told.first].decode(), body.raw[: told.second])
+                    yield Left(sender, receiver, name.raw[: info.first].decode(), body.raw[: info.second])
                     number += 1
 
     def carry_over(self, capacity: Optional[int] = None) -> Tuple[Board, List[int]]:
@@ -543,11 +543,11 @@ class Gathered:
         if capacity < self._capacity:
             _refuse(-100)
         board = Board(self._count, capacity)
-        carried, told = (c_size_t * self._count)(), c_size_t()
+        carried, total = (c_size_t * self._count)(), c_size_t()
         with self._lock:
             _done(
                 _library.msc_carry_over_(
-                    self._handle, board._handles, self._count, carried, self._count, byref(told)
+                    self._handle, board._handles, self._count, carried, self._count, byref(total)
                 )
             )
         return board, list(carried)
@@ -576,11 +576,11 @@ def view(words: Sequence[str], *texts: Union[bytes, str]) -> Answer:
     by the names of their messages, and `view(["draw", "run.msc"], chart)` is its picture, as SVG. Raises `Refused` if
     the words read another number of texts."""
     data = [text.encode() if isinstance(text, str) else bytes(text) for text in texts]
-    said = [os.fsencode(word) for word in words]
-    names = (_Bytes * max(1, len(said)))(*(_Bytes(word, len(word)) for word in said))
+    encoded = [os.fsencode(word) for word in words]
+    names = (_Bytes * max(1, len(encoded)))(*(_Bytes(word, len(word)) for word in encoded))
     files = (_Bytes * max(1, len(data)))(*(_Bytes(text, len(text)) for text in data))
     length = sum(map(len, data))
-    return _whole(length, lambda *room: _library.msc_view_(names, len(said), files, len(data), *room))
+    return _whole(length, lambda *room: _library.msc_view_(names, len(encoded), files, len(data), *room))
 
 
 def _perform(task: int, seed: int, text: Union[bytes, str]) -> Answer:

@@ -1,4 +1,4 @@
-/* A client asks a server, which gives up when nothing comes for a while, and tells a logger. Three threads, a post each.
+/* A client asks a server, which gives up when nothing comes for a while, and informs a logger. Three threads, a post each.
  * Each race is printed as it comes. At the end the board is gathered, and its chart is printed, which mscrun check and
  * mscview read.
  *

@@ -1,4 +1,4 @@
-/* A client asks a server, which gives up when nothing comes for a while, and tells a logger. Three threads, a post
+/* A client asks a server, which gives up when nothing comes for a while, and informs a logger. Three threads, a post
  * each. Each race is printed as it comes. At the end the board is gathered, and its chart is printed. mscrun check and
  * mscview read it.
  *
@@ -28,7 +28,7 @@ void send(msc::post &post, std::uint32_t to, std::string_view name, std::string_
     for (unsigned tries = 0; !post.send(to, name, body); tries++) back_off(tries);
 }
 
-/* Tells of a message, and of its races by the names of the two messages. */
+/* Reports a message, and its races by the names of the two messages. */
 void show(const msc::post &post, const msc::message &message) {
     const std::string &me = names[post.number() - 1];
     std::ostringstream line;

@@ -4,7 +4,7 @@ A desk takes orders, a worker makes them and a store sends them out: three proce
 
   jobs.py [--repaired] FOLDER
 
-Each process writes a log of its own into FOLDER: desk.log, worker.log and store.log. The desk tells the store the
+Each process writes a log of its own into FOLDER: desk.log, worker.log and store.log. The desk informs the store the
 price of a job, and then hands the job to the worker, whose result goes to the store. So the price is there when the
 result comes, in each run that anybody has seen. But nothing makes it so: the two take different ways to the store.
 With --repaired the store says that it has the price, and only then does the desk hand out the job.
@@ -183,7 +183,7 @@ def stop(processes):
 
 
 def run_all(folder, options):
-    """Starts the three, tells each the ports of all, and waits. If one fails or is late, the others are stopped."""
+    """Starts the three, gives each the ports of all, and waits. If one fails or is late, the others are stopped."""
     end = time.monotonic() + SECONDS
     processes = []
     try:

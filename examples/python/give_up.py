@@ -1,4 +1,4 @@
-"""A client asks a server, which gives up when nothing comes for a while, and tells a logger. Three threads, a post
+"""A client asks a server, which gives up when nothing comes for a while, and informs a logger. Three threads, a post
 each. Each race is printed as it comes. At the end the board is gathered, and its chart is printed. mscrun check and
 mscview read it.
 
@@ -24,17 +24,17 @@ def send(post: msc.Post, to: int, name: str, body: bytes = b"") -> None:
             time.sleep(0.001)
 
 
-def tell(line: str) -> None:
+def report(line: str) -> None:
     """Prints a line by one write, so that lines of two threads don't run into each other."""
     print(f"{line}\n", end="")
 
 
 def show(post: msc.Post, message: msc.Message) -> None:
-    """Tells of a message, and of its races by the names of the two messages."""
+    """Reports a message, and its races by the names of the two messages."""
     me = NAMES[post.number - 1]
-    tell(f"{me}: event {message.event} is {message.name} from {NAMES[message.sender - 1]}")
+    report(f"{me}: event {message.event} is {message.name} from {NAMES[message.sender - 1]}")
     for number in message.races:
-        tell(f"{me}: {message.name} may come before {post.event(number).name} (event {number})")
+        report(f"{me}: {message.name} may come before {post.event(number).name} (event {number})")
 
 
 def client(post: msc.Post) -> None:
@@ -49,11 +49,11 @@ def client(post: msc.Post) -> None:
 def server(post: msc.Post) -> None:
     try:
         show(post, next(post.messages(CLIENT, timeout=0.02)))
-        answer, told = ("answer", b"late"), "answered"
+        answer, notice = ("answer", b"late"), "answered"
     except TimeoutError:
-        answer, told = ("gives_up", b""), "gave_up"
+        answer, notice = ("gives_up", b""), "gave_up"
     send(post, CLIENT, *answer)
-    send(post, LOGGER, told)
+    send(post, LOGGER, notice)
     post.close(CLIENT)
     post.close(LOGGER)
 

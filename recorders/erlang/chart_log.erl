@@ -14,7 +14,7 @@
 %% taken.
 -type line() :: {pid(), atom(), pid(), string(), term(), [{pid(), string()}]}.
 
-%% What numbers tell: whose send an event has, who received a send, what was called by a tag.
+%% What numbers mean: whose send an event has, who received a send, what was called by a tag.
 -record(pairs, {
     of_event = #{} :: #{integer() => integer()},
     sender = #{} :: #{integer() => pid()},
@@ -34,7 +34,7 @@ write(Folder, Recordings, Chosen, Recorders) ->
     Shown = shown(Lines, Names, Chosen),
     ok = filelib:ensure_path(Folder),
     [write_log(Folder, Node, all_lines(Node, Lines), Shown) || {Node, _} <- Lines],
-    tell_left_out(Numbered, Lines, Shown).
+    report_left_out(Numbered, Lines, Shown).
 
 %% Each event with a number of its own.
 -spec numbered_events([chart_recorder:recording()]) -> [{node(), [numbered()]}].
@@ -83,7 +83,7 @@ taken(Key, Who, Left) ->
         _ -> {{Who, none}, Left}
     end.
 
-%% The sends of arrivals. An arrival tells no number, and of a message from another node no sender. Equal messages are
+%% The sends of arrivals. An arrival has no number, and of a message from another node no sender. Equal messages are
 %% received in the order in which they arrived.
 -spec arrivals([numbered()], #{integer() => integer()}) -> #{integer() => integer()}.
 arrivals(Events, OfReceive) ->
@@ -119,14 +119,14 @@ lines({arrive, To, _, _, What}, Number, #pairs{of_event = OfEvent, sender = Send
 lines(_, _, _) ->
     [].
 
-%% That a process has ended is told by no send of its own. It is received when it arrives.
+%% That a process has ended has no send of its own. It is received when it arrives.
 -spec ending(pid(), chart_recorder:what(), integer(), #pairs{}) -> [line()].
 ending(To, {ended, Process}, Number, #pairs{ended = Ended}) when is_map_key(Process, Ended) ->
     [{To, 'receive', Process, "down", {ended, Number}, []}];
 ending(_, _, _, _) ->
     [].
 
-%% Whoever watches a process several times is told of its end as often, and takes it out once.
+%% Whoever watches a process several times hears of its end as often, and takes it out once.
 -spec ended_once([line()]) -> [line()].
 ended_once(Lines) ->
     lists:uniq(
@@ -244,8 +244,8 @@ text({Process, Word, Other, Name, Id, Takes}, Shown) ->
 id_word({ended, Number}) -> "ended_" ++ integer_to_list(Number);
 id_word(Number) -> integer_to_list(Number).
 
--spec tell_left_out([{node(), [numbered()]}], [{node(), [line()]}], #{pid() => string()}) -> ok.
-tell_left_out(Numbered, Lines, Shown) ->
+-spec report_left_out([{node(), [numbered()]}], [{node(), [line()]}], #{pid() => string()}) -> ok.
+report_left_out(Numbered, Lines, Shown) ->
     Sends = length([Event || {_, Events} <- Numbered, {_, Event} <- Events, element(1, Event) =:= send]),
     Known = [Line || {_, Of} <- Lines, Line <- Of],
     Written = length([Line || Line <- Known, is_shown(Line, Shown)]),

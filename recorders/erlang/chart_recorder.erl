@@ -2,7 +2,7 @@
 %%
 %% The program isn't changed. `start` begins on this node, or on all nodes that are named; `stop` writes a log for each
 %% node into a folder. In a log stand the sends and receives of each process in its own order, and when each message
-%% arrived in its mailbox. Messages of timers and ports, and what processes tell each other by tables, aren't seen.
+%% arrived in its mailbox. Messages of timers and ports, and what processes exchange by tables, aren't seen.
 -module(chart_recorder).
 
 -export([start/0, start/1, stop/1, stop/2, run/4]).
@@ -43,7 +43,7 @@ start(Nodes) ->
 stop(Folder) -> stop(Folder, all).
 
 %% Writes `NODE.log` for each node, of these processes by name, or of the 32 that sent and received most. What had to be
-%% left out is told.
+%% left out is reported.
 -spec stop(file:name_all(), all | [atom()]) -> ok.
 stop(Folder, Chosen) ->
     Recorders = persistent_term:get(?MODULE),
@@ -80,12 +80,12 @@ ask(Recorder, Request) ->
             error({recorder_ended, Reason})
     end.
 
-%% Keeps what it is told, the newest first.
+%% Keeps what it receives, the newest first.
 -spec record([event()]) -> ok.
 record(Events) ->
     receive
-        {seq_trace, _, Told} ->
-            record(with(seen_by_token(Told), Events));
+        {seq_trace, _, Reported} ->
+            record(with(seen_by_token(Reported), Events));
         {?MODULE, begin_recording, From} ->
             begin_recording(),
             From ! {?MODULE, self(), ok},
@@ -97,8 +97,8 @@ record(Events) ->
         {?MODULE, hand_over, From} ->
             From ! {?MODULE, self(), #{node => node(), events => lists:reverse(Events), names => names_here()}},
             ok;
-        Told when element(1, Told) =:= trace ->
-            record(with(seen_by_trace(Told), Events))
+        Reported when element(1, Reported) =:= trace ->
+            record(with(seen_by_trace(Reported), Events))
     end.
 
 -spec with(event() | nothing, [event()]) -> [event()].

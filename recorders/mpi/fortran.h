@@ -21,14 +21,14 @@ extern int mpi_fortran_in_place_;
 enum { MOST_STATUS_WORDS = 16 };
 
 /* Where the program wants no status the call gets one of the wrapper's. */
-static inline word *told_status(word *status, word *own) {
+static inline word *status_or_own(word *status, word *own) {
     return status == MPI_F_STATUS_IGNORE ? own : status;
 }
 
 static inline MPI_Status in_c(const word *status) {
-    MPI_Status told;
-    PMPI_Status_f2c(status, &told);
-    return told;
+    MPI_Status info;
+    PMPI_Status_f2c(status, &info);
+    return info;
 }
 
 #endif

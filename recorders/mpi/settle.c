@@ -31,7 +31,7 @@ void *grown(void *list, long count, long *room, size_t size) {
     return list;
 }
 
-static void tell_left_out(const struct settled *settled) {
+static void report_left_out(const struct settled *settled) {
     long left = 0;
     for (int host = 0; host < settled->size; host++) {
         left += settled->lines[host].count - settled->lines[host].limit;
@@ -59,6 +59,6 @@ int main(int count, char **words) {
     make_hub_lines(&settled);
     choose_window(&settled, most);
     write_logs(&settled, words[2]);
-    tell_left_out(&settled);
+    report_left_out(&settled);
     return 0;
 }

@@ -42,7 +42,7 @@ static bool map_recording(const char *folder, int rank, struct rank_recording *r
     return true;
 }
 
-/* The number of a group among all, which is a new one where no rank before told of it. */
+/* The number of a group among all, which is a new one where no rank before reported it. */
 static int group_number(struct settled *settled, struct group found) {
     static long room;
     for (int number = 0; number < settled->group_count; number++) {

@@ -42,9 +42,9 @@ WRAP_BEGUN_SEND(irsend)
 
 /* A blocking receive has ended. */
 static void note_received(MPI_Comm communicator, long post, const word *status, word error) {
-    MPI_Status told = in_c(status);
+    MPI_Status info = in_c(status);
     if (error == MPI_SUCCESS && post >= 0) {
-        note_done(known(communicator), post, &told);
+        note_done(known(communicator), post, &info);
     }
 }
 
@@ -53,7 +53,7 @@ FORTRAN(recv, void *data, word *count, word *type, word *from, word *tag, word *
     MPI_Comm handle = PMPI_Comm_f2c(*communicator);
     word own[MOST_STATUS_WORDS];
     long post = note_post(handle, *from, *tag);
-    status = told_status(status, own);
+    status = status_or_own(status, own);
     pmpi_recv_(data, count, type, from, tag, communicator, status, error);
     note_received(handle, post, status, *error);
 }
@@ -75,7 +75,7 @@ FORTRAN(sendrecv, void *data, word *count, word *type, word *to, word *tag, void
     word own[MOST_STATUS_WORDS];
     long post = note_post(handle, *from, *from_tag);
     note_send(handle, *to, *tag);
-    status = told_status(status, own);
+    status = status_or_own(status, own);
     pmpi_sendrecv_(data, count, type, to, tag, room, most, room_type, from, from_tag, communicator, status, error);
     note_received(handle, post, status, *error);
 }
@@ -86,30 +86,30 @@ FORTRAN(sendrecv_replace, void *data, word *count, word *type, word *to, word *t
     word own[MOST_STATUS_WORDS];
     long post = note_post(handle, *from, *from_tag);
     note_send(handle, *to, *tag);
-    status = told_status(status, own);
+    status = status_or_own(status, own);
     pmpi_sendrecv_replace_(data, count, type, to, tag, from, from_tag, communicator, status, error);
     note_received(handle, post, status, *error);
 }
 
 FORTRAN(probe, word *from, word *tag, word *communicator, word *status, word *error) {
     word own[MOST_STATUS_WORDS];
-    MPI_Status told;
-    status = told_status(status, own);
+    MPI_Status info;
+    status = status_or_own(status, own);
     pmpi_probe_(from, tag, communicator, status, error);
-    told = in_c(status);
+    info = in_c(status);
     if (*error == MPI_SUCCESS) {
-        note_probe(PMPI_Comm_f2c(*communicator), *from, *tag, &told);
+        note_probe(PMPI_Comm_f2c(*communicator), *from, *tag, &info);
     }
 }
 
 FORTRAN(iprobe, word *from, word *tag, word *communicator, word *is_there, word *status, word *error) {
     word own[MOST_STATUS_WORDS];
-    MPI_Status told;
-    status = told_status(status, own);
+    MPI_Status info;
+    status = status_or_own(status, own);
     pmpi_iprobe_(from, tag, communicator, is_there, status, error);
     if (*error == MPI_SUCCESS && *is_there) {
-        told = in_c(status);
-        note_probe(PMPI_Comm_f2c(*communicator), *from, *tag, &told);
+        info = in_c(status);
+        note_probe(PMPI_Comm_f2c(*communicator), *from, *tag, &info);
     }
 }
 

@@ -20,11 +20,11 @@ static struct waited waited_in_fortran(int count, const word *requests) {
 FORTRAN(wait, word *request, word *status, word *error) {
     word own[MOST_STATUS_WORDS];
     struct waited waited = waited_in_fortran(1, request);
-    status = told_status(status, own);
+    status = status_or_own(status, own);
     pmpi_wait_(request, status, error);
     if (*error == MPI_SUCCESS && !waited.is_empty) {
-        MPI_Status told = in_c(status);
-        note_completed(&waited, 0, &told);
+        MPI_Status info = in_c(status);
+        note_completed(&waited, 0, &info);
     }
     end_wait(&waited);
 }
@@ -32,11 +32,11 @@ FORTRAN(wait, word *request, word *status, word *error) {
 FORTRAN(test, word *request, word *is_complete, word *status, word *error) {
     word own[MOST_STATUS_WORDS];
     struct waited waited = waited_in_fortran(1, request);
-    status = told_status(status, own);
+    status = status_or_own(status, own);
     pmpi_test_(request, is_complete, status, error);
     if (*error == MPI_SUCCESS && *is_complete && !waited.is_empty) {
-        MPI_Status told = in_c(status);
-        note_completed(&waited, 0, &told);
+        MPI_Status info = in_c(status);
+        note_completed(&waited, 0, &info);
     }
     end_wait(&waited);
 }
@@ -54,15 +54,15 @@ static size_t status_words(void) { return sizeof(MPI_Status) / sizeof(word); }
 
 static void note_all(const struct waited *waited, const word *statuses) {
     for (int number = 0; number < waited->count && !waited->is_empty; number++) {
-        MPI_Status told = in_c(statuses + (size_t)number * status_words());
-        note_completed(waited, number, &told);
+        MPI_Status info = in_c(statuses + (size_t)number * status_words());
+        note_completed(waited, number, &info);
     }
 }
 
 static void note_one(const struct waited *waited, int number, const word *status) {
-    MPI_Status told = in_c(status);
+    MPI_Status info = in_c(status);
     note_others(waited);
-    note_completed(waited, number, &told);
+    note_completed(waited, number, &info);
 }
 
 static void end_statuses(struct waited *waited, word *own, word *statuses) {
@@ -74,28 +74,28 @@ static void end_statuses(struct waited *waited, word *own, word *statuses) {
 
 FORTRAN(waitall, word *count, word *requests, word *statuses, word *error) {
     struct waited waited = waited_in_fortran(*count, requests);
-    word *told = own_statuses(&waited, statuses);
-    pmpi_waitall_(count, requests, told, error);
+    word *info = own_statuses(&waited, statuses);
+    pmpi_waitall_(count, requests, info, error);
     if (*error == MPI_SUCCESS) {
-        note_all(&waited, told);
+        note_all(&waited, info);
     }
-    end_statuses(&waited, told, statuses);
+    end_statuses(&waited, info, statuses);
 }
 
 FORTRAN(testall, word *count, word *requests, word *are_complete, word *statuses, word *error) {
     struct waited waited = waited_in_fortran(*count, requests);
-    word *told = own_statuses(&waited, statuses);
-    pmpi_testall_(count, requests, are_complete, told, error);
+    word *info = own_statuses(&waited, statuses);
+    pmpi_testall_(count, requests, are_complete, info, error);
     if (*error == MPI_SUCCESS && *are_complete) {
-        note_all(&waited, told);
+        note_all(&waited, info);
     }
-    end_statuses(&waited, told, statuses);
+    end_statuses(&waited, info, statuses);
 }
 
 FORTRAN(waitany, word *count, word *requests, word *index, word *status, word *error) {
     word own[MOST_STATUS_WORDS];
     struct waited waited = waited_in_fortran(*count, requests);
-    status = told_status(status, own);
+    status = status_or_own(status, own);
     pmpi_waitany_(count, requests, index, status, error);
     if (*error == MPI_SUCCESS && !waited.is_empty && *index != MPI_UNDEFINED) {
         note_one(&waited, *index - 1, status);
@@ -106,7 +106,7 @@ FORTRAN(waitany, word *count, word *requests, word *index, word *status, word *e
 FORTRAN(testany, word *count, word *requests, word *index, word *is_complete, word *status, word *error) {
     word own[MOST_STATUS_WORDS];
     struct waited waited = waited_in_fortran(*count, requests);
-    status = told_status(status, own);
+    status = status_or_own(status, own);
     pmpi_testany_(count, requests, index, is_complete, status, error);
     if (*error == MPI_SUCCESS && *is_complete && !waited.is_empty && *index != MPI_UNDEFINED) {
         note_one(&waited, *index - 1, status);
@@ -122,20 +122,20 @@ static void note_some(const struct waited *waited, int many, const word *indices
 
 FORTRAN(waitsome, word *count, word *requests, word *many, word *indices, word *statuses, word *error) {
     struct waited waited = waited_in_fortran(*count, requests);
-    word *told = own_statuses(&waited, statuses);
-    pmpi_waitsome_(count, requests, many, indices, told, error);
+    word *info = own_statuses(&waited, statuses);
+    pmpi_waitsome_(count, requests, many, indices, info, error);
     if (*error == MPI_SUCCESS && *many != MPI_UNDEFINED) {
-        note_some(&waited, *many, indices, told);
+        note_some(&waited, *many, indices, info);
     }
-    end_statuses(&waited, told, statuses);
+    end_statuses(&waited, info, statuses);
 }
 
 FORTRAN(testsome, word *count, word *requests, word *many, word *indices, word *statuses, word *error) {
     struct waited waited = waited_in_fortran(*count, requests);
-    word *told = own_statuses(&waited, statuses);
-    pmpi_testsome_(count, requests, many, indices, told, error);
+    word *info = own_statuses(&waited, statuses);
+    pmpi_testsome_(count, requests, many, indices, info, error);
     if (*error == MPI_SUCCESS && *many != MPI_UNDEFINED) {
-        note_some(&waited, *many, indices, told);
+        note_some(&waited, *many, indices, info);
     }
-    end_statuses(&waited, told, statuses);
+    end_statuses(&waited, info, statuses);
 }

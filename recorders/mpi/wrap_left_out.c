@@ -1,4 +1,4 @@
-/* Calls by which ranks wait for each other, and that aren't recorded. They are counted, so that it can be told. */
+/* Calls by which ranks wait for each other, and that aren't recorded. They are counted and reported. */
 #include "recording.h"
 
 #define LEAVE_OUT(NAME, WORDS, ...)                                                                                   \

@@ -65,11 +65,11 @@ WRAP_SEND_INIT(Rsend_init)
 
 int MPI_Recv(void *data, int count, MPI_Datatype type, int from, int tag, MPI_Comm communicator, MPI_Status *status) {
     MPI_Status own;
-    MPI_Status *told = status == MPI_STATUS_IGNORE ? &own : status;
+    MPI_Status *info = status == MPI_STATUS_IGNORE ? &own : status;
     long post = note_post(communicator, from, tag);
-    int error = PMPI_Recv(data, count, type, from, tag, communicator, told);
+    int error = PMPI_Recv(data, count, type, from, tag, communicator, info);
     if (error == MPI_SUCCESS && post >= 0) {
-        note_done(known(communicator), post, told);
+        note_done(known(communicator), post, info);
     }
     return error;
 }
@@ -121,13 +121,13 @@ int MPI_Request_free(MPI_Request *request) {
 int MPI_Sendrecv(const void *data, int count, MPI_Datatype type, int to, int tag, void *room, int most,
                  MPI_Datatype room_type, int from, int from_tag, MPI_Comm communicator, MPI_Status *status) {
     MPI_Status own;
-    MPI_Status *told = status == MPI_STATUS_IGNORE ? &own : status;
+    MPI_Status *info = status == MPI_STATUS_IGNORE ? &own : status;
     long post = note_post(communicator, from, from_tag);
     int error;
     note_send(communicator, to, tag);
-    error = PMPI_Sendrecv(data, count, type, to, tag, room, most, room_type, from, from_tag, communicator, told);
+    error = PMPI_Sendrecv(data, count, type, to, tag, room, most, room_type, from, from_tag, communicator, info);
     if (error == MPI_SUCCESS && post >= 0) {
-        note_done(known(communicator), post, told);
+        note_done(known(communicator), post, info);
     }
     return error;
 }
@@ -135,33 +135,33 @@ int MPI_Sendrecv(const void *data, int count, MPI_Datatype type, int to, int tag
 int MPI_Sendrecv_replace(void *data, int count, MPI_Datatype type, int to, int tag, int from, int from_tag,
                          MPI_Comm communicator, MPI_Status *status) {
     MPI_Status own;
-    MPI_Status *told = status == MPI_STATUS_IGNORE ? &own : status;
+    MPI_Status *info = status == MPI_STATUS_IGNORE ? &own : status;
     long post = note_post(communicator, from, from_tag);
     int error;
     note_send(communicator, to, tag);
-    error = PMPI_Sendrecv_replace(data, count, type, to, tag, from, from_tag, communicator, told);
+    error = PMPI_Sendrecv_replace(data, count, type, to, tag, from, from_tag, communicator, info);
     if (error == MPI_SUCCESS && post >= 0) {
-        note_done(known(communicator), post, told);
+        note_done(known(communicator), post, info);
     }
     return error;
 }
 
 int MPI_Probe(int from, int tag, MPI_Comm communicator, MPI_Status *status) {
     MPI_Status own;
-    MPI_Status *told = status == MPI_STATUS_IGNORE ? &own : status;
-    int error = PMPI_Probe(from, tag, communicator, told);
+    MPI_Status *info = status == MPI_STATUS_IGNORE ? &own : status;
+    int error = PMPI_Probe(from, tag, communicator, info);
     if (error == MPI_SUCCESS) {
-        note_probe(communicator, from, tag, told);
+        note_probe(communicator, from, tag, info);
     }
     return error;
 }
 
 int MPI_Iprobe(int from, int tag, MPI_Comm communicator, int *is_there, MPI_Status *status) {
     MPI_Status own;
-    MPI_Status *told = status == MPI_STATUS_IGNORE ? &own : status;
-    int error = PMPI_Iprobe(from, tag, communicator, is_there, told);
+    MPI_Status *info = status == MPI_STATUS_IGNORE ? &own : status;
+    int error = PMPI_Iprobe(from, tag, communicator, is_there, info);
     if (error == MPI_SUCCESS && *is_there) {
-        note_probe(communicator, from, tag, told);
+        note_probe(communicator, from, tag, info);
     }
     return error;
 }
@@ -179,20 +179,20 @@ static void note_taken_out(int from, int tag, MPI_Comm communicator, const MPI_S
 
 int MPI_Mprobe(int from, int tag, MPI_Comm communicator, MPI_Message *message, MPI_Status *status) {
     MPI_Status own;
-    MPI_Status *told = status == MPI_STATUS_IGNORE ? &own : status;
-    int error = PMPI_Mprobe(from, tag, communicator, message, told);
+    MPI_Status *info = status == MPI_STATUS_IGNORE ? &own : status;
+    int error = PMPI_Mprobe(from, tag, communicator, message, info);
     if (error == MPI_SUCCESS) {
-        note_taken_out(from, tag, communicator, told);
+        note_taken_out(from, tag, communicator, info);
     }
     return error;
 }
 
 int MPI_Improbe(int from, int tag, MPI_Comm communicator, int *is_there, MPI_Message *message, MPI_Status *status) {
     MPI_Status own;
-    MPI_Status *told = status == MPI_STATUS_IGNORE ? &own : status;
-    int error = PMPI_Improbe(from, tag, communicator, is_there, message, told);
+    MPI_Status *info = status == MPI_STATUS_IGNORE ? &own : status;
+    int error = PMPI_Improbe(from, tag, communicator, is_there, message, info);
     if (error == MPI_SUCCESS && *is_there) {
-        note_taken_out(from, tag, communicator, told);
+        note_taken_out(from, tag, communicator, info);
     }
     return error;
 }

@@ -49,11 +49,11 @@ void note_completed(const struct waited *waited, int number, const MPI_Status *s
 
 int MPI_Wait(MPI_Request *request, MPI_Status *status) {
     MPI_Status own;
-    MPI_Status *told = status == MPI_STATUS_IGNORE ? &own : status;
+    MPI_Status *info = status == MPI_STATUS_IGNORE ? &own : status;
     struct waited waited = waited_for(1, request);
-    int error = PMPI_Wait(request, waited.is_empty ? status : told);
+    int error = PMPI_Wait(request, waited.is_empty ? status : info);
     if (error == MPI_SUCCESS && !waited.is_empty) {
-        note_completed(&waited, 0, told);
+        note_completed(&waited, 0, info);
     }
     end_wait(&waited);
     return error;
@@ -61,11 +61,11 @@ int MPI_Wait(MPI_Request *request, MPI_Status *status) {
 
 int MPI_Test(MPI_Request *request, int *is_complete, MPI_Status *status) {
     MPI_Status own;
-    MPI_Status *told = status == MPI_STATUS_IGNORE ? &own : status;
+    MPI_Status *info = status == MPI_STATUS_IGNORE ? &own : status;
     struct waited waited = waited_for(1, request);
-    int error = PMPI_Test(request, is_complete, waited.is_empty ? status : told);
+    int error = PMPI_Test(request, is_complete, waited.is_empty ? status : info);
     if (error == MPI_SUCCESS && *is_complete && !waited.is_empty) {
-        note_completed(&waited, 0, told);
+        note_completed(&waited, 0, info);
     }
     end_wait(&waited);
     return error;
@@ -103,35 +103,35 @@ static void free_statuses(MPI_Status *own, MPI_Status *statuses) {
 
 int MPI_Waitall(int count, MPI_Request requests[], MPI_Status statuses[]) {
     struct waited waited = waited_for(count, requests);
-    MPI_Status *told = own_statuses(&waited, statuses);
-    int error = PMPI_Waitall(count, requests, told);
+    MPI_Status *info = own_statuses(&waited, statuses);
+    int error = PMPI_Waitall(count, requests, info);
     if (error == MPI_SUCCESS) {
-        note_all(&waited, told);
+        note_all(&waited, info);
     }
-    free_statuses(told, statuses);
+    free_statuses(info, statuses);
     end_wait(&waited);
     return error;
 }
 
 int MPI_Testall(int count, MPI_Request requests[], int *are_complete, MPI_Status statuses[]) {
     struct waited waited = waited_for(count, requests);
-    MPI_Status *told = own_statuses(&waited, statuses);
-    int error = PMPI_Testall(count, requests, are_complete, told);
+    MPI_Status *info = own_statuses(&waited, statuses);
+    int error = PMPI_Testall(count, requests, are_complete, info);
     if (error == MPI_SUCCESS && *are_complete) {
-        note_all(&waited, told);
+        note_all(&waited, info);
     }
-    free_statuses(told, statuses);
+    free_statuses(info, statuses);
     end_wait(&waited);
     return error;
 }
 
 int MPI_Waitany(int count, MPI_Request requests[], int *index, MPI_Status *status) {
     MPI_Status own;
-    MPI_Status *told = status == MPI_STATUS_IGNORE ? &own : status;
+    MPI_Status *info = status == MPI_STATUS_IGNORE ? &own : status;
     struct waited waited = waited_for(count, requests);
-    int error = PMPI_Waitany(count, requests, index, waited.is_empty ? status : told);
+    int error = PMPI_Waitany(count, requests, index, waited.is_empty ? status : info);
     if (error == MPI_SUCCESS && *index != MPI_UNDEFINED) {
-        note_some(&waited, 1, index, told);
+        note_some(&waited, 1, index, info);
     }
     end_wait(&waited);
     return error;
@@ -139,11 +139,11 @@ int MPI_Waitany(int count, MPI_Request requests[], int *index, MPI_Status *statu
 
 int MPI_Testany(int count, MPI_Request requests[], int *index, int *is_complete, MPI_Status *status) {
     MPI_Status own;
-    MPI_Status *told = status == MPI_STATUS_IGNORE ? &own : status;
+    MPI_Status *info = status == MPI_STATUS_IGNORE ? &own : status;
     struct waited waited = waited_for(count, requests);
-    int error = PMPI_Testany(count, requests, index, is_complete, waited.is_empty ? status : told);
+    int error = PMPI_Testany(count, requests, index, is_complete, waited.is_empty ? status : info);
     if (error == MPI_SUCCESS && *is_complete && *index != MPI_UNDEFINED) {
-        note_some(&waited, 1, index, told);
+        note_some(&waited, 1, index, info);
     }
     end_wait(&waited);
     return error;
@@ -151,24 +151,24 @@ int MPI_Testany(int count, MPI_Request requests[], int *index, int *is_complete,
 
 int MPI_Waitsome(int count, MPI_Request requests[], int *many, int indices[], MPI_Status statuses[]) {
     struct waited waited = waited_for(count, requests);
-    MPI_Status *told = own_statuses(&waited, statuses);
-    int error = PMPI_Waitsome(count, requests, many, indices, told);
+    MPI_Status *info = own_statuses(&waited, statuses);
+    int error = PMPI_Waitsome(count, requests, many, indices, info);
     if (error == MPI_SUCCESS && *many != MPI_UNDEFINED) {
-        note_some(&waited, *many, indices, told);
+        note_some(&waited, *many, indices, info);
     }
-    free_statuses(told, statuses);
+    free_statuses(info, statuses);
     end_wait(&waited);
     return error;
 }
 
 int MPI_Testsome(int count, MPI_Request requests[], int *many, int indices[], MPI_Status statuses[]) {
     struct waited waited = waited_for(count, requests);
-    MPI_Status *told = own_statuses(&waited, statuses);
-    int error = PMPI_Testsome(count, requests, many, indices, told);
+    MPI_Status *info = own_statuses(&waited, statuses);
+    int error = PMPI_Testsome(count, requests, many, indices, info);
     if (error == MPI_SUCCESS && *many != MPI_UNDEFINED) {
-        note_some(&waited, *many, indices, told);
+        note_some(&waited, *many, indices, info);
     }
-    free_statuses(told, statuses);
+    free_statuses(info, statuses);
     end_wait(&waited);
     return error;
 }

@@ -12,7 +12,7 @@ TURNS = 4
 
 
 class Kept:
-    """What is kept of a crate whose edits were all refused: a sum of all that this rests on, and what was told."""
+    """What is kept of a crate whose edits were all refused: a sum of all that this rests on, and what was reported."""
 
     def __init__(self, root, crate, edits):
         rests_on = [crate.stamp(), *[(edit.name, edit.pairs) for edit in edits]]
@@ -24,23 +24,23 @@ class Kept:
         self.files = (f"{root}/out/edits/{crate.name}", f"{MACHINE}/{crate.name}-{self.sum}")
 
     def read(self):
-        """What was told, or nothing where something has changed since, or no such thing is kept."""
+        """What was reported, or nothing where something has changed since, or no such thing is kept."""
         for path in self.files:
             try:
                 with open(path, encoding="utf-8") as file:
-                    made_of, *told = file.read().splitlines()
+                    made_of, *reported = file.read().splitlines()
             except (OSError, ValueError):
                 continue
             if made_of == self.sum:
-                return told
+                return reported
         return []
 
-    def write(self, told):
+    def write(self, reported):
         for path in self.files:
             try:
                 os.makedirs(os.path.dirname(path), exist_ok=True)
                 with open(f"{path}.{os.getpid()}", "w", encoding="utf-8") as file:
-                    print(self.sum, *told, sep="\n", file=file)
+                    print(self.sum, *reported, sep="\n", file=file)
                 os.replace(f"{path}.{os.getpid()}", path)
             except OSError:
                 # (it is tried again then)

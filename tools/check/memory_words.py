@@ -1,5 +1,6 @@
-"""Where a source writes that memory was refused without evidence (check_memory tells what that is), and whether what it
-writes comes of a call's error."""
+"""Where a source writes that memory was refused without evidence (check_memory says what that is), and the functions
+that do."""
+import hashlib
 import re
 
 MEMORY = {"AllocError", "AllocFailed", "Memory", "OutOfMemory"}
@@ -12,6 +13,10 @@ TOKEN = re.compile(
     re.X | re.S,
 )
 PAIRS = {"(": ")", "[": "]", "{": "}"}
+# Calls that take memory, what in their arguments asks for more than a call needs, and the greatest number there.
+GROWTHS = {"with_capacity", "reserve", "reserve_exact", "resize", "repeat"}
+ENDLESS = {"MAX", "pow", "saturating_pow", "wrapping_pow", "wrapping_sub", "!"}
+MOST_WRITTEN_OUT = 4096
 BEFORE_CLOSURES = ("", ",", "=", "=>", "return", "move")
 
 
@@ -58,15 +63,64 @@ def parted(tokens, sign):
     return [part for part in parts if part]
 
 
-def says_memory(pattern):
-    """Whether each alternative of a pattern has the name of an error that says memory."""
+def says_memory(pattern, known):
+    """Whether each alternative of a pattern has the name of an error that says memory. A name alone has to be known:
+    else it is a variable, which takes any error."""
     ways = parted(pattern, "|")
     return bool(ways) and all(
         any(
-            token.text in MEMORY or token.inside and any(map(says_memory, parted(token.inside, ",")))
-            for token in way
+            names_memory(way, at, known)
+            or token.inside
+            and any(says_memory(part, known) for part in parted(token.inside, ","))
+            for at, token in enumerate(way)
         )
         for way in ways
+    )
+
+
+def names_memory(tokens, at, known):
+    word = tokens[at].text
+    return word in MEMORY and (word in known or text_at(tokens, at - 1) == "::")
+
+
+def known_in(tokens):
+    """The names that a file's `use` items bring, and those of the structs that it defines."""
+    known, at = set(), 0
+    while at < len(tokens):
+        if tokens[at].text == "struct":
+            known.add(text_at(tokens, at + 1))
+        elif tokens[at].text == "use" and text_at(tokens, at - 1) != "ghost":
+            end = Reading.behind_sign(tokens, at, ";")
+            known.update(last_names(tokens[at + 1 : end - 1]))
+            at = end - 1
+        at += 1
+    return known
+
+
+def last_names(tokens):
+    """Of a path, or of each in a group, its last name."""
+    if tokens and tokens[-1].inside is not None:
+        return {name for part in parted(tokens[-1].inside, ",") for name in last_names(part)}
+    return {tokens[-1].text} if tokens else set()
+
+
+def takes_memory(parameter, known):
+    """Whether a closure's one parameter is of a type that says memory, as `_: AllocError`."""
+    if len(parameter) < 3 or parameter[1].text != ":":
+        return False
+    at = 2
+    while text_at(parameter, at + 1) == "::":
+        at += 2
+    return names_memory(parameter, at, known) and text_at(parameter, at + 1) in ("", "<")
+
+
+def is_endless(arguments):
+    """Whether what is asked for has no measure: the greatest number of a type, or one that is written out."""
+    return any(
+        token.text in ENDLESS
+        or token.text.replace("_", "").isdigit() and int(token.text.replace("_", "")) > MOST_WRITTEN_OUT
+        or token.inside is not None and is_endless(token.inside)
+        for token in arguments
     )
 
 
@@ -80,23 +134,30 @@ def is_for_tests(attribute):
     return words[:1] == ["test"] or words[:1] == ["cfg"] and inner == ["test"]
 
 
-class Reading:
-    """Goes over a file, and keeps the line of each expression without evidence by the function that it is in."""
+def flat(tokens):
+    """The tokens as they stand in the source, with one space between two."""
+    words = []
+    for token in tokens:
+        words.append(token.text)
+        if token.inside is not None:
+            words += [flat(token.inside), PAIRS[token.text]]
+    return " ".join(words)
 
-    def __init__(self):
+
+class Reading:
+    """Goes over a file, and keeps the line of each expression without evidence by the function that it is in, and the
+    bodies of these functions."""
+
+    def __init__(self, known):
         self.found = []
+        self.endless = []
+        self.bodies = []
+        self.known = known
         self.function = ""
-        self.hands_on = False
         self.maps = False
 
     def note(self, token):
-        self.found.append((self.function, token.line, self.hands_on))
-
-    def handing_on(self, tokens, proved, hands_on):
-        """What comes of a call's error, if it does."""
-        before, self.hands_on = self.hands_on, hands_on
-        self.items(tokens, proved)
-        self.hands_on = before
+        self.found.append((self.function, token.line))
 
     def items(self, tokens, proved):
         """What stands in a file, a module, an impl, a body or between brackets."""
@@ -142,6 +203,8 @@ class Reading:
         word = token.text
         if token.inside is not None:
             self.maps = text_at(tokens, at - 1) == "map_err"
+            if text_at(tokens, at - 1) in GROWTHS and is_endless(token.inside):
+                self.endless.append((self.function, token.line))
             self.items(token.inside, proved)
             return at + 1
         if word == "use":
@@ -160,8 +223,6 @@ class Reading:
             return self.implementation(tokens, at, proved)
         if word == "match":
             return self.choice(tokens, at, proved)
-        if word == "let":
-            return self.binding(tokens, at, proved)
         if word in ("if", "while"):
             return self.condition(tokens, at, proved)
         if word == "|" and text_at(tokens, at - 1) in BEFORE_CLOSURES:
@@ -200,7 +261,10 @@ class Reading:
                 at = self.behind_clause(tokens, at)
                 continue
             if tokens[at].is_block():
+                many = len(self.found)
                 self.items(tokens[at].inside, proved)
+                if many < len(self.found):
+                    self.bodies.append((self.function, flat(tokens[at].inside)))
                 break
             if tokens[at].text == ";":
                 break
@@ -218,36 +282,28 @@ class Reading:
             self.items(tokens[at].inside, proved or bool(is_from))
         return at + 1
 
-    def binding(self, tokens, at, proved):
-        """A `let`: with an `else` and without an `if` that block comes of an error."""
-        begin = self.behind_sign(tokens, at, "=", ";")
-        end = self.behind_sign(tokens, begin, ";") if text_at(tokens, begin - 1) == "=" else begin
-        words = [token.text for token in tokens[begin:end]]
-        if "else" not in words or "if" in words:
-            return begin
-        other = begin + words.index("else")
-        self.items(tokens[begin:other], proved)
-        self.handing_on(tokens[other + 1 : end], proved, True)
-        return end
-
     def condition(self, tokens, at, proved):
-        """An `if`: its first block comes of an error if it looks for one."""
-        is_error = [text_at(tokens, at + 1), text_at(tokens, at + 2)] == ["let", "Err"]
+        """An `if`: its first block has evidence if it looks for an error that says memory."""
         at += 1
-        begin = self.behind_sign(tokens, at, "=") if is_error or text_at(tokens, at) == "let" else at
+        begin, says = at, False
+        if text_at(tokens, at) == "let":
+            begin = self.behind_sign(tokens, at, "=")
+            says = says_memory(tokens[at + 1 : begin - 1], self.known)
         at = begin
         while at < len(tokens) and not tokens[at].is_block():
             at += 1
         self.items(tokens[begin:at], proved)
         if at < len(tokens):
-            self.handing_on(tokens[at].inside, proved, is_error)
+            self.items(tokens[at].inside, proved or says)
         return at + 1
 
     def closure(self, tokens, at, proved):
-        """A closure that is handed to `map_err`, alone between brackets, comes of an error."""
+        """A closure that is handed to `map_err`, alone between brackets, has evidence if the type of that error says
+        memory."""
         end = self.behind_sign(tokens, at + 1, "|")
         if at == 0 and self.maps:
-            self.handing_on(tokens[end:], proved, True)
+            says = takes_memory(tokens[1 : end - 1], self.known)
+            self.items(tokens[end:], proved or says)
             return len(tokens)
         return end
 
@@ -287,7 +343,7 @@ class Reading:
                 end = at + 1
             else:
                 end = self.behind_sign(tokens, at, ",") - 1
-            self.handing_on(tokens[at:end], proved or says_memory(pattern), text_at(pattern, 0) == "Err")
+            self.items(tokens[at:end], proved or says_memory(pattern, self.known))
             at = end + (text_at(tokens, end) == ",")
 
     @staticmethod
@@ -316,7 +372,13 @@ class Reading:
 
 
 def found_in(text):
-    """Of each expression of a file without evidence the function, the line, and whether it comes of a call's error."""
-    reading = Reading()
-    reading.items(tokens_in(text), False)
-    return reading.found
+    """Of each expression of a file without evidence the function and the line; the functions and lines that ask for
+    memory without measure; and of each function with such an expression a digest of its body."""
+    tokens = tokens_in(text)
+    reading = Reading(known_in(tokens))
+    reading.items(tokens, False)
+    bodies = {}
+    for function, body in reading.bodies:
+        bodies.setdefault(function, []).append(body)
+    digests = {function: hashlib.sha256("\n".join(them).encode()).hexdigest()[:8] for function, them in bodies.items()}
+    return reading.found, reading.endless, digests

@@ -90,7 +90,7 @@ def paragraphs_of_header(text):
 
 
 def sentences_of(path, text):
-    """The sentences of a document, whose kind its ending tells."""
+    """The sentences of a document, whose kind its ending says."""
     if path.endswith(".h"):
         paragraphs = paragraphs_of_header(text)
     else:

@@ -30,7 +30,7 @@ def races_in(text):
 
 
 def not_done_in(text):
-    """What `mscview` tells of the commands that did nothing, by the notes that a replay has printed."""
+    """What `mscview` reports of the commands that did nothing, by the notes that a replay has printed."""
     lines = [line.split()[1] for line in text.splitlines() if line.startswith("note ")]
     if not lines:
         return ""
@@ -40,7 +40,7 @@ def not_done_in(text):
 
 
 def example_files():
-    """The charts and schedules of examples/ that tell what they come to."""
+    """The charts and schedules of examples/ that say what they come to."""
     files = pathlib.Path("examples").glob("*/*")
     return sorted(path for path in files if path.suffix in (".schedule", ".msc") and path.with_suffix(".stdout").exists())
 

@@ -1,7 +1,7 @@
 """The enforced order of a chart, and the order where each instance finishes what a message makes it do before it receives
 again, both by their definitions: a plain closure under the rules, with no closed form.
 
-An event is told by its place in one list of all events. Orders are numbers whose bits are events.
+An event is named by its place in one list of all events. Orders are numbers whose bits are events.
 """
 
 

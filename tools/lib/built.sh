@@ -15,7 +15,7 @@
 
 # The crates that a crate stands on, and itself, a name on each line; with the word `lines` their lines of crates.txt.
 crates_below() {
-  awk -v wanted="$1" -v tells="${2-names}" '
+  awk -v wanted="$1" -v reports="${2-names}" '
     { sub(/#.*/, "") }
     at = index($0, ":") {
       split(substr($0, 1, at - 1), head, " ")
@@ -28,7 +28,7 @@ crates_below() {
       listed[name] = 1
       many = split(low[name], words, " ")
       for (at = 1; at <= many; at++) list(words[at])
-      print tells == "lines" ? line[name] : name
+      print reports == "lines" ? line[name] : name
     }
     END { list(wanted) }' crates.txt | LC_ALL=C sort
 }
@@ -58,7 +58,7 @@ digest_of() (
 )
 
 # How the sources of these crates stand at the repository's top: a sum of what would be another had one been written. It
-# fails where that can't be told.
+# fails where that isn't known.
 standing_of() (
   local parts
   cd "$root" || exit
@@ -67,7 +67,7 @@ standing_of() (
   find HANDLES crates.txt "${parts[@]}" -printf '%p %i %s %C@\n' 2>/dev/null | sha256sum
 )
 
-# Whether one of the sources was changed in the last seconds, or that can't be told.
+# Whether one of the sources was changed in the last seconds, or that isn't known.
 is_recent() (
   local seconds=$1 parts changed
   shift
@@ -121,11 +121,11 @@ keep_library() {
 
 # When a process began, by the clock of the machine's processes; nothing where there is no such process.
 start_of() {
-  local line told
+  local line reported
   line=$(cat "/proc/$1/stat" 2>/dev/null) || return
-  read -ra told <<<"${line##*) }"
+  read -ra reported <<<"${line##*) }"
   # (a process that has ended may still be listed)
-  [[ ${told[0]} == [ZX] ]] || echo "${told[19]-}"
+  [[ ${reported[0]} == [ZX] ]] || echo "${reported[19]-}"
 }
 
 # One ./build or gate works in a copy of the repository at a time, since both move what is built: says which one does, and
@@ -157,7 +157,7 @@ take_back_aside() {
   for kept in "$root"/.git/rt-aside/*; do
     name=${kept##*/}
     [[ -d $kept && -d $root/crates/$name ]] || continue
-    # (a gate that is still at work, or no way to tell)
+    # (a gate that is still at work, or no way to know)
     flock -n "$root/.git/rt-ci.lock" true 2>/dev/null || return 0
     for part in incremental rlib; do
       made=$root/crates/$name/out/$part

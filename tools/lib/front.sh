@@ -73,13 +73,13 @@ parts_of_usage() {
     }' "$usages/$1"
 }
 
-# Runs these words, and passes on what they say on standard error as it comes. `said` is its last line then, and `refused`
+# Runs these words, and passes on what they say on standard error as it comes. `stated` is its last line then, and `refused`
 # that of a refusal, which may have further lines behind it. `of_hosts` are the warnings about names and hosts of a log, and
 # `lineless` is set where one of them is about a host without lines.
 passing_on() {
   local line open=
   shopt -s lastpipe
-  said='' refused='' lineless='' of_hosts=()
+  stated='' refused='' lineless='' of_hosts=()
   # (standard output may be closed, and is to be so for the program)
   ! { exec 3>&1; } 2>/dev/null || open=1
   if [[ -n $open ]]; then
@@ -88,7 +88,7 @@ passing_on() {
     "$@" 2>&1 >&-
   fi | while IFS= read -r line || [[ -n $line ]]; do
     printf '%s\n' "$line" >&2
-    said=$line
+    stated=$line
     case $line in
       'refused: '*) refused=$line ;;
       *' has no line of its own') lineless=1 of_hosts+=("$line") ;;
@@ -156,8 +156,8 @@ why_unread() {
   fi
 }
 
-# Tells which files among the words of a command line can't be read.
-tell_unread() {
+# Says which files among the words of a command line can't be read.
+report_unread() {
   local before='' earlier='' before_that='' word why files=0 most command=1
   most=$(most_files "$@")
   for word; do
@@ -232,7 +232,7 @@ reader_of() {
   fi
 }
 
-# Whether this line refuses a text, which `mscview explain` can tell more of.
+# Whether this line refuses a text, which `mscview explain` can say more of.
 refuses_text() { [[ $1 =~ ^'refused: F'(1|2|3|4|7|8|9|13|16|17|18|20|21|22|23|35|37|38|51|53)' ' ]]; }
 
 # Whether a file has at most a million bytes, so that it is looked into without a terminal too.
@@ -259,80 +259,81 @@ runs() {
   passing_on "$@"
 }
 
-# Tells what to try where a text was refused: of a diagram that mscview took for a chart the command that reads it, of a text
-# that isn't exact that tidy makes it so, and of any other on a terminal what takes it, or the command that tells more. Where an
-# option has taken the file, and standard input was read, it tells that.
-tell_what_to_try() {
-  local name=$1 program=$2 refusal=$3 file told='' tool taken_for_chart='' hint
+# Says what to try where a text was refused: of a diagram that mscview took for a chart the command that reads it, of a text
+# that isn't exact that tidy makes it so, and of any other on a terminal what takes it, or the command that says more. Where an
+# option has taken the file, and standard input was read, it says that.
+report_what_to_try() {
+  local name=$1 program=$2 refusal=$3 file reported='' tool taken_for_chart='' hint
   shift 3
   file=$(file_among "$@") || file=
-  if [[ -z $file ]] && hint=$(tell_taken "$name" "$@"); then
+  if [[ -z $file ]] && hint=$(report_taken "$name" "$@"); then
     echo "$hint" >&2
     return
   fi
   [[ $name != mscview || " $* " == *' --from'[\ =]* || ! $refusal =~ ^'refused: F'(20|21)' ' ]] || taken_for_chart=1
-  [[ -z $taken_for_chart && ! -t 2 ]] && ! is_short "$file" || told=$(explained "$program" "$file")
-  if [[ -n $taken_for_chart ]] && tool=$(tool_in "$told"); then
+  [[ -z $taken_for_chart && ! -t 2 ]] && ! is_short "$file" || reported=$(explained "$program" "$file")
+  if [[ -n $taken_for_chart ]] && tool=$(tool_in "$reported"); then
     echo "try: $(typed mscview) $(reader_of "$tool" "$1" "$file" "${@:2}")" >&2
   elif [[ -t 2 ]]; then
-    tell_of_options "$refusal" " $*" "$told" >&2
-    tell_who_takes "$name" "$1" "$file" "$told" "$refusal" " $* " >&2
+    report_of_options "$refusal" " $*" "$reported" >&2
+    report_who_takes "$name" "$1" "$file" "$reported" "$refusal" " $* " >&2
   else
-    hint=$(tell_who_takes "$name" "$1" "$file" "$told" "$refusal" " $* ")
+    hint=$(report_who_takes "$name" "$1" "$file" "$reported" "$refusal" " $* ")
     [[ $hint != *' reads only the exact text'* ]] || echo "$hint" >&2
   fi
 }
 
-# Tells on a terminal what explains why commands of a schedule did nothing.
-tell_notes() {
+# Reports on a terminal what explains why commands of a schedule did nothing.
+report_notes() {
   local file
   file=$(file_among "$@") || return 0
   echo "try: $(typed mscview) explain $(quoted "$file")" >&2
 }
 
-# Tells why a command line is refused, where that is known, and the usage; of a command that isn't known only which there are.
-tell_usage() {
+# Says why a command line is refused, where that is known, and the usage; of a command that isn't known only which there are.
+report_usage() {
   local name=$1 hint
-  hint=$(tell_unknown "$@")
-  [[ -n $hint ]] || hint=$(tell_misapplied "$@")
-  [[ -n $hint ]] || hint=$(tell_reason "$@")
+  hint=$(report_unknown "$@")
+  [[ -n $hint ]] || hint=$(report_misapplied "$@")
+  [[ -n $hint ]] || hint=$(report_reason "$@")
+  [[ -n $hint ]] || hint=$(report_luck "$@")
   [[ -z $hint ]] || echo "$hint"
   [[ $hint == "$name has no command "* ]] || usage_of "$name" "$2"
 }
 
 # Adds to what a program has answered, a status with a refusal or another last line, what is known of it. What is refused as a
 # command line has behind it why, and the usage; as a text, what to try; and on a terminal a file that can't be read its name.
-# There is also told what says why commands of a schedule did nothing, and what instances on threads waited for.
+# There is also reported what says why commands of a schedule did nothing, and what instances on threads waited for.
 add_words() {
-  local name=$1 program=$2 status=$3 refusal=${refused:-$said}
+  local name=$1 program=$2 status=$3 refusal=${refused:-$stated}
   shift 3
-  if [[ $status == 2 && $said == 'refused: G1 Usage' ]]; then
-    tell_usage "$name" "$@" >&2
-  elif [[ $status == 2 && $said == 'refused: G2 File' && -t 2 ]]; then
-    tell_unread "$@"
+  if [[ $status == 2 && $stated == 'refused: G1 Usage' ]]; then
+    report_usage "$name" "$@" >&2
+  elif [[ $status == 2 && $stated == 'refused: G2 File' && -t 2 ]]; then
+    report_unread "$@"
   elif [[ $status == 2 ]] && refuses_text "$refusal "; then
-    tell_what_to_try "$name" "$program" "$refusal " "$@"
-  elif [[ $status == 2 && $name == mscview && $said == 'refused: F34 NoSuchName' ]]; then
-    tell_names "$program" "$@" >&2
+    report_what_to_try "$name" "$program" "$refusal " "$@"
+  elif [[ $status == 2 && $name == mscview && $stated == 'refused: F34 NoSuchName' ]]; then
+    report_names "$program" "$@" >&2
   elif [[ $status == 2 && $name == mscview && $refusal =~ ^'refused: F39 BadPattern '([0-9]+)$ ]]; then
     show_place "$(value_among --pattern "$@")" "${BASH_REMATCH[1]}" >&2
-  elif [[ $status == 2 && $name == mscview && $said =~ ^'refused: F'(31 NoSuchEvent$|40 ) ]]; then
-    tell_instances "$said" "$program" "$@" >&2
+  elif [[ $status == 2 && $name == mscview && $stated =~ ^'refused: F'(31 NoSuchEvent$|40 ) ]]; then
+    report_instances "$stated" "$program" "$@" >&2
   elif [[ $name == mscview && -n $lineless && ($status != 2 || $refusal == 'refused: F52 '*) ]]; then
-    tell_hosts "$program" "$@" >&2
+    report_hosts "$program" "$@" >&2
   elif [[ $status == 2 && $name == mscview && -t 2 ]]; then
-    tell_missing "$said" >&2
-  elif [[ $status != 2 && $name == mscview && $said =~ ' of the schedule did nothing, ' && -t 2 ]]; then
-    tell_notes "$@"
+    report_missing "$stated" >&2
+  elif [[ $status != 2 && $name == mscview && $stated =~ ' of the schedule did nothing, ' && -t 2 ]]; then
+    report_notes "$@"
   elif [[ $status != 2 && -n $kept ]]; then
-    tell_spent "$kept" "$@" >&2 2>/dev/null
+    report_spent "$kept" "$@" >&2 2>/dev/null
   fi
 }
 
 # Answers the words of a command line: the usage and the version where it asks for them, which takes no program, and else what
 # the program answers, with what is known of it.
 answer() {
-  local name=$1 program=$2 status said refused='' lineless='' kept=''
+  local name=$1 program=$2 status stated refused='' lineless='' kept=''
   local -a of_hosts=()
   shift 2
   if asks_for_help "$@"; then

@@ -53,7 +53,7 @@ stop_gate() {
   trap - INT TERM HUP
   echo "test: stopped; what was built before stays" >&2
   # (rt is to find a reader for what it has to say, so that it doesn't wait for one)
-  cat <"$logs/said" >/dev/null &
+  cat <"$logs/stated" >/dev/null &
   kill -INT -- "-$gate" 2>/dev/null
   while [[ -n $(start_of "$gate") ]]; do
     for group in $(groups_below "$gate"); do
@@ -87,10 +87,10 @@ gate() {
     lose_gate "no copy of the sources can be made"
     return
   fi
-  mkfifo "$logs/said"
+  mkfifo "$logs/stated"
   # (with `set -m` it is a group of its own, and heeds an interrupt)
   set -m
-  (cd "$tree" && RT_JOBS=${RT_JOBS:-$(proofs_at_once)} exec rt ci) >"$logs/said" 2>&1 </dev/null &
+  (cd "$tree" && RT_JOBS=${RT_JOBS:-$(proofs_at_once)} exec rt ci) >"$logs/stated" 2>&1 </dev/null &
   gate=$!
   set +m
   trap 'stop_gate 130' INT
@@ -104,9 +104,9 @@ gate() {
     printf '%s %s\n' $((SECONDS - began)) "$line" >>"$logs/timed"
     if [[ $line =~ ^'rt: '([a-z0-9_]+)(' proved'$|' is kept: ') ]]; then
       ended=$((ended + 1))
-      tell_proved "${BASH_REMATCH[1]}" $((SECONDS - began)) "$ended"
+      report_proved "${BASH_REMATCH[1]}" $((SECONDS - began)) "$ended"
     fi
-  done <"$logs/said"
+  done <"$logs/stated"
   wait "$gate"
   status=$?
   trap - INT TERM HUP
@@ -122,7 +122,7 @@ gate() {
     echo "FAILED rt ci: status $status" | tee -a "$logs/gate"
     [[ $summary =~ ,\ [1-9] ]] || failed=$((failed + 1))
   fi
-  tell_failures gate
+  report_failures gate
   keep_proved
   ((status != 0)) || gate_held=yes
 }

@@ -78,8 +78,8 @@ names_of() {
   done
 }
 
-# Tells what is wrong with the names of a refused command line: which one --only or --join has twice, or which instances there are.
-tell_names() {
+# Says what is wrong with the names of a refused command line: which one --only or --join has twice, or which instances there are.
+report_names() {
   local program=$1 option=--only left_out='' name
   local -a there=() options files
   local -A given=()
@@ -104,8 +104,8 @@ tell_names() {
   fi
 }
 
-# Tells that a file has no such instance, and which it has, or that only one of two files has an instance.
-tell_instances() {
+# Says that a file has no such instance, and which it has, or that only one of two files has an instance.
+report_instances() {
   local refusal=$1 program=$2
   local -a there=()
   shift 2
@@ -141,12 +141,12 @@ show_place() (
 # Of what import writes of a log, its chart and its warnings, three lines for each two words that may be for one host: `alike`,
 # where the names of the warning aren't the words of the log, or `alone`, the word of a host that has lines of its own and that
 # no line names, and the word of a peer. Alone are those that are the only ones of their kind, if the host's lines don't name it.
-# Nothing is told of a word of which a warning can't show each byte, or where one `name` may be of a host or of a message.
+# Nothing is reported of a word of which a warning can't show each byte, or where one `name` may be of a host or of a message.
 words_for_one_host() {
   LC_ALL=C awk '
     function own(name) { return name in word ? word[name] : name }
     function is_unclear(name) { return name in message && has_word[name] == 1 }
-    function tell(kind, host, peer) {
+    function report(kind, host, peer) {
       if (index(own(host), "=") || index(own(peer), ",") || own(host) own(peer) ~ /[?\\]/) return
       if (is_unclear(host) || is_unclear(peer)) return
       print kind; print own(host); print own(peer)
@@ -160,7 +160,7 @@ words_for_one_host() {
     /^(out|in) [^ ]+ (to|from) [^ ]+;$/ { events++; message[$2]; event[++all] = line[lines] SUBSEP events; partner[all] = begun($4) }
     END {
       for (at = 1; at <= many; at++)
-        if (own(alike[at]) != alike[at] || own(hosts[at]) != hosts[at]) tell("alike", hosts[at], alike[at])
+        if (own(alike[at]) != alike[at] || own(hosts[at]) != hosts[at]) report("alike", hosts[at], alike[at])
       for (at = 1; at <= all; at++) {
         if (event[at] in invented) continue
         named[partner[at]] = 1
@@ -171,13 +171,13 @@ words_for_one_host() {
         if (!(line[at] in lineless) && !(line[at] in named)) { host = line[at]; many_hosts++ }
         if (line[at] in lineless && line[at] in named) { peer = line[at]; many_peers++ }
       }
-      if (many == 0 && many_hosts == 1 && many_peers == 1 && !((host, peer) in by)) tell("alone", host, peer)
+      if (many == 0 && many_hosts == 1 && many_peers == 1 && !((host, peer) in by)) report("alone", host, peer)
     }'
 }
 
-# Tells of a log, of which some warnings are `of_hosts`, which of its words may be for one host. Import reads it once more, if it
+# Reports a log, of which some warnings are `of_hosts`, which of its words may be for one host. Import reads it once more, if it
 # is short or on a terminal; else there are only these warnings.
-tell_hosts() {
+report_hosts() {
   local program=$1 text again kind host peer
   shift
   text=$(printf '%s\n' "${of_hosts[@]}")

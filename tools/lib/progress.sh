@@ -53,13 +53,13 @@ seconds_left() {
 }
 
 # Says which part begins, and how long all that is to come is likely to take.
-tell_begin() {
+report_begin() {
   echo "$1: begins after $(clock "$SECONDS"); $(about "$(seconds_left "$1" 0)") left for all"
 }
 
 # Says how many crates of how many the gate has proved, and how long the rest is likely to take, by their sources: it takes
 # longer with each line of them.
-tell_proved() {
+report_proved() {
   local name=$1 over=$2 ended=$3
   ((${#source_size[@]} > 0)) || weigh_sources
   done_size=$((done_size + ${source_size[$name]-0}))
@@ -79,7 +79,7 @@ weigh_sources() {
 
 # Says each minute how many edits of how many were tried, by the lines of a file, and how long the rest is likely to take. It
 # goes on until it is ended.
-tell_edits() {
+report_edits() {
   local file=$1 written all tried over began=$SECONDS
   written=$(find "$root"/crates/*/must-fail -name '*.edit' | wc -l)
   while sleep 60 >/dev/null 2>&1; do

@@ -28,7 +28,7 @@ value_of() {
 }
 
 # What an option of a program's command takes, with what its value has to be.
-tell_value() {
+report_value() {
   local name=$1 command=$2 option=$3 which=''
   local -a known
   case $option in
@@ -84,8 +84,8 @@ are_values() {
   esac
 }
 
-# Tells which of these words of a command line isn't there, or is one too many. The first COUNT of them may be left out.
-tell_words() {
+# Says which of these words of a command line isn't there, or is one too many. The first COUNT of them may be left out.
+report_words() {
   local many=$1 count=$2
   shift 2
   local -a names=("${@:1:many}") there=("${@:many+1}")
@@ -101,7 +101,7 @@ tell_words() {
   fi
 }
 
-# Sorts the words of a command line behind the command: `free` are those that are no option's, and `given` has its options. Tells
+# Sorts the words of a command line behind the command: `free` are those that are no option's, and `given` has its options. Reports
 # the first option that is given twice, or whose value has another form.
 sort_words() {
   local name=$1 command=$2 option many
@@ -135,14 +135,14 @@ sort_words() {
       shift $((many < $# ? many + 1 : $#))
     fi
     if ((many > 0)) && ! are_values "$option" "${values[@]}"; then
-      reason=$(tell_value "$name" "$command" "$option")
+      reason=$(report_value "$name" "$command" "$option")
       return
     fi
   done
 }
 
-# Tells which options of a command line exclude each other, or need another one, by what is in `given`.
-tell_excluded() {
+# Says which options of a command line exclude each other, or need another one, by what is in `given`.
+report_excluded() {
   local command=$1 from=$2 option first=''
   local -a others=()
   case $command in
@@ -156,9 +156,13 @@ tell_excluded() {
     mend)
       if [[ -n ${given[--all]-} ]]; then
         first=--all others=(--name --verbose)
-      elif [[ -n ${given[--limit]-} ]]; then
-        echo '--limit needs --all'
-        return
+      else
+        for option in --limit --receives --run-to-completion --luck; do
+          if [[ -n ${given[$option]-} ]]; then
+            echo "$option needs --all"
+            return
+          fi
+        done
       fi
       ;;&
     mend | witness)
@@ -176,39 +180,39 @@ tell_excluded() {
   done
 }
 
-# Tells which of the free words of a command line is missing, or is one too many, or is no number.
-tell_free() {
+# Says which of the free words of a command line is missing, or is one too many, or is no number.
+report_free() {
   local command=$1 from=$2 pair='INSTANCE EARLIER RECEIVE' log='' many
   shift 2
   many=$#
   [[ ! $from =~ ^(log|shiviz)$ ]] || log=1
   case $command in
-    compare) tell_words 2 0 A B "$@" ;;
-    replay | random | check | threads) tell_words 1 0 FILE "$@" ;;
+    compare) report_words 2 0 A B "$@" ;;
+    replay | random | check | threads) report_words 1 0 FILE "$@" ;;
     why | witness | mend)
       # shellcheck disable=SC2086
       if [[ -z $from ]] && ((many != 4)); then
-        tell_words 4 0 FILE $pair "$@"
+        report_words 4 0 FILE $pair "$@"
       elif ((many < 3)); then
-        tell_words 3 0 $pair "$@"
+        report_words 3 0 $pair "$@"
       elif [[ -z $log ]] && ((many > 4)); then
-        tell_words 4 1 FILE $pair "$@"
+        report_words 4 1 FILE $pair "$@"
       elif ! is_number "${*: -2:1}" || ! is_number "${!#}"; then
         echo 'EARLIER and RECEIVE are numbers'
       fi
       ;;
-    *) [[ -n $log ]] || tell_words 1 1 FILE "$@" ;;
+    *) [[ -n $log ]] || report_words 1 1 FILE "$@" ;;
   esac
 }
 
-# Tells of a command line, whose words are all known and apply, what is missing, is too many, or has another form.
-tell_reason() {
+# Reports of a command line, whose words are all known and apply, what is missing, is too many, or has another form.
+report_reason() {
   local name=$1 command=${2-} needed='' reason='' from
   local -a free=()
   local -A given=()
   from=$(value_among --from "${@:3}")
   sort_words "$@"
-  [[ -n $reason ]] || reason=$(tell_excluded "$command" "$from")
+  [[ -n $reason ]] || reason=$(report_excluded "$command" "$from")
   case $command in
     random) needed=--seed ;;
     threads) needed=--turns ;;
@@ -219,8 +223,8 @@ tell_reason() {
   elif [[ -n $needed && -z ${given[$needed]-} ]]; then
     echo "$needed is missing"
   elif [[ -n ${given[--all]-} ]]; then
-    tell_free page "$from" "${free[@]}"
+    report_free page "$from" "${free[@]}"
   else
-    tell_free "$command" "$from" "${free[@]}"
+    report_free "$command" "$from" "${free[@]}"
   fi
 }

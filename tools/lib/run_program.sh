@@ -30,7 +30,7 @@ run_built_or_not() {
 # Whether the program of a name answers at once: it is built, or was compiled before.
 at_once() { is_built "$1" || is_built "$1.unproved" "$1"; }
 
-# What is told while a program is compiled goes to the terminal at once, and not line by line behind what the program says.
+# What is reported while a program is compiled goes to the terminal at once, and not line by line behind what the program says.
 run_program() {
   local name=$1 terminal=
   [[ ! -t 2 || ${TERM-dumb} == dumb ]] || exec {terminal}>&2

@@ -1,4 +1,4 @@
-# Tells for each instance that a run on threads says is `spent` for what it gave up waiting: the first of its commands that it
+# Reports for each instance that a run on threads says is `spent` for what it gave up waiting: the first of its commands that it
 # didn't do. It reads the schedule, and behind it what `mscrun threads` has printed of it; `turns` is the number of turns.
 #
 # An instance has done its commands up to some one of them. One that sends or receives has an event in the chart, or a note
@@ -26,7 +26,7 @@ function what(name, at) {
   return verb[name, at] == "any" ? "a message" : "room towards " partner[name, at]
 }
 
-function tell(name,  at, left) {
+function report(name,  at, left) {
   left = events[name]
   for (at = 1; at <= many[name]; at++) {
     if ((line[name, at]) in noted) continue
@@ -43,5 +43,5 @@ BEGIN {
 }
 
 END {
-  for (at = 1; at <= count; at++) print tell(spent[at]) ": more turns may be enough"
+  for (at = 1; at <= count; at++) print report(spent[at]) ": more turns may be enough"
 }

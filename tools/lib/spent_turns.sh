@@ -1,21 +1,21 @@
 # shellcheck shell=bash
-# Read beside front.sh, by what sets `spent_turns` to the awk program: how `answer` tells on a terminal for what the instances of
+# Read beside front.sh, by what sets `spent_turns` to the awk program: how `answer` reports on a terminal for what the instances of
 # a run on threads waited whose turns were spent.
 
-# Whether what is run here is kept: a run on threads, where a terminal is told what its instances waited for.
+# Whether what is run here is kept: a run on threads, where a terminal gets what its instances waited for.
 is_kept() { [[ $1 == mscrun && ${2-} == threads && -t 2 ]] && command -v awk >/dev/null && { : >&1; } 2>/dev/null; }
 
 # Runs the program as `runs` does, and keeps in `kept` what it writes to standard output, which then goes there.
 runs_kept() {
   local status end
   # (behind what the program writes stand its status and the beginning of the last line that it says)
-  kept=$(passing_on "$@"; printf '\n%s\n%s.' "$?" "${said:0:200}")
+  kept=$(passing_on "$@"; printf '\n%s\n%s.' "$?" "${stated:0:200}")
   end=$kept
   ((${#kept} < 400)) || end=${kept: -400}
-  said=${end##*$'\n'} end=${end%$'\n'*}
+  stated=${end##*$'\n'} end=${end%$'\n'*}
   status=${end##*$'\n'}
-  kept=${kept:0:${#kept}-${#said}-${#status}-2}
-  said=${said%.}
+  kept=${kept:0:${#kept}-${#stated}-${#status}-2}
+  stated=${stated%.}
   [[ -z $kept ]] || (trap '' PIPE; printf '%s' "$kept") 2>/dev/null || { echo 'refused: F24 Write' >&2; return 2; }
   return "$status"
 }
@@ -31,8 +31,8 @@ turns_among() {
   done
 }
 
-# Tells on a terminal for what the instances waited whose turns were spent, by what the run on threads has written.
-tell_spent() {
+# Reports on a terminal for what the instances waited whose turns were spent, by what the run on threads has written.
+report_spent() {
   local output=$1 file='' before='' word
   shift
   [[ $'\n'$output == *$'\nspent '* ]] || return 0

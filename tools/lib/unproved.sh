@@ -11,7 +11,7 @@ measured_pace=50000
 # How much of that is over once clang begins, in hundredths.
 part_before_clang=67
 
-# The microseconds that the shell takes here for what tells how quick this machine is, and how much else is at work on it.
+# The microseconds that the shell takes here for what says how quick this machine is, and how much else is at work on it.
 pace() {
   local at began=${EPOCHREALTIME//[!0-9]/}
   for ((at = 0; at < 30000; at++)); do :; done
@@ -28,7 +28,7 @@ seconds_to_compile() {
 }
 
 # Shows on `terminal`, a file descriptor, how much of the time is over, until it is ended or its parent has: what is shown, its
-# seconds, and a file that is there once clang has begun, which tells the time anew.
+# seconds, and a file that is there once clang has begun, which measures the time anew.
 show_bar() {
   local what=$1 seconds=$2 began_clang=$3 parent=$4 began=$SECONDS passed width clang=''
   while kill -0 "$parent" 2>/dev/null; do
@@ -76,7 +76,7 @@ keep_unproved() {
 }
 
 # Compiles a program without a proof, and keeps it. It says how long that is likely to take, or on `terminal`, where that is
-# set, shows how far it is. With status 1 what this kit compiles can't be kept, and with 2 it refuses the sources, and has said why.
+# set, shows how far it is. With status 1 what this kit compiles can't be kept, and with 2 it refuses the sources, and has stated why.
 compile_unproved() (
   name=$1 began=$SECONDS bar=''
   room=$(mktemp -d) || exit 2
@@ -117,7 +117,7 @@ run_kept() {
   # (what ends by such a signal has met a fault, at which rt try stops too, and says where)
   [[ $status =~ ^13[2-6]$|^139$ ]] || return "$status"
   mv "$root/out/bin/$name.unproved" "$root/out/bin/$name.faulted"
-  echo "$name: no answer without ./build: the unproved run stopped at a fault, and the next one tells where" >&2
+  echo "$name: no answer without ./build: the unproved run stopped at a fault, and the next one says where" >&2
   return 2
 }
 

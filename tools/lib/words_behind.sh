@@ -18,8 +18,8 @@ value_among() {
   done
 }
 
-# Tells what makes a chart of another tool's text, which --from has named, for a command that reads only charts.
-tell_import() {
+# Says what makes a chart of another tool's text, which --from has named, for a command that reads only charts.
+report_import() {
   local from=$1 files=FILE..
   case $from in
     mscgen | plantuml | mermaid) files=FILE ;;
@@ -29,9 +29,9 @@ tell_import() {
   echo "try: $(typed mscview) import --from $from $files >a.msc"
 }
 
-# Tells the first word of a refused command line that isn't known, and which there are: a command, an option, or the value of
+# Reports the first word of a refused command line that isn't known, and which there are: a command, an option, or the value of
 # one that has a choice.
-tell_unknown() {
+report_unknown() {
   local name=$1 command=${2-} parts option value
   local -a known
   shift 2
@@ -49,7 +49,7 @@ tell_unknown() {
       if ! is_among "$option" "${known[@]}"; then
         ((${#known[@]} > 0)) || known=(none)
         echo "$command has no $(quoted "$option"): it has $(listed and "${known[@]}")"
-        [[ ! "$name $command $option" =~ ^mscview\ (compare|export)\ --from$ ]] || tell_import "$value"
+        [[ ! "$name $command $option" =~ ^mscview\ (compare|export)\ --from$ ]] || report_import "$value"
         return
       fi
       mapfile -t known < <(sed -n "s/^value $command $option //p" <<<"$parts" | tr ' ' '\n' | awk '!has[$0]++')
@@ -66,10 +66,30 @@ tell_unknown() {
   done
 }
 
-# Tells of a refused command line of mscview, whose words are all known, the first option that doesn't apply to what is read,
-# and to what it does. Luck isn't known of charts, and not of each log: so --luck is told there if no other option is.
-tell_misapplied() {
-  local name=$1 command=${2-} from word of_luck=
+# Says what --luck of a command of mscview applies to.
+report_luck_of() {
+  local what='a schedule, and to --from log'
+  [[ $1 != mend ]] || what='--from log'
+  echo "--luck applies to $what without captured messages or vector time"
+}
+
+# Reports what --luck applies to, if it is given. Luck isn't known of charts, and not of each log, and the words don't show which
+# it is: so this is for command lines in which nothing else is wrong.
+report_luck() {
+  local word
+  [[ $1 == mscview ]] || return 0
+  for word in "${@:3}"; do
+    [[ $word != -- ]] || return 0
+    [[ $word == --luck ]] || continue
+    report_luck_of "$2"
+    return
+  done
+}
+
+# Reports of a refused command line of mscview, whose words are all known, the first option that doesn't apply to what is read,
+# and to what it does.
+report_misapplied() {
+  local name=$1 command=${2-} from word
   [[ $name == mscview && $command =~ ^(import|races|draw|page|why|witness|mend)$ ]] || return 0
   shift 2
   from=$(value_among --from "$@")
@@ -77,9 +97,13 @@ tell_misapplied() {
     case ${word%%=*}:$from in
       --:*) return ;;
       --luck:*)
-        of_luck='--luck applies to a schedule, and to --from log without captured messages or vector time'
-        [[ -n $from && $from != log ]] || continue
-        echo "$of_luck"
+        # (that it needs --all is reported behind)
+        if [[ $command == mend ]]; then
+          [[ " $* " == *' --all '* && $from != log ]] || continue
+        else
+          [[ -n $from && $from != log ]] || continue
+        fi
+        report_luck_of "$command"
         ;;
       --pattern:log) continue ;;
       --pattern:*) echo '--pattern applies to --from log' ;;
@@ -96,11 +120,10 @@ tell_misapplied() {
     esac
     return
   done
-  [[ -z $of_luck ]] || echo "$of_luck"
 }
 
-# Tells which option has taken a file of a command line without another one, so that standard input was read.
-tell_taken() {
+# Says which option has taken a file of a command line without another one, so that standard input was read.
+report_taken() {
   local name=$1 before='' earlier='' before_that='' word option rest='' at=1
   shift
   [[ $name == mscview && $(free_words "$@") == 0 ]] || return 1
@@ -119,8 +142,8 @@ tell_taken() {
   return 1
 }
 
-# Tells on a terminal which event or pair a refusal is about.
-tell_missing() {
+# Reports on a terminal which event or pair a refusal is about.
+report_missing() {
   local refusal=$1 name count
   case $refusal in
     'refused: F31 NoSuchEvent '*)
@@ -132,33 +155,33 @@ tell_missing() {
   esac
 }
 
-# Tells what the options of a refused import have to do with it: `mscview explain` reads the text without them.
-tell_of_options() {
-  local refusal=$1 words=$2 told=$3 tool
+# Says what the options of a refused import have to do with it: `mscview explain` reads the text without them.
+report_of_options() {
+  local refusal=$1 words=$2 reported=$3 tool
   if [[ $refusal == 'refused: F21 '* && $words == *' --skip'[\ =]* ]]; then
     echo 'what --skip leaves of the text ends too early'
   elif [[ $refusal =~ ^'refused: F'(35|38|51)' ' ]]; then
     [[ $words != *' --skip'[\ =]* ]] || echo 'the remaining lines have to be valid: skip an else with its branch, and an end with its frame'
-    [[ $refusal != 'refused: F35 '* || "$words " != *' --strict '* || $told =~ ^'a '(chart|schedule)', ' ]] ||
+    [[ $refusal != 'refused: F35 '* || "$words " != *' --strict '* || $reported =~ ^'a '(chart|schedule)', ' ]] ||
       echo '--strict refuses constructs that a chart cannot express; without it they are skipped with a warning'
-    tool=$(tool_in "$told") || return 0
+    tool=$(tool_in "$reported") || return 0
     [[ $words != *' --from'[\ =]* || $words == *" --from"[\ =]"$tool"* ]] || echo "it looks like a diagram for --from $tool"
   fi
 }
 
-# Tells what takes a file that a program's command has refused, by what `mscview explain` writes of the file: nothing of what
-# only --strict refuses, or what is no log, for there it has no more to tell.
-tell_who_takes() {
-  local name=$1 command=$2 file=$3 told=$4 refusal=$5 words=$6
+# Says what takes a file that a program's command has refused, by what `mscview explain` writes of the file: nothing of what
+# only --strict refuses, or what is no log, for there it has no more to say.
+report_who_takes() {
+  local name=$1 command=$2 file=$3 reported=$4 refusal=$5 words=$6
   if [[ $refusal =~ ^'refused: F'(35|38|51)' ' ]]; then
-    if [[ $told =~ ^'a '(chart|schedule)', ' ]]; then
+    if [[ $reported =~ ^'a '(chart|schedule)', ' ]]; then
       echo "$(quoted "$file") is a ${BASH_REMATCH[1]} already, and needs no import"
       echo "try: $(typed mscview) races $(quoted "$file")"
       return
     fi
-    [[ $refusal == 'refused: F35 '* && ! ($words == *' --strict '* && $told == *$'\nnothing is wrong with it'*) ]] || return 0
+    [[ $refusal == 'refused: F35 '* && ! ($words == *' --strict '* && $reported == *$'\nnothing is wrong with it'*) ]] || return 0
   fi
-  case $name:$command:$told in
+  case $name:$command:$reported in
     mscrun:check:'a schedule, '*)
       echo "$(quoted "$file") is a schedule, and check takes a chart"
       echo "try: $(typed mscrun) replay $(quoted "$file")"
@@ -166,13 +189,13 @@ tell_who_takes() {
     mscrun:replay:'a chart, '* | mscrun:random:'a chart, '* | mscrun:threads:'a chart, '*)
       echo "$(quoted "$file") is a chart, and $command takes a schedule"
       # (a chart with what mscrun printed behind it is for mscview alone)
-      if [[ $told == *'mscrun check refuses what stands here'* ]]; then
+      if [[ $reported == *'mscrun check refuses what stands here'* ]]; then
         echo "try: $(typed mscview) races $(quoted "$file")"
       else
         echo "try: $(typed mscrun) check $(quoted "$file")"
       fi
       ;;
-    mscrun:*:'a diagram of '*) echo "try: $(typed mscview) $(quoted races --from "$(tool_in "$told")" "$file")" ;;
+    mscrun:*:'a diagram of '*) echo "try: $(typed mscview) $(quoted races --from "$(tool_in "$reported")" "$file")" ;;
     *$'\nhelp: mscview tidy writes '*)
       echo "$command reads only the exact text, without comments, blank lines and arrows, and tidy writes it"
       echo "try: $(typed mscview) tidy $(quoted "$file")"

@@ -1,4 +1,4 @@
-"""A chart's text, read and written line by line as docs/reference/charts.md tells."""
+"""A chart's text, read and written line by line as docs/reference/charts.md says."""
 
 import re
 from collections import namedtuple
@@ -42,15 +42,15 @@ class Reader:
                 raise Refused("F8")
             self.place = "behind"
             return
-        said = INSTANCE.fullmatch(line)
-        if not said:
+        stated = INSTANCE.fullmatch(line)
+        if not stated:
             raise Refused("F20", number)
-        check_name(said[1], number)
-        if said[1] in self.names:
+        check_name(stated[1], number)
+        if stated[1] in self.names:
             raise Refused("F22", number)
         if len(self.names) == MOST_INSTANCES:
             raise Refused("F8")
-        self.names.append(said[1])
+        self.names.append(stated[1])
         self.lines.append([])
         self.coregions = 0
         self.place = "inside"
@@ -81,8 +81,8 @@ class Reader:
         else:
             raise Refused("F20", number)
 
-    def add(self, kind, said, number):
-        message, partner = said[1], said[2]
+    def add(self, kind, stated, number):
+        message, partner = stated[1], stated[2]
         check_name(message, number)
         check_name(partner, number)
         if partner == self.names[-1]:

@@ -17,7 +17,7 @@ FIRST_WORDS = {
 
 
 def detected_tool(text: bytes) -> str:
-    """The tool that a text tells, or `NotRead` or `Unfinished`."""
+    """The tool that a text names, or `NotRead` or `Unfinished`."""
     begin = PASSED.match(text).end()
     for tool, word in FIRST_WORDS.items():
         if word.match(text, begin):

@@ -41,14 +41,14 @@ class Event(NamedTuple):
 
 def event_of(note: Note, row: int, numbers: dict[bytes, int], at: int) -> Event | None:
     """The event that a note at an instance says, if it says one with another instance."""
-    said = EVENT.fullmatch(note.text)
-    if not said or len(said["message"]) > LONGEST_NAME or said["message"] in RESERVED:
+    stated = EVENT.fullmatch(note.text)
+    if not stated or len(stated["message"]) > LONGEST_NAME or stated["message"] in RESERVED:
         return None
-    partner = numbers.get(said["partner"])
+    partner = numbers.get(stated["partner"])
     if partner is None or partner == at:
         return None
-    sends = said["out"] is not None
-    return Event(row, note.line, sends, (at, partner) if sends else (partner, at), said["message"])
+    sends = stated["out"] is not None
+    return Event(row, note.line, sends, (at, partner) if sends else (partner, at), stated["message"])
 
 
 class Collector:
@@ -65,8 +65,8 @@ class Collector:
         self.waiting: dict[tuple[tuple[int, int], bytes], list[int]] = {}
 
     def collect(self) -> None:
-        for row, said in enumerate(self.reading.rows):
-            for arrow_or_note in said:
+        for row, stated in enumerate(self.reading.rows):
+            for arrow_or_note in stated:
                 if isinstance(arrow_or_note, Arrow):
                     self.arrow(arrow_or_note, row)
                 else:

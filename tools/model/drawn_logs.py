@@ -1,4 +1,4 @@
-"""Logs that are drawn: any lines at all, cut recordings of lanes, and recordings of mailboxes with what they tell."""
+"""Logs that are drawn: any lines at all, cut recordings of lanes, and recordings of mailboxes with what they report."""
 
 import re
 from dataclasses import dataclass, field
@@ -61,9 +61,9 @@ class Mailboxes:
         self.hosts = HOSTS[: draw.choice((2, 3, 3, 4, 5))]
         self.boxes = {host: Mailbox() for host in self.hosts}
         self.lines: list[str] = []
-        self.tells_arrivals = draw.random() < 0.8
-        self.often_told = 0.9
-        self.tells_patterns = draw.random() < 0.8
+        self.reports_arrivals = draw.random() < 0.8
+        self.often_reported = 0.9
+        self.reports_patterns = draw.random() < 0.8
         self.in_order = draw.random() < 0.5
         self.names = NAMES[: draw.choice((1, 2, 4, 4))]
         self.most_ids = draw.choice((0, 3, 1000, 1000))
@@ -87,7 +87,7 @@ class Mailboxes:
             way = box.on_the_way[peer]
             name, number = way.pop(0 if self.in_order else self.draw.randrange(len(way)))
             box.waiting.append((peer, name, number))
-            if self.tells_arrivals and self.draw.random() < self.often_told:
+            if self.reports_arrivals and self.draw.random() < self.often_reported:
                 self.lines.append(f"{host} arrive {peer} {self.words(name, number)}")
 
     def receive(self) -> None:
@@ -97,10 +97,10 @@ class Mailboxes:
         for waits in self.boxes[host].waiting:
             if peer in ("*", waits[0]) and (waits[1].startswith(names[:-1]) if names[-1] == "*" else waits[1] == names):
                 self.boxes[host].waiting.remove(waits)
-                told = f" takes={peer}:{names}" if self.tells_patterns else ""
-                if told and self.draw.random() < 0.2:
-                    told += f" takes={self.draw.choice(self.hosts)}:{self.draw.choice(NAMES)}"
-                self.lines.append(f"{host} receive {waits[0]} {self.words(waits[1], waits[2])}{told}")
+                reported = f" takes={peer}:{names}" if self.reports_patterns else ""
+                if reported and self.draw.random() < 0.2:
+                    reported += f" takes={self.draw.choice(self.hosts)}:{self.draw.choice(NAMES)}"
+                self.lines.append(f"{host} receive {waits[0]} {self.words(waits[1], waits[2])}{reported}")
                 return
 
 
@@ -130,11 +130,11 @@ def recorded_lines(draw: Random) -> list[str]:
 
 def whole_lines(draw: Random) -> list[str]:
     """
-    The whole recording of a run over ways that are first in, first out. Each arrival is told, and each message has an
+    The whole recording of a run over ways that are first in, first out. Each arrival is known, and each message has an
     id of its own.
     """
     run = Mailboxes(draw)
-    run.in_order, run.tells_arrivals, run.often_told, run.most_ids = True, True, 1, 1000
+    run.in_order, run.reports_arrivals, run.often_reported, run.most_ids = True, True, 1, 1000
     run.go_on()
     return run.lines
 
@@ -154,7 +154,7 @@ def named_otherwise(draw: Random, lines: list[str]) -> tuple[list[str], tuple[tu
 
     def renamed(line: str) -> str:
         host, kind, peer, *rest = line.split(" ")
-        told = [re.sub("^takes=(.*):", lambda found: f"takes={word(found[1])}:", each) for each in rest]
-        return " ".join([word(host), kind, word(peer), *told])
+        reported = [re.sub("^takes=(.*):", lambda found: f"takes={word(found[1])}:", each) for each in rest]
+        return " ".join([word(host), kind, word(peer), *reported])
 
     return [renamed(line) for line in lines], peers

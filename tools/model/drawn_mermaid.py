@@ -69,17 +69,17 @@ class MermaidPen(Pen):
         sign = draw.one_of(MESSAGES * 6 + HALF_HEADS + LOST * 2 + BOTH * 2)
         blank = draw.one_of([b"", b"", b" "])
         activation = draw.one_of([b""] * 6 + [b"+", b"-"])
-        said = one + blank + sign + activation + blank + other
-        said += draw.one_of([b": ", b":", b" : ", b":wrap: ", b": nowrap:"]) + self.label()
-        if draw.below(12) == 0 and b"#" not in said:
-            said += draw.one_of([b"; ", b";"]) + one + b"->>" + other + b": behind"
-        self.line(said)
+        stated = one + blank + sign + activation + blank + other
+        stated += draw.one_of([b": ", b":", b" : ", b":wrap: ", b": nowrap:"]) + self.label()
+        if draw.below(12) == 0 and b"#" not in stated:
+            stated += draw.one_of([b"; ", b";"]) + one + b"->>" + other + b": behind"
+        self.line(stated)
 
     def note(self) -> None:
-        said = self.draw.one_of(NOTES) % self.draw.one_of(self.words)
+        stated = self.draw.one_of(NOTES) % self.draw.one_of(self.words)
         if self.draw.below(3) == 0:
-            said = b"over %s,%s: text" % self.two_words()
-        self.line(self.draw.one_of([b"Note ", b"note ", b"NOTE "]) + said)
+            stated = b"over %s,%s: text" % self.two_words()
+        self.line(self.draw.one_of([b"Note ", b"note ", b"NOTE "]) + stated)
 
     def look(self) -> None:
         for line in self.draw.one_of(LOOKS):
@@ -124,8 +124,8 @@ def drawn_mermaid(seed: int) -> bytes:
     """The diagram of a seed."""
     draw = Draw(seed)
     pen = MermaidPen(draw)
-    for said in draw.one_of(TITLE_BLOCKS):
-        pen.line(said)
+    for stated in draw.one_of(TITLE_BLOCKS):
+        pen.line(stated)
     if draw.below(3) == 0:
         pen.look()
     pen.line(draw.one_of([b"sequenceDiagram", b"sequenceDiagram", b"sequencediagram"]))

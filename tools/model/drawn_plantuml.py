@@ -79,19 +79,19 @@ class PlantumlPen(Pen):
         verb = self.keyword(draw.one_of(KINDS)) + b" "
         form = draw.below(7)
         if form == 0:
-            said = quoted(label) + b" as " + word
+            stated = quoted(label) + b" as " + word
         elif form == 1:
-            said = word + b" as " + quoted(label)
+            stated = word + b" as " + quoted(label)
         elif form == 2:
-            said = b"Long%d as " % number + word
+            stated = b"Long%d as " % number + word
         elif form == 3:
-            said = word = quoted(b"Node %d" % number)
+            stated = word = quoted(b"Node %d" % number)
         else:
-            said = word
+            stated = word
             if word.startswith(b"P"):
                 self.plain_words.append(word)
         self.words.append(word)
-        self.line(verb + said + draw.one_of(STEREOTYPES) + draw.one_of(COLOURS))
+        self.line(verb + stated + draw.one_of(STEREOTYPES) + draw.one_of(COLOURS))
 
     def label(self) -> bytes:
         """A label behind a colon, or none."""
@@ -109,20 +109,20 @@ class PlantumlPen(Pen):
         is_plain = sign in RIGHT + LEFT
         behind = draw.one_of([self.activation() if is_plain else b""] * 10 + [b" #red", b" [[http://a.b]]"])
         self.count_activations(behind)
-        said = row + one + blank + sign + blank + other + behind + self.label()
+        stated = row + one + blank + sign + blank + other + behind + self.label()
         if draw.below(12) == 0:
-            said = draw.one_of([b"/' x '/ %s", b"%s /' a -> b '/"]) % said
-        self.continued(said)
+            stated = draw.one_of([b"/' x '/ %s", b"%s /' a -> b '/"]) % stated
+        self.continued(stated)
         # (PlantUML draws what answers a crossed arrow as one that is crossed too)
         self.message_is_last = is_plain
 
-    def continued(self, said: bytes) -> None:
+    def continued(self, stated: bytes) -> None:
         """Writes a line, seldom as two of which the first ends in a `\\`."""
-        colon = said.find(b":")
-        if colon > 0 and b"http" not in said and self.draw.below(15) == 0:
-            self.line(said[:colon + 1] + b"\\")
-            said = said[colon + 1:]
-        self.line(said)
+        colon = stated.find(b":")
+        if colon > 0 and b"http" not in stated and self.draw.below(15) == 0:
+            self.line(stated[:colon + 1] + b"\\")
+            stated = stated[colon + 1:]
+        self.line(stated)
 
     def activation(self) -> bytes:
         """What may stand behind an arrow. Nothing does in a branch that is left out."""
@@ -130,10 +130,10 @@ class PlantumlPen(Pen):
             return b""
         return self.draw.one_of([b""] * 6 + [b" ++", b"++", b" --", b" !!", b" ++ #gold"])
 
-    def count_activations(self, said: bytes) -> None:
-        if b"++" in said or said.startswith(b"activate"):
+    def count_activations(self, stated: bytes) -> None:
+        if b"++" in stated or stated.startswith(b"activate"):
             self.activations += 1
-        elif b"--" in said or said.startswith(b"deactivate"):
+        elif b"--" in stated or stated.startswith(b"deactivate"):
             self.activations = max(0, self.activations - 1)
 
     def edge(self) -> None:
@@ -156,13 +156,13 @@ class PlantumlPen(Pen):
             return
         one, other = self.two_words()
         self.line(one + b" -> " + other + self.label())
-        said = self.draw.one_of(LIVES)
-        if (said.startswith(b"%s") and other.startswith(b'"')) or (said == b"deactivate" and not self.activations):
-            said = LIVES[0]
-        verb, *rest = said.split(b" ")
-        words = b" ".join([self.keyword(verb)] + rest) if b"%s" not in verb else said
-        self.line(words % other if b"%s" in said else words)
-        self.count_activations(said)
+        stated = self.draw.one_of(LIVES)
+        if (stated.startswith(b"%s") and other.startswith(b'"')) or (stated == b"deactivate" and not self.activations):
+            stated = LIVES[0]
+        verb, *rest = stated.split(b" ")
+        words = b" ".join([self.keyword(verb)] + rest) if b"%s" not in verb else stated
+        self.line(words % other if b"%s" in stated else words)
+        self.count_activations(stated)
         self.message_is_last = True
 
     def give_back(self) -> None:
@@ -205,16 +205,16 @@ class PlantumlPen(Pen):
         self.box_is_open = not self.box_is_open
 
     def look(self) -> None:
-        said = self.draw.one_of(LOOKS)
-        for line in said:
+        stated = self.draw.one_of(LOOKS)
+        for line in stated:
             self.line(line)
         # (nothing but an arrow may stand behind a delay, before a participant is created)
-        if b"..." in said:
+        if b"..." in stated:
             self.arrow()
 
     def note(self) -> None:
-        for said in self.draw.one_of(NOTES):
-            self.line(said % self.draw.one_of(self.words) if b"%s" in said else said)
+        for stated in self.draw.one_of(NOTES):
+            self.line(stated % self.draw.one_of(self.words) if b"%s" in stated else stated)
 
 
 STEPS = (
@@ -246,6 +246,6 @@ def drawn_plantuml(seed: int) -> bytes:
     pen.receive_all()
     pen.line(b"@enduml")
     if draw.below(6) == 0:
-        for said in (b"text below", b"@startuml", b"x -> y : z", b"@enduml"):
-            pen.line(said)
+        for stated in (b"text below", b"@startuml", b"x -> y : z", b"@enduml"):
+            pen.line(stated)
     return pen.text()

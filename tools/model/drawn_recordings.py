@@ -133,17 +133,17 @@ def messages_of(chart: Chart, turns: dict[tuple[int, int], int]) -> list[tuple[t
 
 
 def with_others(draw: Random, lines: list[str]) -> tuple[list[str], list[int]]:
-    """The lines, with some between them that say nothing, and the numbers of those that are told."""
+    """The lines, with some between them that say nothing, and the numbers of those that are reported."""
     mixed: list[str] = []
-    told = []
+    reported = []
     often = draw.choice((0, 0, 0.1))
     for line in lines:
         if draw.random() < often:
             mixed.append(draw.choice(OTHERS))
             if mixed[-1].strip():
-                told.append(len(mixed))
+                reported.append(len(mixed))
         mixed.append(line)
-    return mixed, told
+    return mixed, reported
 
 
 class Capture(NamedTuple):

@@ -73,7 +73,7 @@ class Pen:
         raise NotImplementedError
 
     def event_note(self) -> None:
-        """A note that says a send, or the receive of one that was said."""
+        """A note that says a send, or the receive of one that was stated."""
         if any(self.left_out):
             return
         if self.owed and self.draw.below(3) == 0:

@@ -25,7 +25,7 @@ def printable(text: bytes) -> bytes:
 
 
 def shown(label: bytes) -> bytes:
-    """A label as it is told, with `\\n` for a new line."""
+    """A label as it is reported, with `\\n` for a new line."""
     return b"\\n".join(printable(line) for line in label.split(b"\n"))
 
 

@@ -1,4 +1,4 @@
-"""What `mscview import` answers to a diagram of mscgen, PlantUML or Mermaid: a chart and what is told, or a refusal."""
+"""What `mscview import` answers to a diagram of mscgen, PlantUML or Mermaid: a chart and its warnings, or a refusal."""
 
 import re
 from typing import NamedTuple
@@ -57,7 +57,7 @@ class Answer(NamedTuple):
 
 class Drawn(NamedTuple):
     """
-    A chart, and what is told of it: names with the labels that they aren't, and messages that overtake, each with the
+    A chart, and its warnings: names with the labels that they aren't, and messages that overtake, each with the
     one that it overtakes; and the chart's events as they stand in the diagram, from the top on.
     """
 
@@ -88,7 +88,7 @@ def without_skipped(text: bytes, skipped: tuple[tuple[int, int], ...]) -> bytes:
 
 
 def read(tool: str | None, text: bytes) -> Reading:
-    """What a diagram of a tool says, or of the one that the text tells; or F35, F21, F23 or F8."""
+    """What a diagram of a tool says, or of the one that the text names; or F35, F21, F23 or F8."""
     try:
         tool = detected_tool(text) if tool is None else tool
         reading = Reading(Diagnostics(), LINE_BREAKS[tool])
@@ -132,17 +132,17 @@ def draw(reading: Reading, joins: list[Join]) -> Drawn:
 
 def diagnostics(reading: Reading, drawn: Drawn) -> bytes:
     """What standard error has."""
-    said = []
+    rows = []
     for kind, line in sorted(reading.diagnostics.first.items(), key=lambda first: (first[1].number, first[1].column)):
         count = reading.diagnostics.counts[kind]
         if count == 1:
-            said.append(f"1 {kind} is left out, in line {line.number}{READINGS.get(kind, '')}")
+            rows.append(f"1 {kind} is left out, in line {line.number}{READINGS.get(kind, '')}")
         else:
-            said.append(f"{count} {PLURALS.get(kind, kind + 's')} are left out, the first in line {line.number}{READINGS.get(kind, '')}")
+            rows.append(f"{count} {PLURALS.get(kind, kind + 's')} are left out, the first in line {line.number}{READINGS.get(kind, '')}")
     for message, other in drawn.overtaking:
         line, above = message.place.number, other.place.number
-        said.append(f"the message in line {line} overtakes the one in line {above}, and is left out")
-    lines = [line.encode() for line in said] + [b'name %s is "%s"' % (name, shown(label)) for name, label in drawn.names]
+        rows.append(f"the message in line {line} overtakes the one in line {above}, and is left out")
+    lines = [line.encode() for line in rows] + [b'name %s is "%s"' % (name, shown(label)) for name, label in drawn.names]
     return b"".join(line + b"\n" for line in lines)
 
 
@@ -159,7 +159,7 @@ def stands(tool: str | None, text: bytes, options: Options) -> list[Stand]:
 
 
 def imported(tool: str | None, text: bytes, options: Options) -> Answer:
-    """What the command answers to a text. Without a tool the text tells it."""
+    """What the command answers to a text. Without a tool the text names it."""
     if any(last > count_of_lines(text) for _, last in options.skipped):
         return Answer(2, b"", b"refused: G1 Usage\n")
     text = without_skipped(text, options.skipped).removeprefix(BYTE_ORDER_MARK)

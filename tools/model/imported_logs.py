@@ -84,7 +84,7 @@ def read_log(files: list[File], options: Options) -> Log:
     add_clocked(log, clocked)
     log.unmatched.sort(key=lambda place: place_order(place, files))
     passed = [entry for entry in log.entries if entry.kind != "arrive"]
-    unread = unmatched_diagnostics(log.unmatched, log.line_count)
+    unread = [*unmatched_diagnostics(log.unmatched, log.line_count), *log.unread[:1]]
     if not passed:
         raise Refused("F38", behind=unread)
     if all(entry.kind == "send" for entry in passed):
@@ -108,8 +108,8 @@ def imported(files: list[File], options: Options) -> Answer:
         made = chart_of_log(read_log(files, options))
     except Refused as refused:
         return Answer(2, b"", refused.text)
-    said = "".join(line + "\n" for line in diagnostics(made))
-    return Answer(0, chart_text(made.chart), said.encode("utf-8", "surrogateescape"))
+    stated = "".join(line + "\n" for line in diagnostics(made))
+    return Answer(0, chart_text(made.chart), stated.encode("utf-8", "surrogateescape"))
 
 
 def main() -> int:

@@ -2,8 +2,8 @@
 Compares what the program answers to broken texts with what the plain model does.
 
 `judge_broken_texts.py BREAKER COUNT SEED FILE..`: the program `fuzz_texts` breaks the texts of the files so many times,
-and tells each broken text with its answer. What it prints at the end is compared too, and printed again, so that it may be
-compared with what it prints where it tells no text.
+and reports each broken text with its answer. What it prints at the end is compared too, and printed again, so that it may be
+compared with what it prints where it reports no text.
 """
 
 import hashlib
@@ -21,7 +21,7 @@ REFUSED = re.compile(rb"refused: F([0-9]+) ")
 
 
 class Records:
-    """The records of a stream: a line `WORD STATUS LENGTH LENGTH LENGTH`, the text, what was written and what was said."""
+    """The records of a stream: a line `WORD STATUS LENGTH LENGTH LENGTH`, the text, what was written and what was stated."""
 
     def __init__(self, stream):
         self.stream = stream
@@ -34,8 +34,8 @@ class Records:
     def record(self):
         head = self.take(self.stream.readline())
         word, status, *lengths = head.split()
-        text, written, said = (self.take(self.stream.read(int(length))) for length in lengths)
-        return word, text, (int(status), written, said)
+        text, written, stated = (self.take(self.stream.read(int(length))) for length in lengths)
+        return word, text, (int(status), written, stated)
 
 
 def summary(seen, digest):
@@ -64,7 +64,7 @@ def judge(stream, count):
 
 
 def main(breaker, count, seed, *files):
-    with subprocess.Popen([breaker, "tell", count, seed, *files], stdout=subprocess.PIPE) as ran:
+    with subprocess.Popen([breaker, "report", count, seed, *files], stdout=subprocess.PIPE) as ran:
         failed = judge(ran.stdout, int(count))
     print(f"{count} broken texts, {failed} answered otherwise than by the model", file=sys.stderr)
     return int(failed > 0 or ran.returncode != 0)

@@ -1,5 +1,5 @@
 """
-Compares what `mscview compare` tells of two runs with the plain model's comparison.
+Compares what `mscview compare` reports of two runs with the plain model's comparison.
 
 `judge_comparisons.py MSCRUN MSCVIEW COUNT SEED`: each pair of runs is of another schedule, made from a seed from SEED on. It
 is drawn twice, and then run on threads twice. Every other pair has the instances of its second run in another order.

@@ -1,7 +1,7 @@
 """
-Compares the cycle that `mscview explain` tells of drawn charts with a plain search.
+Compares the cycle that `mscview explain` reports of drawn charts with a plain search.
 
-`judge_cycles.py PROGRAM COUNT SEED`: each chart has another seed, from SEED on. What is told has to be a cycle of
+`judge_cycles.py PROGRAM COUNT SEED`: each chart has another seed, from SEED on. What is reported has to be a cycle of
 direct steps, each with its rule and its line, from its least event on, with as few steps as a search from each event
 over all direct pairs finds.
 """
@@ -16,7 +16,7 @@ from charts import sends_of_receives
 from drawn_cycles import cyclic_chart, rule_of, shortest_way_around
 from judge_threads import run
 
-HEAD = b"a chart, for mscrun check, and for mscview\n\nerror: F18 Cyclic: events come before each other, in a circle\n"
+HEAD = b"a chart, for mscrun check, and for mscview\n\nerror: F18 Cyclic: events come before each other, in a cycle\n"
 
 
 def lines_of_events(text):
@@ -33,10 +33,10 @@ def lines_of_events(text):
     return found
 
 
-def steps_stated(chart, told):
-    """Each step that is told: the line, the two events and the rule."""
+def steps_stated(chart, reported):
+    """Each step that is reported: the line, the two events and the rule."""
     steps = []
-    for line in told.splitlines():
+    for line in reported.splitlines():
         where, step, rule = line.split(b": ", 2)
         words = step.split()
         first, second = ((chart.names.index(name), int(number) - 1) for name, number in (words[0:2], words[3:5]))
@@ -47,7 +47,7 @@ def steps_stated(chart, told):
 
 
 def what_differs(chart, text, out):
-    """What is wrong with what is told, or None; and how many steps there are."""
+    """What is wrong with what is reported, or None; and how many steps there are."""
     sends = sends_of_receives(chart)
     if not out.startswith(HEAD):
         return "head", 0
@@ -73,15 +73,15 @@ def main(program, count, first):
             text = chart_text(chart)
             with open(file, "wb") as written:
                 written.write(text)
-            status, out, said = run(program, "explain", file)
+            status, out, stated = run(program, "explain", file)
             differs, length = what_differs(chart, text, out)
             lengths[length] += 1
-            if differs or status != 1 or said:
+            if differs or status != 1 or stated:
                 failed += 1
-                print(f"FAILED seed {seed}: {differs}", status, out, said, flush=True)
+                print(f"FAILED seed {seed}: {differs}", status, out, stated, flush=True)
     for length, number in sorted(lengths.items()):
         print(f"{length} steps: {number}")
-    print(f"{count - failed} charts have the cycle told that the model wants, {failed} another")
+    print(f"{count - failed} charts have the cycle reported that the model wants, {failed} another")
     return failed > 0
 
 

@@ -2,7 +2,7 @@
 Draws diagrams from a seed on, and compares what `mscview import` answers to each with what the plain reader does.
 
 `judge_diagrams.py TOOL COUNT SEED [--broken] [--joined] [--pictures] [PROGRAM]`: TOOL is `mscgen`, `plantuml` or
-`mermaid`; some diagrams have to tell it themselves. Broken ones have up to four faults. Joined ones have some of their
+`mermaid`; some diagrams have to name it themselves. Broken ones have up to four faults. Joined ones have some of their
 lines joined. With `--pictures` the rows of `mscview draw --from` have to be those of the diagram too. Without PROGRAM
 the plain reader alone answers. In any case each chart has to be a possible one, which reads back as it is. At the end it
 prints how often each answer came, and a digest of all texts and answers.

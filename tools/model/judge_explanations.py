@@ -81,28 +81,28 @@ def race_lines(chart, before, receive):
     return lines + [b"line %s | %s" % (half(chart, p, i), half(chart, p, j)) for i, j in enumerate(order)]
 
 
-def judge(program, file, chart, told, draw, seen):
-    """The first pair that is explained otherwise, or None. Of each it is told which commands did nothing."""
+def judge(program, file, chart, reported, draw, seen):
+    """The first pair that is explained otherwise, or None. Of each it is reported which commands did nothing."""
     sends = sends_of_receives(chart)
     for receive in sends:
         p, r = receive
         steps = steps_to(chart, sends, receive)
         before = set(steps) - {receive}
         for e in draw.sample(range(r), min(r, 4)):
-            status, out, said = run(program, "why", file, chart.names[p].decode(), str(e + 1), str(r + 1))
+            status, out, stated = run(program, "why", file, chart.names[p].decode(), str(e + 1), str(r + 1))
             lines = out.splitlines()
             if (p, e) in before:
                 seen["enforced"] += 1
-                right = status == 0 and said == told and len(lines) == steps[p, e]
+                right = status == 0 and stated == reported and len(lines) == steps[p, e]
                 right = right and is_chain(chart, sends, lines, (p, e), receive)
             else:
                 coregions = {chart.lines[p][i].coregion for i in (e, r)}
                 hidden = len(coregions) == 1 and coregions != {0}
                 seen["hidden" if hidden else "races"] += 1
-                right = status == 1 and said == (b"a coregion hides this pair\n" if hidden else b"") + told
+                right = status == 1 and stated == (b"a coregion hides this pair\n" if hidden else b"") + reported
                 right = right and lines == race_lines(chart, before, receive)
             if not right:
-                return chart.names[p], e + 1, r + 1, status, out, said
+                return chart.names[p], e + 1, r + 1, status, out, stated
     return None
 
 

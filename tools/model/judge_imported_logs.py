@@ -5,10 +5,10 @@ Compares what `mscview import` answers to logs with the charts that they were wr
 logs are cut. Without programs the plain model alone answers, and of the charts of logs for ShiViz none is exported.
 
 - An application's logs of the schedules' charts, captures of the level ones, and logs for ShiViz, also as `mscview export`
-  writes them, come back as the same chart, and nothing is told but lines that say nothing and what a capture is.
+  writes them, come back as the same chart, and nothing is reported but lines that say nothing and what a capture is.
 - Of each run the log without its first lines, for each such beginning, and the log without each line, and logs that go to
   and fro whose hosts begin at different places, come to a possible chart, as `mscrun check` says; so do lines without any
-  sense. It is the plain model's, and so is what is told.
+  sense. It is the plain model's, and so is what is reported.
 """
 
 import subprocess
@@ -89,14 +89,14 @@ class Judge:
         self.failed = 0
         self.seen: Counter[str] = Counter()
 
-    def fail(self, what: str, *said: object) -> None:
+    def fail(self, what: str, *stated: object) -> None:
         self.failed += 1
-        print("FAILED", what, *said, flush=True)
+        print("FAILED", what, *stated, flush=True)
 
-    def comes_back(self, what: str, files: list[File], options: Options, chart: Chart, told: bytes) -> None:
-        """Compares with the chart that the log was written from, and what has to be told of it."""
+    def comes_back(self, what: str, files: list[File], options: Options, chart: Chart, reported: bytes) -> None:
+        """Compares with the chart that the log was written from, and what has to be reported of it."""
         options = options._replace(hosts=tuple(name.decode() for name in chart.names))
-        wanted = Answer(0, chart_text(chart), read_told(chart) + told)
+        wanted = Answer(0, chart_text(chart), read_reported(chart) + reported)
         if imported(files, options) != wanted:
             self.fail(what, "by the plain model", files, options.words(), imported(files, options), wanted)
         answer = self.programs.imported(files, options)
@@ -116,20 +116,20 @@ class Judge:
         self.count(what, wanted)
 
     def count(self, what: str, wanted: Answer) -> None:
-        """Counts logs of a kind of which something is told."""
+        """Counts logs of a kind of which something is reported."""
         if wanted.status == 2:
             self.seen[f"{what}, {wanted.diagnostics.split()[1].decode()}"] += 1
-        for words in ("invented", "lost", "overtakes", "circle", "one end"):
+        for words in ("invented", "lost", "overtakes", "cycle", "one end"):
             self.seen[f"{what}, {words}"] += words.encode() in wanted.diagnostics
 
-    def tell(self) -> None:
+    def report(self) -> None:
         for what, number in self.seen.items():
             if number:
                 print(number, what)
 
 
-def read_told(chart: Chart) -> bytes:
-    """What is told of how much was read, of a log with all events of a chart."""
+def read_reported(chart: Chart) -> bytes:
+    """What is reported of how much was read, of a log with all events of a chart."""
     events, hosts = sum(map(len, chart.lines)), len(chart.names)
     first = f"1 event of {hosts} hosts is read" if events == 1 else f"{events} events of {hosts} hosts are read"
     lineless = [f"{name.decode()} has no line of its own" for name, line in zip(chart.names, chart.lines) if not line]
@@ -141,7 +141,7 @@ def text_of(lines: list[str], ends: bool = True) -> bytes:
 
 
 def others_diagnostics(places: list[str], files: list[File]) -> bytes:
-    """What is told of lines that say nothing, of all lines of these files."""
+    """What is reported of lines that say nothing, of all lines of these files."""
     if not places:
         return b""
     lines = sum(file.text.count(b"\n") + (not file.text.endswith(b"\n")) for file in files if file.text)
@@ -179,13 +179,13 @@ def judge_recorded(judge: Judge, count: int, seed: int) -> None:
 
 def judge_captured(judge: Judge, count: int, seed: int) -> None:
     """Captures of level charts."""
-    told = b"only the order at the tap is known\n"
+    reported = b"only the order at the tap is known\n"
     for number in range(seed, seed + count):
         draw = Random(f"captured {number}")
         chart = level_chart(draw)
         capture = draw.choice(CAPTURES)
         files = [File("capture", text_of(captured_lines(chart, capture)))]
-        judge.comes_back("captures", files, Options(pattern=capture.pattern), chart, told)
+        judge.comes_back("captures", files, Options(pattern=capture.pattern), chart, reported)
 
 
 def judge_clocked(judge: Judge, count: int, seed: int) -> None:
@@ -203,7 +203,7 @@ def judge_clocked(judge: Judge, count: int, seed: int) -> None:
 
 def judge_timed(judge: Judge, count: int, seed: int) -> None:
     """Logs with vector time alone: what can be seen by it comes back; and without their first lines."""
-    told = b"a receive at which no entry of the clock grew isn't seen\n"
+    reported = b"a receive at which no entry of the clock grew isn't seen\n"
     options = Options(form="shiviz")
     number = seed
     while count > 0:
@@ -213,7 +213,7 @@ def judge_timed(judge: Judge, count: int, seed: int) -> None:
         chart = run.chart(log)
         if any(chart.lines):
             lines = run.text(log)
-            judge.comes_back("logs with clocks alone", [File("log", text_of(lines))], options, chart, told)
+            judge.comes_back("logs with clocks alone", [File("log", text_of(lines))], options, chart, reported)
             lines = text_of(lines).decode().splitlines()[draw.randint(1, len(lines)):]
             judge.comes_to("logs with clocks that begin in the middle", [File("log", text_of(lines))], options)
             count -= 1
@@ -264,7 +264,7 @@ def main(count: str, runs: str, seed: str = "0", mscrun: str = "", mscview: str 
         judge = Judge(Programs(mscrun, mscview, Path(room)) if mscview else Model())
         for does, many in judges:
             does(judge, int(many), int(seed))
-    judge.tell()
+    judge.report()
     print(f"{judge.failed} answered otherwise")
     return int(judge.failed > 0)
 

@@ -86,7 +86,7 @@ def message_of(made: LogChart, entry: Entry) -> Message:
 
 
 def closure(log: Log, messages: list[Message]) -> set[tuple[int, int]]:
-    """Which line of the whole log is before which, by the three rules as they are said and then by going on."""
+    """Which line of the whole log is before which, by the three rules as they are stated and then by going on."""
     before = {(m.send.number, m.receive.number) for m in messages if m.send and m.receive}
     for line in log.lines().values():
         for at, later in enumerate(line):
@@ -106,7 +106,7 @@ def closure(log: Log, messages: list[Message]) -> set[tuple[int, int]]:
 
 
 def is_named(e: Message, other: Message) -> bool:
-    """Whether sender and name of the other message fit what is told of the receive of this one."""
+    """Whether sender and name of the other message fit what is reported of the receive of this one."""
     takes = e.receive.takes
     return not takes or any(
         peer in ("*", other.lane[0])
@@ -136,7 +136,7 @@ def stands_before(made: LogChart, e: Message, r: Message) -> bool:
     )
 
 
-def said_words(made: LogChart) -> dict[tuple[int, int, int], str]:
+def stated_words(made: LogChart) -> dict[tuple[int, int, int], str]:
     """Each race with its word, by the sentences."""
     order = closure(made.log, made.messages)
     before, numbers = events_before(made.chart)
@@ -188,7 +188,7 @@ def could_come_next(made: LogChart, race: tuple[int, int, int]) -> bool:
 
 def judge_words(made: LogChart, tally: Counter) -> None:
     words = words_of_races(made)
-    assert words == said_words(made)
+    assert words == stated_words(made)
     assert all(could_come_next(made, race) for race, word in words.items() if word == LUCK)
     luck = Counter((p, i, made.lines[p][j][1].lane[0]) for (p, i, j), word in words.items() if word == LUCK)
     assert all(count == 1 for count in luck.values())
@@ -241,8 +241,8 @@ def main(logs: int, recordings: int, seed: int) -> int:
         if made:
             judge_chart(made)
             judge_words(made, tally)
-    told = ", ".join(f"{count} {word}" for word, count in sorted(tally.items()))
-    print(f"{recordings} drawn recordings: each race has its word: {told}")
+    reported = ", ".join(f"{count} {word}" for word, count in sorted(tally.items()))
+    print(f"{recordings} drawn recordings: each race has its word: {reported}")
     behind = sum(judge_ids(whole_lines(Random(f"whole {seed} {number}"))) for number in range(recordings))
     print(f"{recordings} whole ones: the same words without ids; {behind} arrivals behind another of their stream")
     return 0

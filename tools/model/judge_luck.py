@@ -1,11 +1,11 @@
 """
-Compares what `mscview races --from log` tells of drawn recordings with the plain reader's words, event by event.
+Compares what `mscview races --from log` reports of drawn recordings with the plain reader's words, event by event.
 
 `judge_luck.py COUNT SEED PROGRAM..`: so many recordings with arrivals and with what receives would have taken, drawn from
 SEED on. PROGRAM is the words that `races` stands behind.
 
 Of each recording all races and those that were luck are asked for, in words and as JSON. What a range says is taken apart
-into its events, and compared are the events, their order, the status and what is told on standard error. Neighbours with
+into its events, and compared are the events, their order, the status and what is reported on standard error. Neighbours with
 the same word have to be one range.
 """
 
@@ -78,13 +78,13 @@ def races_in_line(events: Events, text: str) -> list[JudgedRace]:
 
 def races_in_object(text: str) -> list[list[JudgedRace]]:
     """The races of each range of an object."""
-    said = json.loads(text)
-    *names, last = said
-    if json.dumps(said, separators=(",", ":")) != text or (names, last) != (RECEIVE, "ranges"):
+    stated = json.loads(text)
+    *names, last = stated
+    if json.dumps(stated, separators=(",", ":")) != text or (names, last) != (RECEIVE, "ranges"):
         raise Unlike(text)
-    receive = tuple(said[name] for name in names)
+    receive = tuple(stated[name] for name in names)
     ranges = []
-    for each in said["ranges"]:
+    for each in stated["ranges"]:
         numbers = range(each["first"], each["last"] + 1)
         if list(each) != ["first", "last", "messages", "why"] or len(numbers) != len(each["messages"]):
             raise Unlike(text)

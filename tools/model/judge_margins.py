@@ -4,7 +4,7 @@ Looks at the margins of the pictures that `mscview draw --from` writes, of drawn
 Of each tool's language a diagram has four messages, one below the other, and between them notes over both lines and, but in
 Mermaid, dividers. In its picture each text has to stand between the rows that it stands between in the diagram, those of one
 place joined; nothing else may be there that isn't in the picture of the same diagram without notes, but a dashed line for each
-place with a divider. Nothing is told on standard error.
+place with a divider. Nothing is reported on standard error.
 """
 
 import random
@@ -80,8 +80,8 @@ def look_at_margin(judge, run, number):
         for notes in (places, [[] for _ in places]):
             file = judge.room / "diagram"
             file.write_bytes(b"\n".join(text_of(notes)) + b"\n")
-            status, picture, said = run(judge.mscview, "draw", "--from", tool, str(file))
-            judge.holds("a diagram with notes is drawn, and nothing is told", what, status == 0 and not said, (status, said))
+            status, picture, stated = run(judge.mscview, "draw", "--from", tool, str(file))
+            judge.holds("a diagram with notes is drawn, and nothing is reported", what, status == 0 and not stated, (status, stated))
             pictures.append(judge.tree_of(what, picture))
         if None in pictures:
             continue

@@ -4,7 +4,7 @@ Compares what `mscview mend` answers with the plain conditions, and with a searc
 `judge_mend_command.py MSCRUN MSCVIEW COUNT SEED`: the charts are those of all cases and examples, and of so many drawn
 schedules, each with another seed, from SEED on. Where a chart is answered, `mscrun check` has to accept it, the pair is no
 race in it, and no two old events have become one; where none is, no message does, in charts of few events by a search over
-all places. What is told has to be the races that go, stay and come; of enforced pairs what `why` writes. `mend --all` has
+all places. What is reported has to be the races that go, stay and come; of enforced pairs what `why` writes. `mend --all` has
 to be the plain choice of the message that leaves the fewest race pairs, one after another.
 """
 
@@ -22,7 +22,7 @@ from mended_charts import is_before, is_mended, mended, moved, race_pairs, searc
 FEW = 20
 FEW_PAIRS = 60
 SHOWN = 10
-TRIED_EVENTS = 20_000_000
+TRIED_IN_ALL = 20_000_000
 
 
 def run(*words):
@@ -92,7 +92,7 @@ def message_words(chart, name, message):
 
 
 def change_lines(chart, races, name, message, verbose):
-    """What is told of a message: where it is, and which races go, stay and come."""
+    """What is reported of a message: where it is, and which races go, stay and come."""
     new = with_message(chart, *message, name=name)
     news = race_pairs(new, events_before(new))
     there = {(moved(e, *message), moved(r, *message)): (e, r) for e, r in races}
@@ -107,7 +107,7 @@ def change_lines(chart, races, name, message, verbose):
 
 
 def wanted(chart, races, found, sends, e, r, verbose):
-    """Of a race what is answered: the status, the output, and what is told; with the word for it."""
+    """Of a race what is answered: the status, the output, and what is reported; with the word for it."""
     word, what = mended(chart, found, sends, e, r)
     if word == "message":
         name = free_name(chart)
@@ -115,8 +115,8 @@ def wanted(chart, races, found, sends, e, r, verbose):
         return word, (0, new, change_lines(chart, races, name, what, verbose))
     way = b" comes behind the receive's send\n" if word == "crossed" else b" is on its way\n"
     ends = chart.names[e[0]], chart.names[sends[r][0]]
-    told = b"no message from %s to %s does: " % ends + event_words(chart, chart.lines[e[0]], what) + way
-    return word, (1, b"", told)
+    reported = b"no message from %s to %s does: " % ends + event_words(chart, chart.lines[e[0]], what) + way
+    return word, (1, b"", reported)
 
 
 def words_of(chart, e, r):
@@ -135,8 +135,8 @@ def fault_of_race(programs, file, chart, races, found, sends, pair, seen):
     if word == "message":
         new = room / "mended"
         new.write_bytes(answer[1])
-        status, _, said = run(mscrun, "check", str(new))
-        if status not in (0, 1) or said:
+        status, _, stated = run(mscrun, "check", str(new))
+        if status not in (0, 1) or stated:
             return "check refuses it"
         if not is_mended(chart, races, mended(chart, found, sends, e, r)[1], e, r):
             return "the chart"
@@ -156,36 +156,43 @@ def fault_of_other(mscview, file, chart, found, e, r):
     return "" if answer == (0, b"", b"a coregion hides this pair\n") else "a hidden pair"
 
 
-def best(chart):
+def shown_pairs(chart, found, receives):
+    """The race pairs, or only those whose earlier event is a receive."""
+    races = race_pairs(chart, found)
+    return {(e, r) for e, r in races if not receives or chart.lines[e[0]][e[1]].kind == "in"}
+
+
+def best(chart, receives):
     """The race pair whose mending leaves the fewest, if they are fewer, with its message and the new chart."""
     found, sends = events_before(chart), sends_of_receives(chart)
-    races = race_pairs(chart, found)
+    races = shown_pairs(chart, found, receives)
     least, chosen = len(races), None
     for e, r in sorted(races, key=lambda pair: (pair[1], pair[0])):
         word, what = mended(chart, found, sends, e, r)
         if word == "message":
             new = with_message(chart, *what, name=free_name(chart))
-            left = len(race_pairs(new, events_before(new)))
+            left = len(shown_pairs(new, events_before(new), receives))
             if left < least:
                 least, chosen = left, (e, r, what, new)
     return chosen, len(races)
 
 
-def all_mended(chart, limit=None):
+def all_mended(chart, limit=None, receives=False):
     """What `mend --all` answers with such a limit, how many messages it adds, and how many pairs it tries."""
     if limit is None:
-        limit = TRIED_EVENTS // (sum(map(len, chart.lines)) + 1)
-    told, added, tried = b"", 0, 0
+        all_pairs = race_pairs(chart, events_before(chart))
+        limit = TRIED_IN_ALL // (sum(map(len, chart.lines)) + len(all_pairs) + 1)
+    reported, added, tried = b"", 0, 0
     while True:
-        chosen, left = best(chart)
+        chosen, left = best(chart, receives)
         if left > limit - tried:
-            told += b"stopped after %d: %d races are left\n" % (tried, left)
-            return (1, chart_text(chart), told), added, tried
+            reported += b"stopped after %d: %d races are left\n" % (tried, left)
+            return (1, chart_text(chart), reported), added, tried
         tried += left
         if chosen is None:
-            return (int(left > 0), chart_text(chart), told), added, tried
+            return (int(left > 0), chart_text(chart), reported), added, tried
         e, r, what, new = chosen
-        told += b"race %s %s %s: " % words_of(chart, e, r) + message_words(chart, free_name(chart), what)
+        reported += b"race %s %s %s: " % words_of(chart, e, r) + message_words(chart, free_name(chart), what)
         chart, added = new, added + 1
 
 
@@ -218,6 +225,8 @@ def try_file(programs, name, file, seen):
         seen["most messages"] = max(seen["most messages"], added)
         if run(mscview, "mend", "--all", file) != answer:
             return "mend --all"
+        if run(mscview, "mend", "--all", "--receives", file) != all_mended(chart, receives=True)[0]:
+            return "mend --all --receives"
         for limit in {0, tried // 2, max(tried - 1, 0), tried}:
             if run(mscview, "mend", "--all", "--limit", str(limit), file) != all_mended(chart, limit)[0]:
                 return f"mend --all --limit {limit}"

@@ -92,13 +92,13 @@ class Judge:
             self.holds("no text of a level chart lies on another or is crossed", file, not (met.pairs or met.with_numbers or met.crossed), met)
 
     def look_at(self, file, title):
-        status, picture, said = run(self.mscview, "draw", file)
+        status, picture, stated = run(self.mscview, "draw", file)
         if status == 2:
             return
         tree = self.tree_of(file, picture)
         if tree is None:
             return
-        self.holds("a picture is told of what did nothing alone", file, (status, said) == (0, told_of(file)), said)
+        self.holds("a picture reports only what did nothing", file, (status, stated) == (0, reported_of(file)), stated)
         self.look_at_labels(file, tree)
         self.look_at_titles(file, tree, title)
         self.look_beside(file, picture)
@@ -109,9 +109,9 @@ class Judge:
         race = next((line.split()[1:4] for line in races.decode("ascii", "replace").splitlines() if line.startswith("race ")), None)
         if status != 1 or race is None:
             return
-        status, witness, told = run(self.mscview, "witness", file, *race)
-        drawn, both, said = run(self.mscview, "draw", "--witness", *race, file)
-        self.holds("beside a witness the status and what is told are those of witness", file, (status, told) == (drawn, said), (race, said))
+        status, witness, reported = run(self.mscview, "witness", file, *race)
+        drawn, both, stated = run(self.mscview, "draw", "--witness", *race, file)
+        self.holds("beside a witness the status and what is reported are those of witness", file, (status, reported) == (drawn, stated), (race, stated))
         if status != 1:
             self.holds("without a witness nothing is drawn", file, not both, race)
             return
@@ -130,7 +130,7 @@ class Judge:
         return 0 < left < right and both.count(b"<g transform='translate(0,0)'>") == 1
 
     def look_at_marks(self, file, tree, race):
-        """Each mark is round the event that it stands for: the points of the pictures tell where events are."""
+        """Each mark is round the event that it stands for: the points of the pictures show where events are."""
         sides = [group for group in tree if group.tag == SVG + "g" and group.get("transform", "").endswith(",0)")]
         lines = [line_of(self.run_lines(where), race[0]) for where in (file, str(self.room / "witness"))]
         number = names_of(self.run_lines(file)).index(race[0]) + 1
@@ -153,8 +153,8 @@ def races_by_replay(file):
     return pathlib.Path(file).read_bytes().startswith(b"instances ")
 
 
-def told_of(file):
-    """What is told of a schedule's commands that did nothing."""
+def reported_of(file):
+    """What is reported of a schedule's commands that did nothing."""
     return not_done_text(outcome(read_schedule(pathlib.Path(file).read_bytes()))[1]) if races_by_replay(file) else b""
 
 

@@ -2,7 +2,7 @@
 Judges threaded runs of schedules that are made from seeds: `judge_threads.py PROGRAM RUNS SEED`.
 
 Each run has another seed, from SEED on. Its output is judged by `thread_runs`, and its race lines are compared with
-what the program's `check` says of its chart. Of each run that can't be, the seed, the schedule and the output are told.
+what the program's `check` says of its chart. Of each run that can't be, seed, schedule and output are printed.
 """
 
 import os
@@ -48,8 +48,8 @@ def judge_seed(program, folder, seed, seen):
         text.write(schedule_text(schedule))
     output = b""
     try:
-        status, output, said = run(program, "threads", file, "--turns", str(turns))
-        require(not said, "it says", said)
+        status, output, stated = run(program, "threads", file, "--turns", str(turns))
+        require(not stated, "it says", stated)
         chart, found, notes, spent = judge(schedule, turns, status, output)
         is_checked(program, folder, chart, found)
     except (Impossible, subprocess.TimeoutExpired) as fault:

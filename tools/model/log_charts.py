@@ -199,7 +199,7 @@ def counted(places: list[str], one: str, several: str) -> list[str]:
 
 
 def unmatched_diagnostics(places: list[str], lines: int) -> list[str]:
-    """What is told of lines that don't match, among so many."""
+    """What is reported of lines that don't match, among so many."""
     if not places:
         return []
     first = f"1 of {lines} lines doesn't match, " if len(places) == 1 else f"{len(places)} of {lines} lines don't match, the first is "
@@ -263,6 +263,14 @@ def is_one_ended(made: LogChart) -> bool:
     return bool(made.messages) and not made.freed and not pairs
 
 
+def overtakings_text(count: int) -> list[str]:
+    """How many messages overtake, if some do, and which of two messages is skipped."""
+    if count == 1:
+        return ["1 message overtakes another: it is skipped, and the message that it overtakes stays"]
+    several = f"{count} messages overtake others: each is skipped, and the first message that it overtakes stays"
+    return [several] if count else []
+
+
 def diagnostics(made: LogChart, takes: bool = False) -> list[str]:
     """What was done to come to the chart, and where it counts which receives would have taken what in other words."""
     own = [entry.place for entry in made.log.entries if entry.kind != "arrive" and entry.host == entry.peer]
@@ -278,10 +286,11 @@ def diagnostics(made: LogChart, takes: bool = False) -> list[str]:
     lines += [f"{message.send.place} is lost" for message in made.lost]
     for message, other in made.overtaking:
         lines.append(f"{message.send.place} overtakes {other.send.place}: this lane isn't first in, first out")
+    lines += overtakings_text(len(made.overtaking))
     if made.lost or made.overtaking:
         lines.append("races may be shown that a message which is left out enforced")
     freed = sorted(made.freed, key=lambda entry: entry.number)
-    lines += [f"{entry.place} takes no send of the log, for it would close a circle" for entry in freed]
+    lines += [f"{entry.place} takes no send of the log, for it would close a cycle" for entry in freed]
     invented = [(p, i) for p, line in enumerate(made.lines) for i in range(len(line)) if made.is_invented((p, i))]
     lines += [f"{made.names[made.hosts[p]]} {i + 1} is invented: the log begins in the middle" for p, i in invented]
     if invented:

@@ -1,5 +1,5 @@
 """
-Logs that an expression tells how to read: its first match in each line, or in as many lines as it has line feeds and one
+Logs that an expression says how to read: its first match in each line, or in as many lines as it has line feeds and one
 more, says by its named groups what happened. It is the first line's where it begins there, and takes the lines that it
 touches.
 """
@@ -78,6 +78,11 @@ def lacks(there: set[str]) -> str:
     return first["capture"] if there & {"src", "dst"} else first["event"]
 
 
+def byte_characters(text: str) -> str:
+    """A character for each byte."""
+    return text.encode("utf-8", "surrogateescape").decode("latin-1")
+
+
 class Expression:
     """An expression with one of the three sets of groups."""
 
@@ -95,13 +100,32 @@ class Expression:
     def captures(self) -> bool:
         return self.groups is CAPTURE
 
+    def begun(self, lines: str) -> re.Match | None:
+        """The first match, if it begins in the first line."""
+        found = self.found.search(lines)
+        return found if found and "\n" not in lines[: found.start()] else None
+
+    def absent(self, found: re.Match) -> str | None:
+        """The first group that takes no part in a match."""
+        needed = self.groups - {"dir"} if is_arrival(found) else self.groups
+        order = next(names for names in ORDERED.values() if set(names) == self.groups)
+        return next((name for name in order if name in needed and found[name] is None), None)
+
     def match(self, lines: str) -> re.Match | None:
         """The first match, if it begins in the first line and each group takes part."""
-        found = self.found.search(lines)
-        if not found or "\n" in lines[: found.start()]:
-            return None
-        needed = self.groups - {"dir"} if is_arrival(found) else self.groups
-        return found if all(found[name] is not None for name in needed) else None
+        found = self.begun(lines)
+        return found if found and not self.absent(found) else None
+
+    def unread(self, lines: str) -> list[str]:
+        """Why the match that begins in the first line isn't read, if there is one, for a line that isn't read."""
+        found = self.begun(lines)
+        if not found:
+            return []
+        absent = self.absent(found)
+        if absent:
+            return [f"its group {absent} takes no part"]
+        shown = "".join(c if " " <= c <= "~" else "?" for c in byte_characters(found["dir"])[:40])
+        return [f'its dir is "{shown}"']
 
 
 def touched(found: re.Match) -> int:
@@ -119,13 +143,14 @@ def read_by(
     while number <= min(last, len(lines)):
         window = "\n".join(lines[number - 1 : number + expression.more]).removesuffix("\r")
         found = expression.match(window)
-        said = found and expression.logged_by and expression.logged_by(found)
-        if said:
-            for event in said:
+        stated = found and expression.logged_by and expression.logged_by(found)
+        if stated:
+            for event in stated:
                 log.add_logged(event, place(number))
         elif found and not expression.logged_by:
             clocked.append(Clocked(found["host"], found["clock"], found["event"], place(number)))
         elif lines[number - 1].strip(" \t\r"):
             log.unmatched.append(place(number))
-        number += 1 + touched(found) if said or found and not expression.logged_by else 1
+            log.unread += [f"{place(number)} matches the expression, but {why}" for why in expression.unread(window)]
+        number += 1 + touched(found) if stated or found and not expression.logged_by else 1
     return clocked

@@ -33,7 +33,7 @@ class Pattern(NamedTuple):
 
 @dataclass(frozen=True)
 class Entry:
-    """A line of a log. `number` counts the lines of all files, `takes` is empty where nothing is told."""
+    """A line of a log. `number` counts the lines of all files, `takes` is empty where nothing is reported."""
 
     number: int
     place: str
@@ -84,13 +84,14 @@ class LoggedEvent(NamedTuple):
 @dataclass
 class Log:
     """
-    The lines that match, in order, the places of those that didn't, and of receives with words `takes=` that are
-    spelled otherwise, how many lines there are, hosts that come first, the hosts that words of the log stand for,
-    whether messages were captured, and whether clocks told of some.
+    The lines that match, in order, the places of those that didn't, why some of these match the expression, the places
+    of receives with words `takes=` that are spelled otherwise, how many lines there are, hosts that come first, the
+    hosts that words of the log stand for, whether messages were captured, and whether clocks had some.
     """
 
     entries: list[Entry] = field(default_factory=list)
     unmatched: list[str] = field(default_factory=list)
+    unread: list[str] = field(default_factory=list)
     misspelled: list[str] = field(default_factory=list)
     line_count: int = 0
     hosts: list[str] = field(default_factory=list)
@@ -102,12 +103,12 @@ class Log:
         """Adds what a line says by the words of this page."""
         if not text.strip():
             return
-        said = LINE.match(text)
-        kind = said and kind_of(said[2])
-        if not said or not kind:
+        stated = LINE.match(text)
+        kind = stated and kind_of(stated[2])
+        if not stated or not kind:
             self.unmatched.append(place)
             return
-        host, _, peer, name, identity, rest = said.groups()
+        host, _, peer, name, identity, rest = stated.groups()
         takes = tuple(Pattern(*two) for two in TAKES.findall(rest or ""))
         self.misspelled += [place] if kind == "receive" and MISSPELLED.search(rest or "") else []
         self.add_logged(LoggedEvent(host, kind, peer, name, identity, takes), place)
@@ -147,7 +148,7 @@ def kind_of(word: str) -> str | None:
 
 
 def place_in(files: int, name: str, number: int) -> str:
-    """How the line of this number is told, of so many files."""
+    """How the line of this number is named, of so many files."""
     return f"line {number}" if files == 1 else f"{name}:{number}"
 
 

@@ -106,7 +106,7 @@ class Words:
 
 
 def fits(earlier: Message, message: Message) -> bool:
-    """Whether sender and name are among what is told of the earlier message's receive. Nothing told is anything."""
+    """Whether sender and name fit what is known of the earlier message's receive. Nothing known is anything."""
     takes = earlier.receive.takes
     return not takes or any(pattern.fits(message.lane[0], message.name) for pattern in takes)
 

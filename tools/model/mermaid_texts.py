@@ -58,9 +58,9 @@ class ArrowElement(NamedTuple):
     text: bytes
 
 
-def text_of(said: bytes | None) -> bytes:
+def text_of(stated: bytes | None) -> bytes:
     """A text without what says how it is wrapped, and without the blanks at its ends."""
-    text = said or b""
+    text = stated or b""
     wrapped = WRAP.match(text)
     return text[wrapped.end() if wrapped else 0:].strip(BLANKS)
 
@@ -133,10 +133,10 @@ class Reader:
         self.reading.begin_box(line, found["word"].lower())
 
     def is_arrow(self, line: Line) -> bool:
-        said = arrow_element(line.words)
-        if said is None:
+        stated = arrow_element(line.words)
+        if stated is None:
             return False
-        for word in said.names:
+        for word in stated.names:
             self.reading.name(line, word)
-        self.reading.arrow(line, said.ends, said.text, left_out=said.left_out, is_lost=said.is_lost)
+        self.reading.arrow(line, stated.ends, stated.text, left_out=stated.left_out, is_lost=stated.is_lost)
         return True

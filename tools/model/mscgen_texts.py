@@ -12,9 +12,9 @@ LINE_END = re.compile(rb"[\r\n][ \t\r\n]*")
 LEFT_OUT = {"both": "arrow both ways", "headless": "line without a head", "box": "box"}
 
 
-def text_of(said: bytes | None) -> bytes:
+def text_of(stated: bytes | None) -> bytes:
     """What a text between quotation marks says. The signs for a new line stay."""
-    return LINE_END.sub(b" ", said or b"").replace(b'\\"', b'"')
+    return LINE_END.sub(b" ", stated or b"").replace(b'\\"', b'"')
 
 
 class Reader:

@@ -17,7 +17,7 @@ REFUSALS = {
 
 
 class Refused(Exception):
-    """A refusal: its number and its details, and behind its line what is told of its cause."""
+    """A refusal: its number and its details, and behind its line what is reported of its cause."""
 
     def __init__(self, number, *details, behind=()):
         super().__init__(number)

@@ -136,8 +136,8 @@ def main():
         root = trees.parse(path).getroot()
         wide, tall = (int(float(re.match(r"[\d.]+", root.get(side, "0"))[0])) for side in ("width", "height"))
         met = in_picture(root)
-        told = f"{path}: {wide} x {tall}, {met.texts} texts, {met.pairs} pairs of labels, {met.with_numbers} pairs with a number"
-        print(told + (f", {met.crossed} labels crossed by an arrow, {met.lying} on another's arrow" if is_ours(root) else ""))
+        reported = f"{path}: {wide} x {tall}, {met.texts} texts, {met.pairs} pairs of labels, {met.with_numbers} pairs with a number"
+        print(reported + (f", {met.crossed} labels crossed by an arrow, {met.lying} on another's arrow" if is_ours(root) else ""))
 
 
 if __name__ == "__main__":

@@ -83,7 +83,7 @@ def named(found: re.Match[bytes], end: str) -> tuple[bytes, bytes | None]:
     return unquoted(found["name" + end]), None
 
 
-def said(found: re.Match[bytes], names: list[tuple[bytes, bytes | None]], ends: Ends, marks: bytes) -> ArrowElement:
+def stated(found: re.Match[bytes], names: list[tuple[bytes, bytes | None]], ends: Ends, marks: bytes) -> ArrowElement:
     return ArrowElement(
         ends, names, kind_of(found), b"x" in marks.lower(), is_dotted(found), bool(found["row"]),
         found["activation"] or b"", found["text"] or b"",
@@ -100,7 +100,7 @@ def edge_element(found: re.Match[bytes], ends: Ends) -> ArrowElement | None:
     if not has_head(found["left"]) and not has_head(found["right"]):
         return None
     name = unquoted(found["name"])
-    return said(found, [(name, None)], ends, (found["mark"] or b"") + (found["other"] or b""))
+    return stated(found, [(name, None)], ends, (found["mark"] or b"") + (found["other"] or b""))
 
 
 def arrow_element(words: bytes) -> ArrowElement | None:
@@ -109,7 +109,7 @@ def arrow_element(words: bytes) -> ArrowElement | None:
         names = [named(found, "1"), named(found, "2")]
         one, other = names[0][0], names[1][0]
         ends = Ends(one, other) if goes_right(found) else Ends(other, one)
-        return said(found, names, ends, found["left"] + found["right"])
+        return stated(found, names, ends, found["left"] + found["right"])
     if found := FROM_EDGE.fullmatch(words):
         name = unquoted(found["name"])
         return edge_element(found, Ends(None, name) if goes_right(found) else Ends(name, None))

@@ -16,8 +16,8 @@ from plantuml_words import names_in, unquoted
 Found = re.Match[bytes]
 
 
-def text_of(said: bytes | None) -> bytes:
-    return (said or b"").strip(BLANKS)
+def text_of(stated: bytes | None) -> bytes:
+    return (stated or b"").strip(BLANKS)
 
 
 class Reader:
@@ -57,10 +57,10 @@ class Reader:
         return False
 
     def is_arrow(self, line: Line) -> bool:
-        said = arrow_element(line.words)
-        if said is None:
+        stated = arrow_element(line.words)
+        if stated is None:
             return False
-        self.arrow(line, said)
+        self.arrow(line, stated)
         return True
 
     def is_listed(self, line: Line) -> bool:
@@ -112,17 +112,17 @@ class Reader:
             self.pass_over(forms.PARTICIPANT_END)
         self.reading.name(line, word, label)
 
-    def arrow(self, line: Line, said: ArrowElement) -> None:
-        for word, label in said.names:
+    def arrow(self, line: Line, stated: ArrowElement) -> None:
+        for word, label in stated.names:
             self.reading.name(line, word, label)
         self.reading.arrow(
-            line, said.ends, text_of(said.text), left_out=said.left_out, is_lost=said.is_lost,
-            in_last_row=said.in_last_row,
+            line, stated.ends, text_of(stated.text), left_out=stated.left_out, is_lost=stated.is_lost,
+            in_last_row=stated.in_last_row,
         )
-        if said.activation:
-            self.activate_by(said.activation)
-        elif self.reading.activates_by_arrows and not said.is_lost:
-            self.activate_by(b"--" if said.is_dotted else b"++")
+        if stated.activation:
+            self.activate_by(stated.activation)
+        elif self.reading.activates_by_arrows and not stated.is_lost:
+            self.activate_by(b"--" if stated.is_dotted else b"++")
 
     def activate_by(self, signs: bytes) -> None:
         """Signs behind an arrow: `++` activates, `--` ends the innermost activation, and others mean nothing."""

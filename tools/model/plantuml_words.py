@@ -14,8 +14,8 @@ def form(pattern: bytes) -> re.Pattern[bytes]:
     A pattern of a whole statement, in any letters. Blanks in the pattern mean nothing, and `\\s` is a space, a tab or a
     carriage return, as in a diagram's lines.
     """
-    for said, meant in ((rb"[^\s", rb"[^ \t\r"), (rb"[\s", rb"[ \t\r"), (rb"\s", rb"[ \t\r]")):
-        pattern = pattern.replace(said, meant)
+    for stated, meant in ((rb"[^\s", rb"[^ \t\r"), (rb"[\s", rb"[ \t\r"), (rb"\s", rb"[ \t\r]")):
+        pattern = pattern.replace(stated, meant)
     return re.compile(pattern, re.VERBOSE | re.IGNORECASE)
 
 

@@ -91,7 +91,7 @@ def outcome(schedule):
 
 
 def not_done_text(notes):
-    """What `mscview` tells of a schedule's commands that did nothing."""
+    """What `mscview` reports of a schedule's commands that did nothing."""
     if not notes:
         return b""
     line = notes[0][0]

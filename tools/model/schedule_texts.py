@@ -1,4 +1,4 @@
-"""A schedule's text, read line by line as docs/reference/schedules.md tells."""
+"""A schedule's text, read line by line as docs/reference/schedules.md says."""
 
 import re
 from collections import namedtuple
@@ -23,11 +23,11 @@ COMMANDS = [
 
 
 def read_instances(line):
-    said = INSTANCES.fullmatch(line)
-    if not said:
+    stated = INSTANCES.fullmatch(line)
+    if not stated:
         raise Refused("F20", 1)
     names = []
-    for name in said[1].split(b" ")[1:]:
+    for name in stated[1].split(b" ")[1:]:
         check_name(name, 1)
         if name in names:
             raise Refused("F22", 1)
@@ -40,20 +40,20 @@ def read_instances(line):
 
 
 def read_capacity(line):
-    said = CAPACITY.fullmatch(line)
-    if not said:
+    stated = CAPACITY.fullmatch(line)
+    if not stated:
         raise Refused("F20", 2)
     # (a number of several digits is above 64 already where it has three)
-    if len(said[1]) > 2 or not 1 <= int(said[1]) <= MOST_SLOTS:
+    if len(stated[1]) > 2 or not 1 <= int(stated[1]) <= MOST_SLOTS:
         raise Refused("F9")
-    return int(said[1])
+    return int(stated[1])
 
 
 def read_command(line, number, names):
-    said = next((found for found in (form.fullmatch(line) for form in COMMANDS) if found), None)
-    if not said:
+    stated = next((found for found in (form.fullmatch(line) for form in COMMANDS) if found), None)
+    if not stated:
         raise Refused("F20", number)
-    actor, verb, *others = said.groups()
+    actor, verb, *others = stated.groups()
     for name in [actor, *others]:
         check_name(name, number)
     instances = [actor, *others[:1]]

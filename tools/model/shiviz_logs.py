@@ -1,6 +1,6 @@
 """
 Logs for ShiViz: an event is `HOST {"HOST":COUNT, ..} EVENT` in one line, or EVENT stands in the line above or below. One in
-the words `out M to B` and `in M from A` is read by them; what is behind a comma is left alone. Of others the clocks tell
+the words `out M to B` and `in M from A` is read by them; what is behind a comma is left alone. Of others the clocks say
 what they are: what an event heard of, and who heard of it.
 """
 
@@ -44,8 +44,8 @@ class Hearing(NamedTuple):
 
 def clocked_in(line: str) -> Clocked | None:
     """What a line with a clock says. Its event may be empty."""
-    said = CLOCKED.match(line)
-    return Clocked(said[1], said[2], said[3].strip(BLANKS)) if said else None
+    stated = CLOCKED.match(line)
+    return Clocked(stated[1], stated[2], stated[3].strip(BLANKS)) if stated else None
 
 
 def event_in_words(host: str, event: str) -> LoggedEvent | None:
@@ -81,7 +81,7 @@ def read_shiviz(lines: list[str], place: Callable[[int], str], first: int, last:
 
 
 class Clocks:
-    """What the clocks of events tell."""
+    """What the clocks of events say."""
 
     def __init__(self, events: list[Clocked]):
         self.events = events
@@ -94,7 +94,7 @@ class Clocks:
         self.hearings = self.all_hearings()
 
     def is_by_clock(self, number: int) -> bool:
-        """Whether the clock of this event tells what it is."""
+        """Whether the clock of this event says what it is."""
         event = self.events[number]
         return self.own[number] > 0 and not event_in_words(event.host, event.event)
 
@@ -124,7 +124,7 @@ class Clocks:
         return one.of is not None and self.entries[one.of].get(other.host, 0) < other.count
 
     def logged(self, number: int) -> list[LoggedEvent]:
-        """What an event is, where its clock tells it: first its receives."""
+        """What an event is, where its clock says it: first its receives."""
         event = self.events[number]
         receives = [one for one in self.hearings if one.by == number]
         sends = [one for one in self.hearings if one.of == number]
@@ -146,7 +146,7 @@ def add_clocked(log: Log, events: list[Clocked]) -> None:
             log.add_logged(words, event.place)
         elif clocks.is_by_clock(number):
             log.is_timed = True
-            for said in clocks.logged(number):
-                log.add_logged(said, event.place)
+            for stated in clocks.logged(number):
+                log.add_logged(stated, event.place)
         else:
             log.unmatched.append(event.place)

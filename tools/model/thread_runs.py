@@ -150,9 +150,9 @@ class Walk:
 
 
 def note_of(line):
-    said = re.fullmatch(rb"note ([1-9][0-9]*) ([a-z]+)", line)
-    require(said, line)
-    return int(said[1]), said[2].decode()
+    stated = re.fullmatch(rb"note ([1-9][0-9]*) ([a-z]+)", line)
+    require(stated, line)
+    return int(stated[1]), stated[2].decode()
 
 
 def judge(schedule, turns, status, output):

@@ -1,4 +1,4 @@
-// The page of `mscview page`: what it has besides the races, whose number is told.
+// The page of `mscview page`: what it has besides the races, whose number it shows.
 (() => {
   const byId = (id) => document.getElementById(id);
   const picture = byId('picture');
@@ -17,7 +17,7 @@
     search: byId('search'),
     shown: (race, before) => {
       if (before) open(before, false);
-      byId('told').textContent = race ? races.all.indexOf(race) + 1 + ' of ' + races.all.length : '';
+      byId('position').textContent = race ? races.all.indexOf(race) + 1 + ' of ' + races.all.length : '';
       if (race) open(race, true);
     },
   });

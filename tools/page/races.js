@@ -7,12 +7,12 @@
 // the receive, and data-also the others of its own line that have to.
 class Races {
   // frame: the element that the picture scrolls in. picture: gives the element that has the picture. list: the element whose
-  // children are the races. search: the box for what is looked for. shown: is told the race that is shown now, or null, and
+  // children are the races. search: the box for what is looked for. shown: is called with the race that is shown now, or null, and
   // the one before.
   constructor({ frame, picture, list, search, shown }) {
     Object.assign(this, { frame, picture, list, search, shown, chosen: null, marked: [], hits: [], lastHit: -1 });
     list.addEventListener('click', (event) => this.chooseListed(event));
-    frame.addEventListener('click', (event) => this.chooseDrawn(event));
+    frame.addEventListener('click', (event) => this.chooseInPicture(event));
     search.addEventListener('input', () => this.find());
     search.addEventListener('keydown', (event) => {
       if (event.key === 'Enter') this.nextHit();
@@ -88,7 +88,7 @@ class Races {
     this.choose(this.chosen === race ? null : race);
   }
 
-  chooseDrawn(event) {
+  chooseInPicture(event) {
     const element = event.composedPath()[0].closest('g[id^=e], g[id^=r], path[id^=b]');
     if (!element) return;
     const [instance, number] = element.id.slice(1).split('-').map(Number);

@@ -65,10 +65,10 @@ function tellWhy(it, row, why) {
 }
 
 function tellWitness(witness, drawn) {
-  const told = decode(witness.err).trim();
+  const reported = decode(witness.err).trim();
   by("witness").hidden = drawn === undefined || drawn.status !== 0;
-  by("witness_words").textContent = witness.status !== 1 ? told
-    : `The same messages, in the other order.${told === "" ? "" : ` (${told})`}`;
+  by("witness_words").textContent = witness.status !== 1 ? reported
+    : `The same messages, in the other order.${reported === "" ? "" : ` (${reported})`}`;
   if (!by("witness").hidden) pictureOf(drawn.out, by("witness"));
 }
 
@@ -104,11 +104,11 @@ async function tidy() {
 async function mendAll() {
   if (now === null) return;
   const answer = await view(["mend", "--all", now.name], now.file);
-  const told = decode(answer.err).trim();
-  if (told === "") by("summary").textContent = `${by("summary").textContent.split("; ")[0]}; no single message leaves fewer.`;
+  const reported = decode(answer.err).trim();
+  if (reported === "") by("summary").textContent = `${by("summary").textContent.split("; ")[0]}; no single message leaves fewer.`;
   else {
     await take(answer.out);
-    by("told").replaceChildren(...told.split("\n").map((line) => element("li", line)));
+    by("reported").replaceChildren(...reported.split("\n").map((line) => element("li", line)));
   }
 }
 
@@ -139,9 +139,9 @@ async function saveAs() {
   by("save_as").value = "";
   if (kept === undefined || now === null) return;
   const answer = await view([...kept[2](), now.name], now.file);
-  if (answer.status === 2) by("told").append(element("li", wordsOfRefusal(answer)));
+  if (answer.status === 2) by("reported").append(element("li", wordsOfRefusal(answer)));
   else save(`${baseName()}.${kept[1]}`, answer.out, "text/plain");
-  for (const line of decode(answer.err).split("\n")) if (line !== "") by("told").append(element("li", line));
+  for (const line of decode(answer.err).split("\n")) if (line !== "") by("reported").append(element("li", line));
 }
 
 // ---- Two recordings
@@ -209,8 +209,8 @@ async function stateOf(address) {
 async function keepInAddress() {
   const {text, options} = asked();
   location.hash = await addressOf({text, kind: by("kind").value, options: options.length > 0 ? by("options").value : ""});
-  const told = "The address now contains the text: send it, or bookmark it.";
-  by("summary").textContent = told;
+  const reported = "The address now contains the text: send it, or bookmark it.";
+  by("summary").textContent = reported;
   await navigator.clipboard?.writeText(location.href).catch(() => undefined);
 }
 

@@ -1,7 +1,7 @@
 /* The memory of the module, which has no C library below it: the functions of memory that the proved code calls (as
- * include/msc.h tells of them), and two calls by which the page takes a block and gives it back.
+ * include/msc.h reports them), and two calls by which the page takes a block and gives it back.
  *
- * A block has one of some hundred sizes, and stands behind a head of 16 bytes that tells which. What is given back is kept in
+ * A block has one of some hundred sizes, and stands behind a head of 16 bytes that says which. What is given back is kept in
  * a list of its size, and taken again from there. Else a block is cut from what lies behind the last one. */
 #ifdef __wasm__
 /* (the kit has no headers) */

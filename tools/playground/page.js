@@ -64,7 +64,7 @@ async function look() {
 // Finds the chart of a text, its faults, races and picture, as long as nothing newer is asked for.
 async function lookAt(it, counts) {
   const source = file(it.name, it.text);
-  const found = {...it, source, told: [], faults: []};
+  const found = {...it, source, reported: [], faults: []};
   if (it.kind !== "log" && it.kind !== "shiviz") found.explained = decode((await view(["explain", it.name], source)).out);
   const chart = await chartOfText(found);
   if (!counts()) return;
@@ -76,7 +76,7 @@ async function lookAt(it, counts) {
   }
   found.text_of_chart = chartPart(decode(chart.out));
   found.chart = chartOf(found.text_of_chart);
-  found.told = decode(chart.told).split("\n").filter((line) => line !== "");
+  found.reported = decode(chart.reported).split("\n").filter((line) => line !== "");
   // (the schedule itself has its capacity, and who chose)
   found.file = it.kind === "schedule" && it.seed === null ? source : file(it.name, found.text_of_chart);
   now = found;
@@ -93,14 +93,14 @@ async function chartOfText(it) {
   if (it.kind === "schedule") {
     const words = it.seed === null ? ["replay", it.name] : ["random", it.name, "--seed", it.seed];
     const answer = await answers.ask("mscrun", words, [it.source]);
-    return answer.status === 2 ? refused(answer) : {status: 0, out: answer.out, told: nothing};
+    return answer.status === 2 ? refused(answer) : {status: 0, out: answer.out, reported: nothing};
   }
   if (isImported(it.kind)) {
     const answer = await view(["import", "--from", it.kind, ...it.options, it.name], it.source);
-    return answer.status === 2 ? refused(answer) : {status: 0, out: answer.out, told: answer.err};
+    return answer.status === 2 ? refused(answer) : {status: 0, out: answer.out, reported: answer.err};
   }
   const answer = await view(["races", it.name], it.source);
-  return answer.status === 2 ? refused(answer) : {status: 0, out: it.source.bytes, told: nothing};
+  return answer.status === 2 ? refused(answer) : {status: 0, out: it.source.bytes, reported: nothing};
 }
 
 function clearAll(words) {
@@ -110,7 +110,7 @@ function clearAll(words) {
   by("picture").shadowRoot?.replaceChildren();
   by("races").tBodies[0].replaceChildren();
   for (const id of ["more", "what", "chart_text"]) by(id).textContent = "";
-  by("told").replaceChildren();
+  by("reported").replaceChildren();
   by("faults").replaceChildren();
   for (const id of ["picture_frame", "race_bar", "table_frame", "save_picture", "save_chart", "save_as", "rows_bar"]) by(id).hidden = true;
   faultLines.clear();
@@ -130,7 +130,7 @@ function tellFaults(it, refusal) {
   if (kind.startsWith("neither")) cards.push(card('help: if this is a log of another form, choose "a log" above, and describe its lines by --pattern'));
   if (refusal !== "" && !cards.some((it) => it.dataset.sort === "error")) cards.unshift(card(`error: ${refusal}`));
   by("faults").replaceChildren(...cards);
-  by("told").replaceChildren(...it.told.map((line) => element("li", line)));
+  by("reported").replaceChildren(...it.reported.map((line) => element("li", line)));
   by("tidy").hidden = isImported(it.kind);
   drawGutter();
 }
@@ -186,6 +186,7 @@ async function tellRaces(it, counts) {
   const words = ["races"];
   const tellsLuck = it.kind === "log" || (it.kind === "schedule" && it.seed === null);
   by("luck_label").hidden = !tellsLuck;
+  by("luck_label").lastChild.textContent = it.kind === "schedule" ? " only by any" : " only luck";
   if (by("receives").checked) words.push("--receives");
   if (by("completion").checked) words.push("--run-to-completion");
   if (tellsLuck && by("luck").checked) words.push("--luck");

@@ -22,7 +22,7 @@ function answers(name, program, words, status, out, err) {
   else failed.push(`${name}: status ${answer.status}, and ${status} was wanted; ${text(answer.err).split("\n")[0]}`);
 }
 
-function tell(what) {
+function report(what) {
   for (const name of failed) console.log(`FAILED in a page: ${name}`);
   if (failed.length === 0) console.log(`held in a page: ${held} ${what}, to the byte`);
   failed.length = held = 0;
@@ -35,7 +35,7 @@ for (const name of cases) {
   if (words[0] === "threads") continue;
   answers(name, program, words, Number(readFileSync(`${folder}/status`, "utf8")), `${folder}/stdout`, `${folder}/stderr`);
 }
-tell("cases");
+report("cases");
 
 const examples = readdirSync("examples").flatMap((story) => readdirSync(`examples/${story}`).map((name) => `examples/${story}/${name}`));
 const origin = (name) => [`${name}.msc`, `${name}.schedule`].find((it) => existsSync(it));
@@ -62,7 +62,7 @@ for (const folder of ["logs", "erlang", "mpi", "jobs"]) {
     if (existsSync(`${name}.svg`)) answers(`${name}.svg`, "mscview", ["draw", `${name}.msc`], 0, `${name}.svg`, "");
   }
 }
-tell("examples");
+report("examples");
 
 const chart = "examples/two_answers/two_answers.msc", script = readFileSync("tools/page/races.js", "utf8").trimEnd();
 const isShared = [page, text(engine.answer("mscview", ["page", chart], [file(chart)]).out)].every((it) => it.includes(script));

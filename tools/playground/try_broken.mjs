@@ -24,27 +24,27 @@ const pick = (list) => list[draw(list.length)];
 const inputs = (wanted) => cases.filter((name) => wanted.test(name)).map((name) => `${unpacked(name)}/input`);
 const ended = (end, folder) => readdirSync(folder).filter((name) => name.endsWith(end)).map((name) => `${folder}/${name}`);
 // The charts, schedules and diagrams of the stories, which stand beside what they come to.
-const told = (end) => readdirSync("examples").flatMap((story) => ended(end, `examples/${story}`))
+const reported = (end) => readdirSync("examples").flatMap((story) => ended(end, `examples/${story}`))
   .filter((name) => existsSync(name.replace(/\.\w+$/, ".stdout")));
 
 // What is broken, and what is asked of it then (FILE is its place).
 const KINDS = [
-  {texts: [...told(".msc"), ...inputs(/mscrun\/\w+\/(chart|hostile|coregion.*checked|crossing.*checked)/)],
+  {texts: [...reported(".msc"), ...inputs(/mscrun\/\w+\/(chart|hostile|coregion.*checked|crossing.*checked)/)],
     asks: ["mscrun check FILE", "mscview races FILE", "mscview races --json --run-to-completion FILE", "mscview draw FILE",
       "mscview draw --around client 2 FILE", "mscview draw --witness client 2 3 FILE", "mscview page FILE", "mscview explain FILE",
       "mscview tidy FILE", "mscview why FILE client 2 3", "mscview witness FILE client 3 4", "mscview mend FILE client 2 3",
       "mscview mend --all FILE", "mscview export --to plantuml FILE"]},
-  {texts: [...told(".schedule"), ...inputs(/mscrun\/\w+\/(drawn|any|ended|refused|coregion_notes|touching)|explain\/.*schedule/)],
+  {texts: [...reported(".schedule"), ...inputs(/mscrun\/\w+\/(drawn|any|ended|refused|coregion_notes|touching)|explain\/.*schedule/)],
     asks: ["mscrun replay FILE", "mscrun random FILE --seed 12", "mscview races FILE", "mscview races --luck FILE",
       "mscview draw --numbers FILE", "mscview page FILE", "mscview explain FILE", "mscview tidy FILE",
       "mscview export --to mscgen FILE", "mscview witness FILE control 4 6"]},
-  ...["mscgen", "plantuml", "mermaid"].map((tool) => ({texts: [...told(`.${tool}`), ...inputs(new RegExp(`import/${tool}`))],
+  ...["mscgen", "plantuml", "mermaid"].map((tool) => ({texts: [...reported(`.${tool}`), ...inputs(new RegExp(`import/${tool}`))],
     asks: [`mscview import --from ${tool} FILE`, "mscview import FILE", `mscview races --from ${tool} FILE`,
       `mscview draw --from ${tool} FILE`, `mscview import --strict --from ${tool} FILE`, "mscview explain FILE"]})),
   {texts: [...ended(".log", "examples/logs"), ...ended(".log", "examples/erlang"), ...inputs(/import\/log/)],
     asks: ["mscview import --from log FILE", "mscview races --from log --luck FILE", "mscview races --from log --json FILE",
       "mscview import --from log --pattern (?<host>\\w+)\\s(?<dir>\\w+)\\s(?<peer>\\w+)\\s(?<name>\\w+) FILE"]},
-  {texts: [...told(".shiviz"), ...ended(".shiviz", "examples/logs"), ...inputs(/import\/shiviz/)],
+  {texts: [...reported(".shiviz"), ...ended(".shiviz", "examples/logs"), ...inputs(/import\/shiviz/)],
     asks: ["mscview import --from shiviz FILE", "mscview races --from shiviz FILE"]},
 ];
 

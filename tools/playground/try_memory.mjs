@@ -1,4 +1,4 @@
-// Tries the memory of the program in a page: many calls in a row give all of it back; and in a page whose memory can be told
+// Tries the memory of the program in a page: many calls in a row give all of it back; and in a page whose memory can be made
 // to refuse, each of the first requests is refused in turn, and the call behind it is answered as ever.
 //   node try_memory.mjs PAGE CALLS [REFUSING_PAGE]
 import {readFileSync} from "node:fs";
@@ -30,7 +30,7 @@ const commands = [
 
 const bytesOf = (name) => readFileSync(name.startsWith("cases/") ? unpacked(name) : name);
 const filesOf = (words) => words.filter((word) => word.includes("/")).map((name) => file(name, bytesOf(name)));
-const said = ({status, out, err}) => `${status}\n${text(out)}\n${text(err)}`;
+const stated = ({status, out, err}) => `${status}\n${text(out)}\n${text(err)}`;
 const tried = commands.map(([program, ...words]) => ({program, words, files: filesOf(words)}));
 const ask = (engine, {program, words, files}) => engine.answer(program, words, files);
 
@@ -48,7 +48,7 @@ function manyCalls({module, Engine}) {
 
 // Refuses the k-th request of a command. What it answers then is the whole answer, where it makes fewer, or status 2.
 function refuses({module, Engine}, it) {
-  const usual = said(ask(new Engine(module), it));
+  const usual = stated(ask(new Engine(module), it));
   let refused = 0;
   const engine = new Engine(module);
   for (let number = 1; number <= MOST; number++) {
@@ -58,16 +58,16 @@ function refuses({module, Engine}, it) {
     engine.calls.memory_refuse(0n);
     // (regular expressions go on with less, where memory is refused for more)
     if (made && answer.status === 2 && /^refused: F(6|24) /m.test(text(answer.err))) refused++;
-    else if (said(answer) !== usual && !(made && answer.status === 2 && answer.err.length === 0)) return `request ${number}: ${said(answer).slice(0, 100)}`;
+    else if (stated(answer) !== usual && !(made && answer.status === 2 && answer.err.length === 0)) return `request ${number}: ${stated(answer).slice(0, 100)}`;
     if (engine.calls.page_blocks() !== 0n) return `request ${number}: blocks are left`;
-    if (said(ask(engine, it)) !== usual) return `request ${number}: the next call is answered otherwise`;
+    if (stated(ask(engine, it)) !== usual) return `request ${number}: the next call is answered otherwise`;
   }
   return refused > 0 ? "" : "no request was refused";
 }
 
-const tell = (what, fault) => console.log(fault === "" ? `held in a page: ${what}` : `FAILED in a page: ${what}: ${fault}`);
-tell(`${calls} calls in a row give all memory back`, manyCalls(moduleOf(page)));
+const report = (what, fault) => console.log(fault === "" ? `held in a page: ${what}` : `FAILED in a page: ${what}: ${fault}`);
+report(`${calls} calls in a row give all memory back`, manyCalls(moduleOf(page)));
 if (refusing !== undefined) {
   const found = moduleOf(refusing);
-  for (const it of tried) tell(`each of ${MOST} requests for memory refused in turn, ${it.words.slice(0, 3).join(" ")}`, refuses(found, it));
+  for (const it of tried) report(`each of ${MOST} requests for memory refused in turn, ${it.words.slice(0, 3).join(" ")}`, refuses(found, it));
 }

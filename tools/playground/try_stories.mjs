@@ -20,12 +20,12 @@ const wants = (holds, what) => {
 };
 
 // Opens a page of its own, does something there, and sees that its console and the network are silent.
-async function story(name, tell, {at = address, shows = "document.documentElement.dataset.ready === ''", ...look} = {}) {
+async function story(name, play, {at = address, shows = "document.documentElement.dataset.ready === ''", ...look} = {}) {
   const page = await browser.page(look);
   try {
     await page.goto(at);
     await page.until(shows);
-    await tell(page);
+    await play(page);
     await page.until("document.getElementById('working').textContent !== 'working ..'");
     wants(page.faults.length === 0, `the console says: ${page.faults[0]}`);
     const others = page.requests.filter((url) => !url.startsWith(address) && !url.startsWith("blob:null/") && !url.startsWith(at.split("#")[0]));
@@ -97,7 +97,7 @@ await story("a schedule, its orders and keys", async (page) => {
 });
 await story("a log of a lock server, and luck alone", async (page) => {
   await type(page, text("examples/erlang/lock_server.log"));
-  wants((await rows(page)).some((row) => row.endsWith(" | luck")), "no race is told as luck");
+  wants((await rows(page)).some((row) => row.endsWith(" | luck")), "no race is reported as luck");
   const before = (await rows(page)).length;
   await clickOn(page, "#luck");
   const left = await rows(page);
@@ -137,7 +137,7 @@ await story("hostile texts stay text", async (page) => {
   await page.ask(`(() => { const box = document.getElementById("text"); box.value = ${quoted(`msc {\n  a [label="${bad.replace(/"/g, "'")}"], b;\n  a -> b [label="${bad.replace(/"/g, "'")}"];\n  b -> a [label="</svg><script>alert(4)</script>"];\n}\n`)}; })()`);
   await page.ask("look()");
   await settled(page);
-  wants((await words(page, "told")).includes("<img src=x onerror="), `told is ${await words(page, "told")}`);
+  wants((await words(page, "reported")).includes("<img src=x onerror="), `it is ${await words(page, "reported")}`);
   for (const place of ["document", "document.getElementById('picture').shadowRoot"]) {
     wants((await page.ask(`${place}.querySelectorAll('img, script:not([id]):not(body > script), iframe, object').length`)) === 0, "an element was made of a text");
   }
@@ -198,7 +198,7 @@ await story("a page that is damaged", async (page) => {
   wants((await words(page, "summary")) === "This page can't run here: its programs are damaged", await words(page, "summary"));
 }, {at: `file://${damaged}`, shows: "document.getElementById('summary').textContent !== ''"});
 
-// A page whose limit is a millisecond: what takes longer is stopped, and told.
+// A page whose limit is a millisecond: what takes longer is stopped, and reported.
 const hasty = join(room, "hasty.html");
 writeFileSync(hasty, readFileSync(pageFile, "utf8").replace("const LIMIT = 30000;", "const LIMIT = 200;").replace(/script-src [^;]*;/, "script-src 'unsafe-inline' 'wasm-unsafe-eval';"));
 const ring = (rounds) => {

@@ -1,5 +1,5 @@
 """A headless Chromium that is spoken to over two pipes. It asks nothing of the network but what a page asks for, and what
-that is, is told."""
+that is, is reported."""
 import json, os, shutil, subprocess, tempfile, time
 
 NAMES = ('chromium', 'chromium-browser', 'google-chrome')
@@ -33,7 +33,7 @@ class Browser:
         os.close(to_write)
         self.number = 0
         self.rest = b''
-        self.told = []
+        self.reported = []
         target = self.ask('Target.createTarget', {'url': 'about:blank'})['targetId']
         self.session = self.ask('Target.attachToTarget', {'targetId': target, 'flatten': True})['sessionId']
         for domain in ('Page', 'Runtime', 'Log', 'Network'):
@@ -55,7 +55,7 @@ class Browser:
         return json.loads(one)
 
     def ask(self, method, params=None, seconds=60):
-        """What it answers to a request. What it tells meanwhile is kept."""
+        """What it answers to a request. What it reports meanwhile is kept."""
         self.number += 1
         request = {'id': self.number, 'method': method, 'params': params or {}}
         if getattr(self, 'session', None):
@@ -67,15 +67,15 @@ class Browser:
                 if 'error' in message:
                     raise Failed(f'{method}: {message["error"]}')
                 return message['result']
-            self.told.append(message)
+            self.reported.append(message)
 
     def open(self, url, seconds=60):
-        """Opens a page, and tells how long it took until it was loaded."""
-        self.told = []
+        """Opens a page, and says how long it took until it was loaded."""
+        self.reported = []
         start = time.monotonic()
         self.ask('Page.navigate', {'url': url})
-        while not any(one.get('method') == 'Page.loadEventFired' for one in self.told):
-            self.told.append(self.message(seconds))
+        while not any(one.get('method') == 'Page.loadEventFired' for one in self.reported):
+            self.reported.append(self.message(seconds))
         self.ask('Runtime.evaluate', {'expression': '0'})
         return time.monotonic() - start
 
@@ -89,7 +89,7 @@ class Browser:
     def faults(self):
         """Errors of the console, and what was thrown."""
         faults = []
-        for one in self.told:
+        for one in self.reported:
             params = one.get('params', {})
             if one.get('method') == 'Runtime.exceptionThrown':
                 faults.append('thrown: ' + str(params['exceptionDetails'].get('exception', {}).get('description'))[:200])
@@ -101,7 +101,7 @@ class Browser:
 
     def requests(self):
         """What was asked for."""
-        return [one['params']['request']['url'] for one in self.told if one.get('method') == 'Network.requestWillBeSent']
+        return [one['params']['request']['url'] for one in self.reported if one.get('method') == 'Network.requestWillBeSent']
 
     def picture(self, path):
         """Writes what is seen as a PNG."""

@@ -94,9 +94,9 @@ static int opened(const char *folder, const char *name, int how) {
 
 /* What stands in a file. */
 static struct bytes mapped(int file) {
-  struct stat told;
-  if (fstat(file, &told) != 0) give_up("a file's size");
-  struct bytes bytes = {"", told.st_size};
+  struct stat info;
+  if (fstat(file, &info) != 0) give_up("a file's size");
+  struct bytes bytes = {"", info.st_size};
   if (bytes.size == 0) return bytes;
   bytes.at = mmap(NULL, bytes.size, PROT_READ, MAP_PRIVATE, file, 0);
   if (bytes.at == MAP_FAILED) give_up("a file's bytes");
@@ -104,9 +104,9 @@ static struct bytes mapped(int file) {
 }
 
 static int stands(struct bytes wanted, int file) {
-  struct stat told;
-  if (fstat(file, &told) != 0) give_up("a file's size");
-  if (told.st_size != (off_t)wanted.size) return 0;
+  struct stat info;
+  if (fstat(file, &info) != 0) give_up("a file's size");
+  if (info.st_size != (off_t)wanted.size) return 0;
   struct bytes found = mapped(file);
   int same = memcmp(found.at, wanted.at, wanted.size) == 0;
   if (found.size > 0) munmap((void *)found.at, found.size);
@@ -118,7 +118,7 @@ static const struct bytes nothing = {"", 0}, no_memory = {"refused: F6 Memory\n"
 static struct {
   int out, err, is_case, answer_status, usual_status;
   int64_t kept;
-  struct bytes answer, said;
+  struct bytes answer, stated;
 } turns;
 
 static void open_turns(const char *folder) {
@@ -131,14 +131,14 @@ static void open_turns(const char *folder) {
   turns.kept = number_of("KEPT_BLOCKS", 0);
   if (!answer) return;
   turns.answer = mapped(opened(answer, "stdout", O_RDONLY));
-  turns.said = mapped(opened(answer, "stderr", O_RDONLY));
+  turns.stated = mapped(opened(answer, "stderr", O_RDONLY));
 }
 
 static int is_usual(int status) {
   if (!*reached) return 0;
   if (!turns.is_case) return (status == 0 || status == turns.usual_status) && counts->live == turns.kept;
   if (status == 2 && stands(nothing, turns.out) && stands(no_memory, turns.err)) return 1;
-  return status == turns.answer_status && stands(turns.answer, turns.out) && stands(turns.said, turns.err);
+  return status == turns.answer_status && stands(turns.answer, turns.out) && stands(turns.stated, turns.err);
 }
 
 /* Makes the two files that a turn writes to empty. */

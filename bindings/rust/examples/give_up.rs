@@ -1,4 +1,4 @@
-//! A client asks a server, which gives up when nothing comes for a while, and tells a logger. Three threads, a post
+//! A client asks a server, which gives up when nothing comes for a while, and informs a logger. Three threads, a post
 //! each. Each race is printed as it comes. At the end the board is gathered, and its chart is printed, which `mscrun
 //! check` and `mscview` read.
 //!
@@ -28,7 +28,7 @@ fn send(post: &mut Post<'_>, to: u32, name: &str, body: &str) -> Result<(), Erro
     unreachable!("it tries on until the lane has room")
 }
 
-/// Tells of a message, and of its races by the names of the two messages.
+/// Reports a message, and its races by the names of the two messages.
 fn show(post: &Post<'_>, message: &Message) {
     let me = NAMES[post.number() as usize - 1];
     println!("{me}: event {} is {} from {}", message.event, message.name, NAMES[message.from as usize - 1]);
@@ -62,12 +62,12 @@ fn client(mut post: Post<'_>) -> Result<(), Error> {
 }
 
 fn server(mut post: Post<'_>) -> Result<(), Error> {
-    let (answer, told) = match next(&mut post, 20)? {
+    let (answer, notice) = match next(&mut post, 20)? {
         Taken::Got(_) => (("answer", "late"), "answered"),
         Taken::Nothing | Taken::Ended => (("gives_up", ""), "gave_up"),
     };
     send(&mut post, CLIENT, answer.0, answer.1)?;
-    send(&mut post, LOGGER, told, "")?;
+    send(&mut post, LOGGER, notice, "")?;
     post.close(CLIENT)?;
     post.close(LOGGER)
 }

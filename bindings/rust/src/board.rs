@@ -85,7 +85,7 @@ impl Board {
     /// Carries over to this board, which has done nothing yet, what a gathered one left. That one has as many instances
     /// and at most as many slots. Returns how many sends each instance carried.
     pub(crate) fn take_over(&mut self, left: *mut Handle) -> Result<Vec<u32>, Error> {
-        let (mut carried, mut told) = (vec![0usize; self.len()], 0);
+        let (mut carried, mut total) = (vec![0usize; self.len()], 0);
         // SAFETY: as above. This function requires of the board whatever else the call requires.
         done(unsafe {
             ffi::msc_carry_over_(
@@ -94,7 +94,7 @@ impl Board {
                 self.handles.len(),
                 carried.as_mut_ptr(),
                 carried.len(),
-                &mut told,
+                &mut total,
             )
         })?;
         // (a line has 4,096 events at most)

@@ -146,7 +146,7 @@ extern "C" {
         count: usize,
         carried: *mut usize,
         room: usize,
-        told: *mut usize,
+        total: *mut usize,
     ) -> i32;
     pub fn msc_board_text_(
         board: *mut Handle,

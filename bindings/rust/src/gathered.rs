@@ -128,26 +128,26 @@ impl Gathered {
 
     /// The report with this number, from 1.
     fn report(&self, number: usize) -> Option<Report> {
-        let (mut told, mut races) = (ffi::Report::default(), Vec::new());
+        let (mut info, mut races) = (ffi::Report::default(), Vec::new());
         loop {
             // SAFETY: as above.
             let answer = unsafe {
-                ffi::msc_board_report_(self.handle.get(), number, &mut told, races.as_mut_ptr(), races.len())
+                ffi::msc_board_report_(self.handle.get(), number, &mut info, races.as_mut_ptr(), races.len())
             };
             if answer != 0 {
                 return None;
             }
-            if told.races == races.len() {
-                return Some(Report { instance: told.instance, event: told.event, races });
+            if info.races == races.len() {
+                return Some(Report { instance: info.instance, event: info.event, races });
             }
-            races.resize(told.races, 0);
+            races.resize(info.races, 0);
         }
     }
 
     /// The message with this number, from 1, that waits on a lane.
     fn left_at(&self, from: u32, to: u32, number: usize) -> Option<Left> {
         let place = ffi::Place { from, to, number };
-        let (mut told, mut name, mut body) = (ffi::Left::default(), Name::NONE, Vec::new());
+        let (mut info, mut name, mut body) = (ffi::Left::default(), Name::NONE, Vec::new());
         loop {
             let mut answer = 0;
             name.write(|bytes| {
@@ -156,22 +156,22 @@ impl Gathered {
                     ffi::msc_board_left_(
                         self.handle.get(),
                         &place,
-                        &mut told,
+                        &mut info,
                         bytes.as_mut_ptr(),
                         bytes.len(),
                         body.as_mut_ptr(),
                         body.len(),
                     )
                 };
-                told.name_length
+                info.name_length
             });
             if answer != 0 {
                 return None;
             }
-            if told.body_length == body.len() {
+            if info.body_length == body.len() {
                 return Some(Left { from, to, name, body });
             }
-            body.resize(told.body_length, 0u8);
+            body.resize(info.body_length, 0u8);
         }
     }
 }

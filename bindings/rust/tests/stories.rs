@@ -1,4 +1,4 @@
-//! The stories that the bindings of all languages tell, and what is Rust's own: threads, panics, the words of refusals.
+//! The stories of the bindings of all languages, and what is Rust's own: threads, panics, the words of refusals.
 
 use msc::{Board, Direction, Error, Message, Post, Taken};
 use std::thread;
@@ -9,7 +9,7 @@ fn got(taken: Result<Taken, Error>) -> Message {
 }
 
 #[test]
-fn a_race_is_told() {
+fn a_race_is_reported() {
     let mut board = Board::new(3, 4).unwrap();
     let [mut one, mut two, mut server] = board.posts_array().unwrap();
     assert_eq!(one.send(3, "order", b"tea"), Ok(1));
@@ -46,7 +46,7 @@ fn several_at_once() {
     one.send_all(2, &[("a", "1"), ("b", "22"), ("c", "")]).unwrap();
     three.send(2, "d", b"").unwrap();
     assert_eq!(got(two.receive(3)).name, "d");
-    let told = |taken: Result<Taken<Vec<Message>>, Error>| {
+    let listed = |taken: Result<Taken<Vec<Message>>, Error>| {
         let messages = taken.expect("a look").got().expect("messages");
         messages
             .iter()
@@ -54,9 +54,9 @@ fn several_at_once() {
             .collect::<Vec<_>>()
     };
     let wanted = [(2, "a".to_string(), 1, vec![1]), (3, "b".to_string(), 2, vec![1])];
-    assert_eq!(told(two.receive_up_to(1, 2)), wanted);
+    assert_eq!(listed(two.receive_up_to(1, 2)), wanted);
     one.close(2).unwrap();
-    assert_eq!(told(two.receive_up_to(1, usize::MAX)), [(4, "c".to_string(), 0, vec![1])]);
+    assert_eq!(listed(two.receive_up_to(1, usize::MAX)), [(4, "c".to_string(), 0, vec![1])]);
     assert_eq!(two.receive_up_to(1, 2), Ok(Taken::Ended));
     assert_eq!(two.receive_up_to(1, 0), Err(Error::Misuse));
     assert_eq!(two.receive_up_to(2, 1), Err(Error::ToItself));
@@ -126,8 +126,8 @@ fn a_gathered_board() {
         gathered.reports().map(|report| (report.instance, report.event, report.races)).collect();
     assert_eq!(reports, [(2, 2, vec![1])]);
     let left: Vec<_> = gathered.left().collect();
-    let told: Vec<_> = left.iter().map(|left| (left.from, left.to, &left.name[..], &left.body[..])).collect();
-    assert_eq!(told, [(1, 2, "more", &b"milk"[..]), (2, 1, "hello", &b"h"[..])]);
+    let listed: Vec<_> = left.iter().map(|left| (left.from, left.to, &left.name[..], &left.body[..])).collect();
+    assert_eq!(listed, [(1, 2, "more", &b"milk"[..]), (2, 1, "hello", &b"h"[..])]);
 }
 
 #[test]

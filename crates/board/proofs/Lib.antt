@@ -4,7 +4,7 @@ pub mod ClosedLanes
 pub mod Closes
 pub mod DidLemmas
 pub mod DrainedLanes
-pub mod Drawing
+pub mod Draining
 pub mod EndLemmas
 pub mod FilledSlots
 pub mod Finding

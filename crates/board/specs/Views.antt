@@ -19,7 +19,7 @@ pub record PostView : Type 0 where
   -- the history that it has seen, and what its own calls made; the newest event first
   pub seen : List Occurrence
   pub made : List Occurrence
-  -- how often it looked at a word of another post
+  -- how often it looked at a word of another post, that is, polled it
   pub looks : ℕ
   -- its open coregion, 0 for none
   pub region : ℕ

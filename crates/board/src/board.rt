@@ -103,7 +103,7 @@ impl Board {
         let posts = deal_posts(words, seat, alloc, shape)?;
         match wake_all(alloc, words, posts) {
             Ok(posts) => Ok(posts),
-            Err(_) => Err(PostsError::Memory),
+            Err((_, AllocError)) => Err(PostsError::Memory),
         }
     }
 

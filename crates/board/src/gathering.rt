@@ -11,7 +11,7 @@ ghost use Rattle.board.specs.Provisions.{IsProvision};
 use crate::closed_lanes::find_closed;
 use crate::error::GatherCause;
 use crate::meeting::{are_all, meet};
-use crate::parting::{Leaver, Room, draw_lanes, part_all};
+use crate::parting::{Leaver, Room, part_all, take_lanes};
 use crate::post::Post;
 use crate::reserving::{make_own_events, make_reports, make_rooms};
 use board_table::SharedTable;
@@ -136,7 +136,7 @@ fn gather_all(posts: Vec<Post>, provision: Provision) -> Gathered
     let words = posts[0].words();
     meet(&mut posts);
     part_all(posts, instances, own_events, &mut lines, &mut leavers);
-    draw_lanes(words, &mut leavers, rooms, &mut left);
+    take_lanes(words, &mut leavers, rooms, &mut left);
     Gathered {
         chart: whole_chart(lines),
         reports,
@@ -161,11 +161,14 @@ pub fn gather<'a>(alloc: Global, posts: Vec<Post<'a>>) -> Result<Gathered, Gathe
             cause: GatherCause::NotAllPosts,
         });
     }
-    let Ok(provision) = make_provision(alloc, posts.as_slice()) else {
-        return Err(GatherError {
-            posts,
-            cause: GatherCause::Memory,
-        });
+    let provision = match make_provision(alloc, posts.as_slice()) {
+        Ok(provision) => provision,
+        Err(AllocError) => {
+            return Err(GatherError {
+                posts,
+                cause: GatherCause::Memory,
+            });
+        }
     };
     Ok(gather_all(posts, provision))
 }

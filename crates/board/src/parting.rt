@@ -14,7 +14,7 @@ ghost use Rattle.board.specs.Parting.{HaveSeen, HaveParted, AreReady};
 use crate::gathering::Left;
 use crate::meeting::place_of;
 use crate::post::Post;
-use board_table::{Lane, Seat, SharedTable, draw};
+use board_table::{Lane, Seat, SharedTable, take_out};
 use chart::{Event, InstanceNo, Line, Message};
 
 /// Room for the messages that wait on a lane.
@@ -55,7 +55,7 @@ impl<'a> Post<'a> {
 }
 
 /// Draws the messages for which there is room. They are the first ones of those that left with the seat.
-pub(crate) fn draw_all(words: &SharedTable, seat: &mut Seat, room: Room) -> Left
+pub(crate) fn take_all(words: &SharedTable, seat: &mut Seat, room: Room) -> Left
     requires table { seat.old.table_id ≡ words.now.table_id }
     requires first { (packets : List Packet) × (others : List (ℕ × Option Packet))
         × ComeFirst room.lane room.taken packets
@@ -82,7 +82,7 @@ pub(crate) fn draw_all(words: &SharedTable, seat: &mut Seat, room: Room) -> Left
     } = room;
     let mut messages = messages;
     for place in 0..many {
-        messages.push_reserved(draw(words, seat, &lane, taken + place));
+        messages.push_reserved(take_out(words, seat, &lane, taken + place));
     }
     Left {
         sender,
@@ -136,7 +136,7 @@ pub(crate) fn part_all(
 }
 
 /// Draws the messages of each lane for which there is room, in the order of `rooms`. `left` has room for as many lanes.
-pub(crate) fn draw_lanes(
+pub(crate) fn take_lanes(
     words: &SharedTable,
     leavers: &mut [Leaver],
     rooms: Vec<Room>,
@@ -152,6 +152,6 @@ pub(crate) fn draw_lanes(
 {
     for room in rooms {
         let leaver = &mut leavers[room.receiver.place()];
-        left.push_reserved(draw_all(words, &mut leaver.seat, room));
+        left.push_reserved(take_all(words, &mut leaver.seat, room));
     }
 }

@@ -145,9 +145,12 @@ pub(crate) fn receive_one(
         give_back_full(words, seat, lane);
         return Err(TakeError::LineFull);
     }
-    let Ok(arrival) = take_next(words, seat, lane, recorder, end, from, region) else {
-        give_back_full(words, seat, lane);
-        return Err(TakeError::Memory);
+    let arrival = match take_next(words, seat, lane, recorder, end, from, region) {
+        Ok(arrival) => arrival,
+        Err(AllocError) => {
+            give_back_full(words, seat, lane);
+            return Err(TakeError::Memory);
+        }
     };
     free(words, seat, lane, end.taken, region);
     Ok(arrival)

@@ -14,7 +14,7 @@ use crate::receiving::take_next;
 use board_table::{Lane, Seat, SharedTable, free, give_back_full};
 use chart::{InstanceNo, MAX_EVENTS};
 use line_recorder::Recorder;
-use std::alloc::Global;
+use std::alloc::{AllocError, Global};
 
 /// Receives the first of the found messages, at most `max`, in the coregion `region`. It also returns why it received
 /// no more. The slots of these messages are freed at once.
@@ -107,11 +107,12 @@ fn take_several(
         if recorder.line().len() >= MAX_EVENTS {
             return Stop::Refused(TakeError::LineFull);
         }
-        if arrivals.reserve(1).is_err() {
+        if let Err(AllocError) = arrivals.reserve(1) {
             return Stop::Refused(TakeError::Memory);
         }
-        let Ok(arrival) = take_next(words, seat, lane, recorder, end, from, region) else {
-            return Stop::Refused(TakeError::Memory);
+        let arrival = match take_next(words, seat, lane, recorder, end, from, region) {
+            Ok(arrival) => arrival,
+            Err(AllocError) => return Stop::Refused(TakeError::Memory),
         };
         arrivals.push_reserved(arrival);
     }

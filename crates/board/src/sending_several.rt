@@ -149,9 +149,12 @@ pub(crate) fn send_several(
     if !claim_slots(words, seat, lane, end, capacity, messages.len()) {
         return Err((messages, SendError::Full));
     }
-    let Ok(prepared) = prepare(recorder, &end.base, messages.as_slice()) else {
-        give_back_vacant(words, seat, lane);
-        return Err((messages, SendError::Memory));
+    let prepared = match prepare(recorder, &end.base, messages.as_slice()) {
+        Ok(prepared) => prepared,
+        Err(AllocError) => {
+            give_back_vacant(words, seat, lane);
+            return Err((messages, SendError::Memory));
+        }
     };
     let Prepared { first, sents } = prepared;
     end.base.apply(&first);

@@ -5,7 +5,7 @@ ghost use Rattle.board.specs.Parked.{IsAtBoard, AreAtBoard};
 use crate::parked::Parked;
 use crate::post::Post;
 use board_table::SharedTable;
-use std::alloc::Global;
+use std::alloc::{AllocError, Global};
 
 impl Parked {
     /// The same post, with the words of its own board.
@@ -35,13 +35,14 @@ pub fn wake_all<'a>(
     alloc: Global,
     words: &'a SharedTable,
     posts: Vec<Parked>,
-) -> Result<Vec<Post<'a>>, Vec<Parked>>
+) -> Result<Vec<Post<'a>>, (Vec<Parked>, AllocError)>
     requires board { AreAtBoard words.now.key words.now.table_id posts.items }
     ensures ok { IfOk result (λ awake. awake.items ≡ posts.items) }
-    ensures err { IfErr result (λ back. back.items ≡ posts.items) }
+    ensures err { IfErr result (λ back. back.0.items ≡ posts.items) }
 {
-    let Ok(mut awake) = Vec::with_capacity(alloc, posts.len()) else {
-        return Err(posts);
+    let mut awake = match Vec::with_capacity(alloc, posts.len()) {
+        Ok(awake) => awake,
+        Err(error) => return Err((posts, error)),
     };
     for post in posts {
         awake.push_reserved(post.wake(words));

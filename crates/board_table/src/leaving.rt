@@ -26,7 +26,7 @@ pub fn leave(words: &SharedTable, seat: &mut Seat)
 
 /// Takes the message out of the first slot that went with the seat. It is the slot of the lane's message before which
 /// `count` were sent. The slot is then the last of the slots.
-pub fn draw(words: &SharedTable, seat: &mut Seat, lane: &Lane, count: u64) -> Message
+pub fn take_out(words: &SharedTable, seat: &mut Seat, lane: &Lane, count: u64) -> Message
     requires table { seat.old.table_id ≡ words.now.table_id }
     requires first { (x : Packet)
         × (seat.old.me.1 ≡ (

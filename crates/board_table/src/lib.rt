@@ -32,7 +32,7 @@ mod table;
 pub use filling::fill_next;
 pub use held::{Held, Hold};
 pub use lane::Lane;
-pub use leaving::{draw, leave};
+pub use leaving::{leave, take_out};
 pub use meeting::{meet_note, note};
 pub use packet::Packet;
 pub use receiver::{find_again, find_anew, free, give_back_full, look, look_there, take_recorded};

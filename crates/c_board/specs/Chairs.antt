@@ -75,7 +75,7 @@ pub record AreTaken (old : List (Option Kept)) (chairs : List Chair) (posts : Li
 
 -- The first of these that applies keeps posts from being taken out of handles (docs/reference/refusals.md): that there
 -- are no handles, F15; that one of them keeps no post, which is a misuse; memory for the lists, F6; and that the posts
--- are of two boards, as far as that can be told, which is a misuse too.
+-- are of two boards, as far as that is known, which is a misuse too.
 abbrev pub IsFirstOfTaking : List (Option Kept) → Refusal → Type 0
 IsFirstOfTaking old why.NotAllPosts = old ≡ []
 IsFirstOfTaking old why.Misuse = IsOneNoPost old

@@ -10,25 +10,25 @@ use Rattle.c_board.specs.PostStates.{PostStateView, Keeps}
 use Rattle.c_board.specs.Sending.{IsNoInstance, IsNoPost}
 
 -- what closing a lane answers for a seated post: the same as the post's own call
-abbrev pub SeatCloses : PostStateView → ℕ → Result (Unit {0}) Refusal → PostStateView → Type 0
-SeatCloses old to (Ok done) new = Keeps old new × Sound old.post new.post × IsClosed old.post to new.post
-SeatCloses old to (Err why.NoInstance) new = (new ≡ old) × IsNoInstance to
-SeatCloses old to (Err (why.Closing error)) new = (new ≡ old) × IsUnclosed old.post to error
-SeatCloses old to (Err why.Misuse) new = ⊥
-SeatCloses old to (Err (why.Naming error)) new = ⊥
-SeatCloses old to (Err why.BodyTooLong) new = ⊥
-SeatCloses old to (Err why.Memory) new = ⊥
-SeatCloses old to (Err why.NoEvent) new = ⊥
-SeatCloses old to (Err why.NotAllPosts) new = ⊥
-SeatCloses old to (Err why.OtherBoard) new = ⊥
-SeatCloses old to (Err why.NameTwice) new = ⊥
-SeatCloses old to (Err (why.Opening error)) new = ⊥
-SeatCloses old to (Err (why.Sending error)) new = ⊥
-SeatCloses old to (Err (why.Taking error)) new = ⊥
-SeatCloses old to (Err (why.Region error)) new = ⊥
+abbrev pub PostCloses : PostStateView → ℕ → Result (Unit {0}) Refusal → PostStateView → Type 0
+PostCloses old to (Ok done) new = Keeps old new × Sound old.post new.post × IsClosed old.post to new.post
+PostCloses old to (Err why.NoInstance) new = (new ≡ old) × IsNoInstance to
+PostCloses old to (Err (why.Closing error)) new = (new ≡ old) × IsUnclosed old.post to error
+PostCloses old to (Err why.Misuse) new = ⊥
+PostCloses old to (Err (why.Naming error)) new = ⊥
+PostCloses old to (Err why.BodyTooLong) new = ⊥
+PostCloses old to (Err why.Memory) new = ⊥
+PostCloses old to (Err why.NoEvent) new = ⊥
+PostCloses old to (Err why.NotAllPosts) new = ⊥
+PostCloses old to (Err why.OtherBoard) new = ⊥
+PostCloses old to (Err why.NameTwice) new = ⊥
+PostCloses old to (Err (why.Opening error)) new = ⊥
+PostCloses old to (Err (why.Sending error)) new = ⊥
+PostCloses old to (Err (why.Taking error)) new = ⊥
+PostCloses old to (Err (why.Region error)) new = ⊥
 
 abbrev pub KeptCloses : Kept → ℕ → Result (Unit {0}) Refusal → Kept → Type 0
-KeptCloses (Post old) to result new = (state : PostStateView) × (new ≡ Post state) × SeatCloses old to result state
+KeptCloses (Post old) to result new = (state : PostStateView) × (new ≡ Post state) × PostCloses old to result state
 KeptCloses (Board it) to result new = (new ≡ Board it) × (result ≡ Err why.Misuse)
 KeptCloses Away to result new = (new ≡ Away) × (result ≡ Err why.Misuse)
 

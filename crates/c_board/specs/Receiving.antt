@@ -56,62 +56,62 @@ pub record IsOutput (arrival : Arrival) (arrived : Arrived) (new : PostStateView
   pub last : new.last ≡ arrival.from
 
 -- what a receive answers for a seated post: the same as the post's own receive
-abbrev pub SeatTakes : PostStateView → ℕ → Result Found Refusal → PostStateView → Type 0
-SeatTakes old from (Ok (Message arrived)) new = (arrival : Arrival) × IsOutput arrival arrived new
+abbrev pub PostTakes : PostStateView → ℕ → Result Found Refusal → PostStateView → Type 0
+PostTakes old from (Ok (Message arrived)) new = (arrival : Arrival) × IsOutput arrival arrived new
     × Sound old.post new.post × IsGot old.post from arrival new.post
-SeatTakes old from (Ok Nothing) new = Keeps old new × Sound old.post new.post × Stays old.post new.post
+PostTakes old from (Ok Nothing) new = Keeps old new × Sound old.post new.post × Stays old.post new.post
     × IsFoundEmpty old.post from false new.post
-SeatTakes old from (Ok Ended) new = Keeps old new × Sound old.post new.post × Stays old.post new.post
+PostTakes old from (Ok Ended) new = Keeps old new × Sound old.post new.post × Stays old.post new.post
     × IsFoundEmpty old.post from true new.post
-SeatTakes old from (Err why.NoInstance) new = (new ≡ old) × IsNoInstance from
-SeatTakes old from (Err (why.Taking error)) new = Keeps old new × Sound old.post new.post × Stays old.post new.post
+PostTakes old from (Err why.NoInstance) new = (new ≡ old) × IsNoInstance from
+PostTakes old from (Err (why.Taking error)) new = Keeps old new × Sound old.post new.post × Stays old.post new.post
     × IsUntaken old.post from error new.post
-SeatTakes old from (Err why.Misuse) new = ⊥
-SeatTakes old from (Err (why.Naming error)) new = ⊥
-SeatTakes old from (Err why.BodyTooLong) new = ⊥
-SeatTakes old from (Err why.Memory) new = ⊥
-SeatTakes old from (Err why.NoEvent) new = ⊥
-SeatTakes old from (Err why.NotAllPosts) new = ⊥
-SeatTakes old from (Err why.OtherBoard) new = ⊥
-SeatTakes old from (Err why.NameTwice) new = ⊥
-SeatTakes old from (Err (why.Opening error)) new = ⊥
-SeatTakes old from (Err (why.Sending error)) new = ⊥
-SeatTakes old from (Err (why.Closing error)) new = ⊥
-SeatTakes old from (Err (why.Region error)) new = ⊥
+PostTakes old from (Err why.Misuse) new = ⊥
+PostTakes old from (Err (why.Naming error)) new = ⊥
+PostTakes old from (Err why.BodyTooLong) new = ⊥
+PostTakes old from (Err why.Memory) new = ⊥
+PostTakes old from (Err why.NoEvent) new = ⊥
+PostTakes old from (Err why.NotAllPosts) new = ⊥
+PostTakes old from (Err why.OtherBoard) new = ⊥
+PostTakes old from (Err why.NameTwice) new = ⊥
+PostTakes old from (Err (why.Opening error)) new = ⊥
+PostTakes old from (Err (why.Sending error)) new = ⊥
+PostTakes old from (Err (why.Closing error)) new = ⊥
+PostTakes old from (Err (why.Region error)) new = ⊥
 
 -- what a receive from any instance answers: the same as that of a mailbox which begins after the instance from which
 -- the post received last
-abbrev pub SeatTakesAny : PostStateView → Result Found Refusal → PostStateView → Type 0
-SeatTakesAny old (Ok (Message arrived)) new = (arrival : Arrival) × IsOutput arrival arrived new
+abbrev pub PostTakesAny : PostStateView → Result Found Refusal → PostStateView → Type 0
+PostTakesAny old (Ok (Message arrived)) new = (arrival : Arrival) × IsOutput arrival arrived new
     × Sound old.post new.post × TakesAny old.post old.last (Ok (taken.Got arrival)) new.post
-SeatTakesAny old (Ok Nothing) new = Keeps old new × Sound old.post new.post
+PostTakesAny old (Ok Nothing) new = Keeps old new × Sound old.post new.post
     × TakesAny old.post old.last (Ok taken.Nothing) new.post
-SeatTakesAny old (Ok Ended) new = Keeps old new × Sound old.post new.post
+PostTakesAny old (Ok Ended) new = Keeps old new × Sound old.post new.post
     × TakesAny old.post old.last (Ok taken.Ended) new.post
-SeatTakesAny old (Err (why.Taking error)) new = Keeps old new × Sound old.post new.post
+PostTakesAny old (Err (why.Taking error)) new = Keeps old new × Sound old.post new.post
     × TakesAny old.post old.last (Err error) new.post
-SeatTakesAny old (Err why.NoInstance) new = ⊥
-SeatTakesAny old (Err why.Misuse) new = ⊥
-SeatTakesAny old (Err (why.Naming error)) new = ⊥
-SeatTakesAny old (Err why.BodyTooLong) new = ⊥
-SeatTakesAny old (Err why.Memory) new = ⊥
-SeatTakesAny old (Err why.NoEvent) new = ⊥
-SeatTakesAny old (Err why.NotAllPosts) new = ⊥
-SeatTakesAny old (Err why.OtherBoard) new = ⊥
-SeatTakesAny old (Err why.NameTwice) new = ⊥
-SeatTakesAny old (Err (why.Opening error)) new = ⊥
-SeatTakesAny old (Err (why.Sending error)) new = ⊥
-SeatTakesAny old (Err (why.Closing error)) new = ⊥
-SeatTakesAny old (Err (why.Region error)) new = ⊥
+PostTakesAny old (Err why.NoInstance) new = ⊥
+PostTakesAny old (Err why.Misuse) new = ⊥
+PostTakesAny old (Err (why.Naming error)) new = ⊥
+PostTakesAny old (Err why.BodyTooLong) new = ⊥
+PostTakesAny old (Err why.Memory) new = ⊥
+PostTakesAny old (Err why.NoEvent) new = ⊥
+PostTakesAny old (Err why.NotAllPosts) new = ⊥
+PostTakesAny old (Err why.OtherBoard) new = ⊥
+PostTakesAny old (Err why.NameTwice) new = ⊥
+PostTakesAny old (Err (why.Opening error)) new = ⊥
+PostTakesAny old (Err (why.Sending error)) new = ⊥
+PostTakesAny old (Err (why.Closing error)) new = ⊥
+PostTakesAny old (Err (why.Region error)) new = ⊥
 
 -- the same for what a handle keeps
 abbrev pub KeptTakes : Kept → ℕ → Result Found Refusal → Kept → Type 0
-KeptTakes (Post old) from result new = (state : PostStateView) × (new ≡ Post state) × SeatTakes old from result state
+KeptTakes (Post old) from result new = (state : PostStateView) × (new ≡ Post state) × PostTakes old from result state
 KeptTakes (Board it) from result new = (new ≡ Board it) × (result ≡ Err why.Misuse)
 KeptTakes Away from result new = (new ≡ Away) × (result ≡ Err why.Misuse)
 
 abbrev pub KeptTakesAny : Kept → Result Found Refusal → Kept → Type 0
-KeptTakesAny (Post old) result new = (state : PostStateView) × (new ≡ Post state) × SeatTakesAny old result state
+KeptTakesAny (Post old) result new = (state : PostStateView) × (new ≡ Post state) × PostTakesAny old result state
 KeptTakesAny (Board it) result new = (new ≡ Board it) × (result ≡ Err why.Misuse)
 KeptTakesAny Away result new = (new ≡ Away) × (result ≡ Err why.Misuse)
 

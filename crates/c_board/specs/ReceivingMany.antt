@@ -26,7 +26,7 @@ pub record AreOutput (arrivals : List Arrival) (from : ℕ) (room : List Arrived
   pub last : new.last ≡ from
 
 -- The first of these that applies refuses a receive of several messages over a seated post (docs/reference/refusals.md):
--- that no instance has the number, F14; that there is no room to tell of one, which is a misuse; and the first of what the
+-- that no instance has the number, F14; that there is no room for one, which is a misuse; and the first of what the
 -- post's own call refuses.
 abbrev pub IsFirstOfTakeMany : PostStateView → ℕ → ℕ → Refusal → PostStateView → Type 0
 IsFirstOfTakeMany old from most why.NoInstance new = (new ≡ old) × IsNoInstance from
@@ -37,21 +37,21 @@ IsFirstOfTakeMany old from most _ new = ⊥
 
 -- what a receive of several messages answers for a seated post: the same as the post's own call, for at most as many as
 -- there are places for descriptions
-abbrev pub SeatTakesMany : PostStateView → ℕ → List Arrived → Result FoundMany Refusal → PostStateView → List Arrived → Type 0
-SeatTakesMany old from room (Ok (Messages count stop)) new output = (arrivals : Vec Arrival)
+abbrev pub PostTakesMany : PostStateView → ℕ → List Arrived → Result FoundMany Refusal → PostStateView → List Arrived → Type 0
+PostTakesMany old from room (Ok (Messages count stop)) new output = (arrivals : Vec Arrival)
     × AreOutput arrivals.items from room count new output × Sound old.post new.post
     × TakesMany old.post from (length room) (Ok (taken.Got arrivals stop)) new.post
-SeatTakesMany old from room (Ok Nothing) new output = Keeps old new × (output ≡ room) × Sound old.post new.post
+PostTakesMany old from room (Ok Nothing) new output = Keeps old new × (output ≡ room) × Sound old.post new.post
     × TakesMany old.post from (length room) (Ok taken.Nothing) new.post
-SeatTakesMany old from room (Ok Ended) new output = Keeps old new × (output ≡ room) × Sound old.post new.post
+PostTakesMany old from room (Ok Ended) new output = Keeps old new × (output ≡ room) × Sound old.post new.post
     × TakesMany old.post from (length room) (Ok taken.Ended) new.post
-SeatTakesMany old from room (Err refusal) new output = (output ≡ room)
+PostTakesMany old from room (Err refusal) new output = (output ≡ room)
     × IsFirstOfTakeMany old from (length room) refusal new
 
 -- the same for what a handle keeps
 abbrev pub KeptTakesMany : Kept → ℕ → List Arrived → Result FoundMany Refusal → Kept → List Arrived → Type 0
 KeptTakesMany (Post old) from room result new output = (state : PostStateView) × (new ≡ Post state)
-    × SeatTakesMany old from room result state output
+    × PostTakesMany old from room result state output
 KeptTakesMany (Board it) from room result new output = (new ≡ Board it) × (output ≡ room) × (result ≡ Err why.Misuse)
 KeptTakesMany Away from room result new output = (new ≡ Away) × (output ≡ room) × (result ≡ Err why.Misuse)
 

@@ -11,52 +11,52 @@ use Rattle.c_board.specs.PostStates.{PostStateView}
 use Rattle.c_board.specs.Sending.{IsNoPost}
 
 -- opening a coregion: none was open, and a new one is open now; or one is open already
-abbrev pub SeatOpens : PostStateView → Result (Unit {0}) Refusal → PostStateView → Type 0
-SeatOpens old (Ok done) new = (old.post.region ≡ 0)
+abbrev pub PostOpens : PostStateView → Result (Unit {0}) Refusal → PostStateView → Type 0
+PostOpens old (Ok done) new = (old.post.region ≡ 0)
     × (new ≡ record old { post = record old.post { region = greatest_region (line_of old.post) + 1 } })
-SeatOpens old (Err (why.Region CoregionOpen)) new = (0 < old.post.region) × (new ≡ old)
-SeatOpens old (Err (why.Region CoregionNotOpen)) new = ⊥
-SeatOpens old (Err why.Misuse) new = ⊥
-SeatOpens old (Err (why.Naming error)) new = ⊥
-SeatOpens old (Err why.BodyTooLong) new = ⊥
-SeatOpens old (Err why.Memory) new = ⊥
-SeatOpens old (Err why.NoInstance) new = ⊥
-SeatOpens old (Err why.NoEvent) new = ⊥
-SeatOpens old (Err why.NotAllPosts) new = ⊥
-SeatOpens old (Err why.OtherBoard) new = ⊥
-SeatOpens old (Err why.NameTwice) new = ⊥
-SeatOpens old (Err (why.Opening error)) new = ⊥
-SeatOpens old (Err (why.Sending error)) new = ⊥
-SeatOpens old (Err (why.Taking error)) new = ⊥
-SeatOpens old (Err (why.Closing error)) new = ⊥
+PostOpens old (Err (why.Region CoregionOpen)) new = (0 < old.post.region) × (new ≡ old)
+PostOpens old (Err (why.Region CoregionNotOpen)) new = ⊥
+PostOpens old (Err why.Misuse) new = ⊥
+PostOpens old (Err (why.Naming error)) new = ⊥
+PostOpens old (Err why.BodyTooLong) new = ⊥
+PostOpens old (Err why.Memory) new = ⊥
+PostOpens old (Err why.NoInstance) new = ⊥
+PostOpens old (Err why.NoEvent) new = ⊥
+PostOpens old (Err why.NotAllPosts) new = ⊥
+PostOpens old (Err why.OtherBoard) new = ⊥
+PostOpens old (Err why.NameTwice) new = ⊥
+PostOpens old (Err (why.Opening error)) new = ⊥
+PostOpens old (Err (why.Sending error)) new = ⊥
+PostOpens old (Err (why.Taking error)) new = ⊥
+PostOpens old (Err (why.Closing error)) new = ⊥
 
 -- closing it: one was open, and none is open now; or none is open
-abbrev pub SeatShuts : PostStateView → Result (Unit {0}) Refusal → PostStateView → Type 0
-SeatShuts old (Ok done) new = (0 < old.post.region) × (new ≡ record old { post = record old.post { region = 0 } })
-SeatShuts old (Err (why.Region CoregionNotOpen)) new = (old.post.region ≡ 0) × (new ≡ old)
-SeatShuts old (Err (why.Region CoregionOpen)) new = ⊥
-SeatShuts old (Err why.Misuse) new = ⊥
-SeatShuts old (Err (why.Naming error)) new = ⊥
-SeatShuts old (Err why.BodyTooLong) new = ⊥
-SeatShuts old (Err why.Memory) new = ⊥
-SeatShuts old (Err why.NoInstance) new = ⊥
-SeatShuts old (Err why.NoEvent) new = ⊥
-SeatShuts old (Err why.NotAllPosts) new = ⊥
-SeatShuts old (Err why.OtherBoard) new = ⊥
-SeatShuts old (Err why.NameTwice) new = ⊥
-SeatShuts old (Err (why.Opening error)) new = ⊥
-SeatShuts old (Err (why.Sending error)) new = ⊥
-SeatShuts old (Err (why.Taking error)) new = ⊥
-SeatShuts old (Err (why.Closing error)) new = ⊥
+abbrev pub PostShuts : PostStateView → Result (Unit {0}) Refusal → PostStateView → Type 0
+PostShuts old (Ok done) new = (0 < old.post.region) × (new ≡ record old { post = record old.post { region = 0 } })
+PostShuts old (Err (why.Region CoregionNotOpen)) new = (old.post.region ≡ 0) × (new ≡ old)
+PostShuts old (Err (why.Region CoregionOpen)) new = ⊥
+PostShuts old (Err why.Misuse) new = ⊥
+PostShuts old (Err (why.Naming error)) new = ⊥
+PostShuts old (Err why.BodyTooLong) new = ⊥
+PostShuts old (Err why.Memory) new = ⊥
+PostShuts old (Err why.NoInstance) new = ⊥
+PostShuts old (Err why.NoEvent) new = ⊥
+PostShuts old (Err why.NotAllPosts) new = ⊥
+PostShuts old (Err why.OtherBoard) new = ⊥
+PostShuts old (Err why.NameTwice) new = ⊥
+PostShuts old (Err (why.Opening error)) new = ⊥
+PostShuts old (Err (why.Sending error)) new = ⊥
+PostShuts old (Err (why.Taking error)) new = ⊥
+PostShuts old (Err (why.Closing error)) new = ⊥
 
 -- the same for what a handle keeps
 abbrev pub KeptOpens : Kept → Result (Unit {0}) Refusal → Kept → Type 0
-KeptOpens (Post old) result new = (state : PostStateView) × (new ≡ Post state) × SeatOpens old result state
+KeptOpens (Post old) result new = (state : PostStateView) × (new ≡ Post state) × PostOpens old result state
 KeptOpens (Board it) result new = (new ≡ Board it) × (result ≡ Err why.Misuse)
 KeptOpens Away result new = (new ≡ Away) × (result ≡ Err why.Misuse)
 
 abbrev pub KeptShuts : Kept → Result (Unit {0}) Refusal → Kept → Type 0
-KeptShuts (Post old) result new = (state : PostStateView) × (new ≡ Post state) × SeatShuts old result state
+KeptShuts (Post old) result new = (state : PostStateView) × (new ≡ Post state) × PostShuts old result state
 KeptShuts (Board it) result new = (new ≡ Board it) × (result ≡ Err why.Misuse)
 KeptShuts Away result new = (new ≡ Away) × (result ≡ Err why.Misuse)
 

@@ -9,15 +9,15 @@ use Rattle.c_board.specs.PostStates.{PostStateView}
 use Rattle.c_board.specs.Sending.{IsNoPost}
 
 -- there is room for as many events, but for no more than a line has; or nothing has changed for lack of memory
-abbrev pub SeatReserves : PostStateView → ℕ → Result (Unit {0}) Refusal → PostStateView → Type 0
-SeatReserves old events (Ok done) new = new ≡ record old {
+abbrev pub PostReserves : PostStateView → ℕ → Result (Unit {0}) Refusal → PostStateView → Type 0
+PostReserves old events (Ok done) new = new ≡ record old {
   post = record old.post { room = max old.post.room (min events MAX_EVENTS) };
 }
-SeatReserves old events (Err why.Memory) new = new ≡ old
-SeatReserves old events (Err _) new = ⊥
+PostReserves old events (Err why.Memory) new = new ≡ old
+PostReserves old events (Err _) new = ⊥
 
 abbrev pub KeptReserves : Kept → ℕ → Result (Unit {0}) Refusal → Kept → Type 0
-KeptReserves (Post old) events result new = (state : PostStateView) × (new ≡ Post state) × SeatReserves old events result state
+KeptReserves (Post old) events result new = (state : PostStateView) × (new ≡ Post state) × PostReserves old events result state
 KeptReserves (Board it) events result new = (new ≡ Board it) × (result ≡ Err why.Misuse)
 KeptReserves Away events result new = (new ≡ Away) × (result ≡ Err why.Misuse)
 

@@ -43,10 +43,10 @@ IsFirstOfSend old to name body (why.Sending error) new = MayBeInstance to × IsM
 IsFirstOfSend old to name body refusal new = (new ≡ old) × MayBeInstance to × IsFirstOfMessage name body refusal
 
 -- what a send answers for a seated post: the same as the post's own send, if the bytes make a message
-abbrev pub SeatSends : PostStateView → ℕ → List ℕ → List ℕ → Result EventNo Refusal → PostStateView → Type 0
-SeatSends old to name body (Ok event) new = IsMessage name body × Keeps old new × Sound old.post new.post
+abbrev pub PostSends : PostStateView → ℕ → List ℕ → List ℕ → Result EventNo Refusal → PostStateView → Type 0
+PostSends old to name body (Ok event) new = IsMessage name body × Keeps old new × Sound old.post new.post
     × IsSent old.post to (record { name = name; body = body }) (record { event = event }) new.post
-SeatSends old to name body (Err refusal) new = IsFirstOfSend old to name body refusal new
+PostSends old to name body (Err refusal) new = IsFirstOfSend old to name body refusal new
 
 -- a call that needs a post finds none in the handle, and changes nothing
 abbrev pub IsNoPost : {A : Type 0} → Option Kept → Result A Refusal → Option Kept → Type 0
@@ -55,7 +55,7 @@ IsNoPost old result new = (new ≡ old) × (result ≡ Err why.Misuse)
 -- what a send answers for what a handle keeps
 abbrev pub KeptSends : Kept → ℕ → List ℕ → List ℕ → Result EventNo Refusal → Kept → Type 0
 KeptSends (Post old) to name body result new = (state : PostStateView) × (new ≡ Post state)
-    × SeatSends old to name body result state
+    × PostSends old to name body result state
 KeptSends (Board it) to name body result new = (new ≡ Board it) × (result ≡ Err why.Misuse)
 KeptSends Away to name body result new = (new ≡ Away) × (result ≡ Err why.Misuse)
 

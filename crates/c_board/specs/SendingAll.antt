@@ -53,13 +53,13 @@ IsFirstOfSendAll old to all (why.Sending error) new = MayBeInstance to × AreMes
 IsFirstOfSendAll old to all refusal new = (new ≡ old) × MayBeInstance to × ReadsMessages all (Err refusal)
 
 -- what a send of these messages answers for a seated post: the same as the post's own call
-abbrev pub SeatSendsAll : PostStateView → ℕ → List Content → Result ℕ Refusal → PostStateView → Type 0
-SeatSendsAll old to all (Ok event) new = AreMessages all × Keeps old new × Sound old.post new.post
+abbrev pub PostSendsAll : PostStateView → ℕ → List Content → Result ℕ Refusal → PostStateView → Type 0
+PostSendsAll old to all (Ok event) new = AreMessages all × Keeps old new × Sound old.post new.post
     × (sents : List Sent) × AreSent old.post to all sents new.post × (event ≡ first_event sents)
-SeatSendsAll old to all (Err refusal) new = IsFirstOfSendAll old to all refusal new
+PostSendsAll old to all (Err refusal) new = IsFirstOfSendAll old to all refusal new
 
 abbrev pub KeptSendsAll : Kept → ℕ → List Content → Result ℕ Refusal → Kept → Type 0
-KeptSendsAll (Post old) to all result new = (state : PostStateView) × (new ≡ Post state) × SeatSendsAll old to all result state
+KeptSendsAll (Post old) to all result new = (state : PostStateView) × (new ≡ Post state) × PostSendsAll old to all result state
 KeptSendsAll (Board it) to all result new = (new ≡ Board it) × (result ≡ Err why.Misuse)
 KeptSendsAll Away to all result new = (new ≡ Away) × (result ≡ Err why.Misuse)
 

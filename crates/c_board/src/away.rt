@@ -7,7 +7,7 @@ ghost use Rattle.c_board.specs.Meeting.{MeetsParked};
 
 use crate::refusal::Refusal;
 use board::{GatherCause, Gathered, Parked, Post, SharedTable, gather, meet_all, wake_all};
-use std::alloc::Global;
+use std::alloc::{AllocError, Global};
 
 /// Posts that come back, and the reason.
 #[derive(Drop)]
@@ -48,13 +48,23 @@ pub(crate) fn gather_parked(
     requires board { AreOfOneBoard posts.items }
     ensures { GathersParked posts.items result }
 {
-    let refusal = Refusal::Memory;
-    let Ok(mut parked) = Vec::with_capacity(alloc, posts.len()) else {
-        return Err(Returned { posts, refusal });
+    let mut parked = match Vec::with_capacity(alloc, posts.len()) {
+        Ok(parked) => parked,
+        Err(AllocError) => {
+            return Err(Returned {
+                posts,
+                refusal: Refusal::Memory,
+            });
+        }
     };
     let awake = match wake_all(alloc, words, posts) {
         Ok(awake) => awake,
-        Err(posts) => return Err(Returned { posts, refusal }),
+        Err((posts, AllocError)) => {
+            return Err(Returned {
+                posts,
+                refusal: Refusal::Memory,
+            });
+        }
     };
     match gather(alloc, awake) {
         Ok(gathered) => Ok(gathered),
@@ -81,15 +91,18 @@ pub(crate) fn meet_parked(alloc: Global, words: &SharedTable, posts: Vec<Parked>
     requires board { AreOfOneBoard posts.items }
     ensures { MeetsParked posts.items result.answer result.posts.items }
 {
-    let Ok(mut parked) = Vec::with_capacity(alloc, posts.len()) else {
-        return Met {
-            posts,
-            answer: Err(Refusal::Memory),
-        };
+    let mut parked = match Vec::with_capacity(alloc, posts.len()) {
+        Ok(parked) => parked,
+        Err(AllocError) => {
+            return Met {
+                posts,
+                answer: Err(Refusal::Memory),
+            };
+        }
     };
     let mut awake = match wake_all(alloc, words, posts) {
         Ok(awake) => awake,
-        Err(posts) => {
+        Err((posts, AllocError)) => {
             return Met {
                 posts,
                 answer: Err(Refusal::Memory),

@@ -1,6 +1,7 @@
 //! Carries over what a board left to posts that borrow nothing.
 ghost use Rattle.std.specs.Prelude.{◌≡◌, List, map};
 ghost use Rattle.board.specs.declared.gathering.ClosedLane.{ClosedLane};
+ghost use Rattle.board.specs.declared.long_runs.carrying.CarryCause.TheVariants.{Memory};
 ghost use Rattle.board.specs.Parked.{AreAtBoard};
 ghost use Rattle.board.specs.Gathering.{left_view, closed_view};
 ghost use Rattle.board.specs.Meeting.{AreOfOneBoard};
@@ -11,7 +12,7 @@ use crate::away::park_into;
 use crate::refusal::Refusal;
 use board::long_runs::{Carried, CarryCause, CarryError, carry_over};
 use board::{ClosedLane, Left, Parked, SharedTable, wake_all};
-use std::alloc::Global;
+use std::alloc::{AllocError, Global};
 
 /// Posts that came back, and the answer of carrying over.
 #[derive(Drop)]
@@ -31,16 +32,14 @@ pub(crate) fn refusal_for(cause: CarryCause) -> Refusal
 }
 
 /// Nothing is carried over, for lack of memory.
-fn unborne(posts: Vec<Parked>, left: Vec<Left>) -> Borne
+fn unborne(posts: Vec<Parked>, left: Vec<Left>, cause: CarryCause) -> Borne
+    requires { cause ≡ Memory }
     ensures posts { result.posts.items ≡ posts.items }
     ensures left { (closed : List ClosedLane) → CarriesParked left.items closed posts.items result.answer posts.items }
 {
     Borne {
         posts,
-        answer: Err(CarryError {
-            left,
-            cause: CarryCause::Memory,
-        }),
+        answer: Err(CarryError { left, cause }),
     }
 }
 
@@ -58,12 +57,13 @@ pub(crate) fn bear(
     requires may { MayAllCarry (map left_view left.items) (map closed_view closed.now) posts.items }
     ensures { CarriesParked left.items closed.now posts.items result.answer result.posts.items }
 {
-    let Ok(mut parked) = Vec::with_capacity(alloc, posts.len()) else {
-        return unborne(posts, left);
+    let mut parked = match Vec::with_capacity(alloc, posts.len()) {
+        Ok(parked) => parked,
+        Err(AllocError) => return unborne(posts, left, CarryCause::Memory),
     };
     let mut awake = match wake_all(alloc, words, posts) {
         Ok(awake) => awake,
-        Err(posts) => return unborne(posts, left),
+        Err((posts, AllocError)) => return unborne(posts, left, CarryCause::Memory),
     };
     let answer = carry_over(alloc, &mut awake, left, closed);
     park_into(&mut parked, awake);

@@ -1,6 +1,6 @@
 //! Lanes closed over a handle.
 ghost use Rattle.std.specs.Prelude.{◌≡◌};
-ghost use Rattle.c_board.specs.Closing.{SeatCloses, KeptCloses, HandleCloses};
+ghost use Rattle.c_board.specs.Closing.{PostCloses, KeptCloses, HandleCloses};
 
 use crate::handle::Handle;
 use crate::kept::Kept;
@@ -12,7 +12,7 @@ use std::alloc::Global;
 impl PostState {
     /// Closes the lane to an instance.
     fn close(&mut self, to: u32) -> Result<(), Refusal>
-        ensures { SeatCloses self.old to result self.new }
+        ensures { PostCloses self.old to result self.new }
     {
         let Some(to) = InstanceNo::new(to as usize) else {
             return Err(Refusal::NoInstance);

@@ -12,7 +12,7 @@ use crate::kept::Kept;
 use crate::refusal::Refusal;
 use crate::taking::{put_posts, take_posts};
 use board::Gathered;
-use std::alloc::Global;
+use std::alloc::{AllocError, Global};
 
 /// This box, with the result of a gathering in it.
 fn board_in(kept: Box<Kept>, gathered: Gathered) -> Box<Kept>
@@ -36,8 +36,9 @@ pub fn gather(alloc: Global, handles: &mut [Handle], board: &mut Handle) -> Resu
     if !board.is_empty() {
         return Err(Refusal::Misuse);
     }
-    let Ok(kept) = Kept::away(alloc) else {
-        return Err(Refusal::Memory);
+    let kept = match Kept::away(alloc) {
+        Ok(kept) => kept,
+        Err(AllocError) => return Err(Refusal::Memory),
     };
     let Taken { chairs, posts } = take_posts(alloc, handles)?;
     match gather_parked(alloc, &(*chairs[0].table).shared, posts) {

@@ -12,7 +12,7 @@ use crate::naming::Known;
 use crate::post_state::PostState;
 use crate::refusal::Refusal;
 use board::{BoardTable, Parked, open_parked};
-use std::alloc::{AllocError, Global};
+use std::alloc::{AllocError, AllocFailed, Global};
 use std::sync::Arc;
 
 /// Whether none of these handles keeps anything.
@@ -82,12 +82,13 @@ fn new_posts(alloc: Global, instances: usize, capacity: usize) -> Result<Vec<Box
         Ok(made) => made,
         Err(error) => return Err(Refusal::Opening(error)),
     };
-    let Ok(table) = Arc::new(alloc, table) else {
-        return Err(Refusal::Memory);
+    let table = match Arc::new(alloc, table) {
+        Ok(table) => table,
+        Err(AllocFailed { .. }) => return Err(Refusal::Memory),
     };
     match boxed_posts(alloc, &table, posts) {
         Ok(boxes) => Ok(boxes),
-        Err(_) => Err(Refusal::Memory),
+        Err(AllocError) => Err(Refusal::Memory),
     }
 }
 

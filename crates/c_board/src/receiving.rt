@@ -1,6 +1,6 @@
 //! Receives over a handle.
 ghost use Rattle.std.specs.Prelude.{◌≡◌, ◌≤◌};
-ghost use Rattle.c_board.specs.Receiving.{arrived_of, SeatTakes, SeatTakesAny, KeptTakes, KeptTakesAny};
+ghost use Rattle.c_board.specs.Receiving.{arrived_of, PostTakes, PostTakesAny, KeptTakes, KeptTakesAny};
 ghost use Rattle.c_board.specs.Receiving.{HandleTakes, HandleTakesAny, IsLastNamed, found_with, arrived_after};
 
 use crate::any::any_after;
@@ -50,7 +50,7 @@ impl PostState {
     /// Receives the first message that waits on the lane from an instance, and describes it in `output`.
     #[inline(always)]
     fn receive(&mut self, from: u32, output: &mut Arrived) -> Result<Peek, Refusal>
-        ensures answer { SeatTakes self.old from (found_with result output.new) self.new }
+        ensures answer { PostTakes self.old from (found_with result output.new) self.new }
         ensures output { output.new ≡ arrived_after output.old (found_with result output.new) }
     {
         let Some(from) = InstanceNo::new(from as usize) else {
@@ -82,7 +82,7 @@ impl PostState {
     /// Receives the first message that it finds on the lanes from the other instances. It looks at them in cyclic
     /// order, after the instance from which it received last.
     fn any(&mut self) -> Result<Found, Refusal>
-        ensures { SeatTakesAny self.old result self.new }
+        ensures { PostTakesAny self.old result self.new }
     {
         let last = match self.last {
             Some(instance) => instance.number(),

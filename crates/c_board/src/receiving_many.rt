@@ -2,7 +2,7 @@
 ghost use Rattle.std.specs.Prelude.{◌≡◌, map};
 ghost use Rattle.c_board.specs.Copying.{put_over};
 ghost use Rattle.c_board.specs.Receiving.{arrived_of};
-ghost use Rattle.c_board.specs.ReceivingMany.{SeatTakesMany, KeptTakesMany, HandleTakesMany};
+ghost use Rattle.c_board.specs.ReceivingMany.{PostTakesMany, KeptTakesMany, HandleTakesMany};
 
 use crate::came::Came;
 use crate::found::{Arrived, FoundMany};
@@ -28,7 +28,7 @@ fn copy_each(arrivals: &[Arrival], output: &mut [Arrived])
 impl PostState {
     /// Receives the first messages that wait on the lane from an instance, at most as many as `output` has places.
     fn receive_up_to(&mut self, from: u32, output: &mut [Arrived]) -> Result<FoundMany, Refusal>
-        ensures { SeatTakesMany self.old from output.old result self.new output.new }
+        ensures { PostTakesMany self.old from output.old result self.new output.new }
     {
         let Some(from) = InstanceNo::new(from as usize) else {
             return Err(Refusal::NoInstance);

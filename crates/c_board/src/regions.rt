@@ -1,6 +1,6 @@
 //! Coregions over a handle.
 ghost use Rattle.std.specs.Prelude.{◌≡◌};
-ghost use Rattle.c_board.specs.Regions.{SeatOpens, SeatShuts, KeptOpens, KeptShuts, HandleOpens, HandleShuts};
+ghost use Rattle.c_board.specs.Regions.{PostOpens, PostShuts, KeptOpens, KeptShuts, HandleOpens, HandleShuts};
 
 use crate::handle::Handle;
 use crate::kept::Kept;
@@ -10,7 +10,7 @@ use std::alloc::Global;
 
 impl PostState {
     fn open_coregion(&mut self) -> Result<(), Refusal>
-        ensures { SeatOpens self.old result self.new }
+        ensures { PostOpens self.old result self.new }
     {
         match self.parked.open_coregion() {
             Ok(()) => Ok(()),
@@ -19,7 +19,7 @@ impl PostState {
     }
 
     fn close_coregion(&mut self) -> Result<(), Refusal>
-        ensures { SeatShuts self.old result self.new }
+        ensures { PostShuts self.old result self.new }
     {
         match self.parked.close_coregion() {
             Ok(()) => Ok(()),

@@ -1,22 +1,23 @@
 //! Room for the events of a post in a handle.
 ghost use Rattle.std.specs.Prelude.{◌≡◌};
-ghost use Rattle.c_board.specs.Reserving.{SeatReserves, KeptReserves, HandleReserves};
+ghost use Rattle.c_board.specs.Reserving.{PostReserves, KeptReserves, HandleReserves};
 
 use crate::handle::Handle;
 use crate::kept::Kept;
 use crate::post_state::PostState;
 use crate::refusal::Refusal;
+use board::Memory;
 use chart::MAX_EVENTS;
 use std::alloc::Global;
 
 impl PostState {
     fn reserve(&mut self, events: u32) -> Result<(), Refusal>
-        ensures { SeatReserves self.old events result self.new }
+        ensures { PostReserves self.old events result self.new }
     {
         let events = (events as usize).min(MAX_EVENTS);
         match self.parked.reserve(events) {
             Ok(()) => Ok(()),
-            Err(_) => Err(Refusal::Memory),
+            Err(Memory) => Err(Refusal::Memory),
         }
     }
 }

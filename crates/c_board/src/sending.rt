@@ -1,7 +1,7 @@
 //! Sends over a handle.
 ghost use Rattle.std.specs.Prelude.{◌≡◌, ◌<◌, ◌≤◌, length, IfOk, IfErr};
 ghost use Rattle.chart.specs.declared.message.TheConstants.{MAX_BODY};
-ghost use Rattle.c_board.specs.Sending.{SeatSends, KeptSends, HandleSends, MakesMessage};
+ghost use Rattle.c_board.specs.Sending.{PostSends, KeptSends, HandleSends, MakesMessage};
 
 use crate::handle::Handle;
 use crate::kept::Kept;
@@ -33,8 +33,9 @@ pub(crate) fn message_of(alloc: Global, name: &[u8], body: &[u8]) -> Result<Mess
     if body.len() > MAX_BODY {
         return Err(Refusal::BodyTooLong);
     }
-    let Ok(body) = copied(alloc, body) else {
-        return Err(Refusal::Memory);
+    let body = match copied(alloc, body) {
+        Ok(body) => body,
+        Err(AllocError) => return Err(Refusal::Memory),
     };
     match Message::new(name, body) {
         Ok(message) => Ok(message),
@@ -52,7 +53,7 @@ impl PostState {
         name: &[u8],
         body: &[u8],
     ) -> Result<EventNo, Refusal>
-        ensures { SeatSends self.old to name.now body.now result self.new }
+        ensures { PostSends self.old to name.now body.now result self.new }
     {
         let Some(to) = InstanceNo::new(to as usize) else {
             return Err(Refusal::NoInstance);
@@ -63,8 +64,9 @@ impl PostState {
         if body.len() > MAX_BODY {
             return Err(Refusal::BodyTooLong);
         }
-        let Ok(body) = copied(alloc, body) else {
-            return Err(Refusal::Memory);
+        let body = match copied(alloc, body) {
+            Ok(body) => body,
+            Err(AllocError) => return Err(Refusal::Memory),
         };
         let Ok(message) = Message::new(self.known.name, body) else {
             unreachable!()

@@ -1,6 +1,6 @@
 //! Several messages sent at once over a handle.
 ghost use Rattle.std.specs.Prelude.{◌≡◌};
-ghost use Rattle.c_board.specs.SendingAll.{contents_in, first_event, ReadsMessages, SeatSendsAll, KeptSendsAll};
+ghost use Rattle.c_board.specs.SendingAll.{contents_in, first_event, ReadsMessages, PostSendsAll, KeptSendsAll};
 ghost use Rattle.c_board.specs.SendingAll.{HandleSendsAll};
 
 use crate::found::MessageLengths;
@@ -12,7 +12,7 @@ use crate::sending::message_of;
 use crate::words::word_at;
 use board::Sent;
 use chart::{InstanceNo, Message};
-use std::alloc::Global;
+use std::alloc::{AllocError, Global};
 
 /// The messages whose names and bodies are one after another in these bytes, with these lengths. The first of F1 to F6
 /// that applies to a message refuses them.
@@ -23,8 +23,9 @@ fn messages_in(
 ) -> Result<Vec<Message>, Refusal>
     ensures { ReadsMessages (contents_in bytes.now lengths.now) result }
 {
-    let Ok(mut messages) = Vec::with_capacity(alloc, lengths.len()) else {
-        return Err(Refusal::Memory);
+    let mut messages = match Vec::with_capacity(alloc, lengths.len()) {
+        Ok(messages) => messages,
+        Err(AllocError) => return Err(Refusal::Memory),
     };
     let mut start = 0;
     for its in lengths {
@@ -55,7 +56,7 @@ impl PostState {
         bytes: &[u8],
         lengths: &[MessageLengths],
     ) -> Result<u32, Refusal>
-        ensures { SeatSendsAll self.old to (contents_in bytes.now lengths.now) result self.new }
+        ensures { PostSendsAll self.old to (contents_in bytes.now lengths.now) result self.new }
     {
         let Some(to) = InstanceNo::new(to as usize) else {
             return Err(Refusal::NoInstance);

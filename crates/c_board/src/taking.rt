@@ -132,8 +132,9 @@ pub(crate) fn take_posts(alloc: Global, handles: &mut [Handle]) -> Result<Taken,
     if !have_posts(alloc, handles) {
         return Err(Refusal::Misuse);
     }
-    let Ok(taken) = make_lists(alloc, handles.len()) else {
-        return Err(Refusal::Memory);
+    let taken = match make_lists(alloc, handles.len()) {
+        Ok(taken) => taken,
+        Err(AllocError) => return Err(Refusal::Memory),
     };
     let mut taken = taken;
     take_each(alloc, handles, &mut taken.chairs, &mut taken.posts);

@@ -1,3 +1,3 @@
 pub mod Performing
 pub mod Texts
-pub mod Viewing
+pub mod CommandLines

@@ -5,10 +5,10 @@
 //! standard output and to standard error. They write as much as there is room for, and return the whole length of each.
 #![tactic(auto)]
 
+mod command_lines;
 mod given;
 mod performing;
-mod viewing_texts;
 
+pub use command_lines::{view_into, view_request_into};
 pub use given::Bytes;
 pub use performing::{Performed, perform_into};
-pub use viewing_texts::{view_into, view_request_into};

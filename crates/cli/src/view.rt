@@ -10,6 +10,6 @@ pub use crate::CommandLineError;
 pub use reading::requested;
 pub use request::{
     Compare, Draw, DrawWitness, Export, Import, ImportLog, LogForm, LogQuestion, LogRaces, Mend,
-    Page, Pair, Question, RaceQuestion, Races, Reading, Request, Rows, ToolQuestion,
+    MendLuck, Page, Pair, Question, RaceQuestion, Races, Reading, Request, Rows, ToolQuestion,
 };
 pub use showing::Showing;

@@ -7,7 +7,7 @@ ghost use Rattle.closure.specs.Audits.{IsFirstWrong, RefusesReports};
 use crate::closure::Closure;
 use crate::error::{AuditError, ChartError};
 use chart::{Chart, EventNo, Report};
-use std::alloc::Global;
+use std::alloc::{AllocError, Global};
 
 /// The receive that names the first place where the given reports aren't the right ones.
 fn first_wrong(right: &[Report], given: &[Report]) -> Option<EventNo>
@@ -45,7 +45,7 @@ pub fn audit(alloc: Global, chart: &Chart, reports: &[Report]) -> Result<(), Aud
     };
     let right = match closure.races() {
         Ok(right) => right,
-        Err(_) => return Err(AuditError::Chart(ChartError::Memory)),
+        Err(AllocError) => return Err(AuditError::Chart(ChartError::Memory)),
     };
     match first_wrong(right.as_slice(), reports) {
         None => Ok(()),

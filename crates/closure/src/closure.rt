@@ -70,6 +70,18 @@ impl<'a> Closure<'a> {
         })
     }
 
+    /// The closure of a chart that is known to be possible. F6: it fails only if there is no memory.
+    pub fn of_possible(alloc: Global, chart: &'a Chart) -> Result<Closure<'a>, AllocError>
+        requires { IsPossible (length chart.now) (chart_lines chart.now) }
+        ensures { IfOk result (λ closure. closure ≡ chart.now) }
+    {
+        match Closure::of(alloc, chart) {
+            Ok(closure) => Ok(closure),
+            Err(ChartError::Memory) => Err(AllocError),
+            Err(_) => unreachable!(),
+        }
+    }
+
     /// The lines with their partners.
     fn linked(&self) -> Linked<'_>
         ensures lines { result ≡ self.now }

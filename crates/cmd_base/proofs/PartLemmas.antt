@@ -6,7 +6,7 @@ use Rattle.std.proofs.lemmas.List.Concat.{flat_map-append}
 use Rattle.std.specs.List.{list_any, flat_map, AllByRecursion}
 use Rattle.texts.specs.Lines.{lines_of, end_of, ended}
 use Rattle.texts.proofs.Parts.{lines_joined}
-use Rattle.cmd_base.specs.Files.{ends_chart, through_end, chart_part}
+use Rattle.cmd_base.specs.Contents.{ends_chart, through_end, chart_part}
 
 -- none of these lines ends a chart
 abbrev pub NoneEnds : List (List ℕ) → Type 0

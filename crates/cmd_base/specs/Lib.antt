@@ -1,6 +1,6 @@
 pub mod Answers
 pub mod Columns
-pub mod Files
+pub mod Contents
 pub mod Named
 pub mod NotDone
 pub mod Numbers

@@ -37,10 +37,10 @@ abbrev pub not_done_text : NotDone → List ℕ
 not_done_text them = if them.count == 1 then one_text them.line else several_text them.count them.line
 
 -- the line, if there are such commands
-abbrev pub told_of : Option NotDone → Option (List ℕ)
-told_of None = None
-told_of (Some them) = Some (not_done_text them)
+abbrev pub not_done_diagnostic : Option NotDone → Option (List ℕ)
+not_done_diagnostic None = None
+not_done_diagnostic (Some them) = Some (not_done_text them)
 
 -- the exit status and text of a chart that was written
 abbrev pub not_done_exit : Option NotDone → Exit
-not_done_exit them = record { status = 0; diagnostics = told_of them }
+not_done_exit them = record { status = 0; diagnostics = not_done_diagnostic them }

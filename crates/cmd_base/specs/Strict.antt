@@ -2,7 +2,7 @@
 -- the first.
 use Rattle.std.specs.Prelude.{◌≡◌, ℕ, Bool, true, false, List, codes, Option, None, Some, Result, Ok, Err}
 use Rattle.texts.specs.Outs.{Sink}
-use Rattle.cmd_base.specs.Files.{is_schedule}
+use Rattle.cmd_base.specs.Contents.{is_schedule}
 use Rattle.cmd_base.specs.NotDone.{not_done_of}
 use Rattle.cmd_base.specs.Refusals.{refusal_text, labelled_text, Tried}
 use Rattle.cmd_base.specs.Texts.{OfFile}

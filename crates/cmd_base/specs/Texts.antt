@@ -12,7 +12,7 @@ use Rattle.cmd_base.specs.declared.text.Text.{Text}
 use Rattle.cmd_base.specs.declared.text.Text.TheVariants.{Schedule, Chart}
 use Rattle.cmd_base.specs.declared.source.Source.{Source}
 use Rattle.cmd_base.specs.declared.source.Source.TheVariants.{Run, Written}
-use Rattle.cmd_base.specs.Files.{Named, is_schedule, chart_part, Reads, HasFault}
+use Rattle.cmd_base.specs.Contents.{Named, is_schedule, chart_part, Reads, HasFault}
 
 -- the value is the chart in the bytes, or the error is their fault, or memory ran out
 abbrev pub ReadsChart : Result Named ProgramError → List ℕ → Type 0

@@ -1,6 +1,6 @@
 //! The part of a file that is a chart's text.
 ghost use Rattle.std.specs.Prelude.{◌≡◌};
-ghost use Rattle.cmd_base.specs.Files.{chart_part};
+ghost use Rattle.cmd_base.specs.Contents.{chart_part};
 
 use texts::next_line;
 

@@ -2,7 +2,7 @@
 ghost use Rattle.std.specs.Prelude.{◌≡◌, ◌⊎◌, List, length, OnOk, IfErr, IfOk};
 ghost use Rattle.chart.specs.Charts.{LineView, chart_lines, IsPossible};
 ghost use Rattle.closure.specs.Faults.{Refuses};
-ghost use Rattle.cmd_base.specs.Files.{Reads, IsRefused};
+ghost use Rattle.cmd_base.specs.Contents.{Reads, IsRefused};
 ghost use Rattle.msc_text.specs.Reader.Reading.{chart_of};
 
 use crate::error::ProgramError;

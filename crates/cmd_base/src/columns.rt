@@ -10,4 +10,4 @@ mod error;
 
 pub use answering::refused;
 pub use columns::columns_in;
-pub use error::FormatError;
+pub use error::ColumnError;

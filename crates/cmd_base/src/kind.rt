@@ -1,6 +1,6 @@
 //! Whether a text is a schedule or a chart.
 ghost use Rattle.std.specs.Prelude.{◌≡◌};
-ghost use Rattle.cmd_base.specs.Files.{is_schedule};
+ghost use Rattle.cmd_base.specs.Contents.{is_schedule};
 
 use texts::{next_line, next_word};
 

@@ -1,7 +1,7 @@
 //! The line about a schedule's commands that did nothing. The chart lacks them, so races with them are not shown.
 ghost use Rattle.std.specs.Prelude.{◌≡◌, ◌<◌};
 ghost use Rattle.cmd_base.specs.Answers.{Prints};
-ghost use Rattle.cmd_base.specs.NotDone.{first_of, one_text, several_text, not_done_text, not_done_exit, told_of};
+ghost use Rattle.cmd_base.specs.NotDone.{first_of, one_text, several_text, not_done_text, not_done_exit, not_done_diagnostic};
 ghost use Rattle.cmd_base.specs.Refusals.{Tried};
 ghost use Rattle.texts.specs.Writing.{Wrote, Adds};
 
@@ -88,7 +88,7 @@ fn write_not_done<V: Out>(not_done: &NotDone, err: &mut V) -> Result<(), WriteEr
 /// Writes the line about a schedule's commands that did nothing, or a beginning of it if a write fails. Without such
 /// commands it writes nothing.
 pub fn print_not_done<V: Out>(not_done: &Option<NotDone>, err: &mut V)
-    ensures { Prints V.sink err.old err.new (told_of not_done.now) }
+    ensures { Prints V.sink err.old err.new (not_done_diagnostic not_done.now) }
 {
     if let Some(not_done) = not_done {
         let _ = write_not_done(not_done, err);

@@ -14,6 +14,6 @@ mod pair;
 mod saying;
 
 pub use answering::refused;
-pub use error::ViewError;
+pub use error::PairError;
 pub use pair::{Asked, Pair, pair_in};
 pub use saying::{Saying, hidden_text, write_chain, write_sayings};

@@ -1,5 +1,5 @@
 //! Schedules in texts.
-ghost use Rattle.cmd_base.specs.Files.{Reads};
+ghost use Rattle.cmd_base.specs.Contents.{Reads};
 ghost use Rattle.schedule.specs.Reading.{schedule_of};
 
 use crate::error::ProgramError;

@@ -21,7 +21,7 @@ pub struct NamedChart {
 
 impl Model for NamedChart {
     ghost use Rattle.std.specs.Prelude.{◌≡◌, length};
-    ghost use Rattle.cmd_base.specs.Files.{Named};
+    ghost use Rattle.cmd_base.specs.Contents.{Named};
 
     ghost Value = { Named };
 

@@ -2,7 +2,7 @@
 use Rattle.std.proofs.Common.{◌≡◌, ℕ, List, length, refl, ap, ◌∙◌, subst}
 use Rattle.std.specs.List.{flat_map, list_any}
 use Rattle.chart.specs.Charts.{LineView, chart_lines}
-use Rattle.cmd_base.specs.Files.{Named}
+use Rattle.cmd_base.specs.Contents.{Named}
 use Rattle.cmd_compare.specs.declared.comparison.LineComparison.{LineComparison}
 use Rattle.cmd_compare.specs.Comparing.{AreCounterparts, AreCompared}
 use Rattle.cmd_compare.specs.declared.comparison_text.Form.{Form}

@@ -4,7 +4,7 @@ use Rattle.std.specs.Prelude.{ok_or}
 use Rattle.cmd_base.specs.declared.error.ProgramError.TheVariants.{Usage, File, Memory, Text, ReceiveWithoutSend, NameMismatch, Cyclic, Write}
 use Rattle.chart.specs.Charts.{chart_lines, IsPossible}
 use Rattle.cmd_base.specs.declared.error.ProgramError.{ProgramError}
-use Rattle.cmd_base.specs.Files.{Named, IsRefused}
+use Rattle.cmd_base.specs.Contents.{Named, IsRefused}
 use Rattle.texts.specs.Outs.{Sink}
 use Rattle.cmd_compare.specs.declared.comparison_text.Form.{Form}
 use Rattle.cmd_compare.specs.declared.error.CompareError.{CompareError}

@@ -7,7 +7,7 @@ use Rattle.chart.specs.Charts.{chart_lines, IsPossible}
 use Rattle.texts.specs.Outs.{Sink}
 use Rattle.texts.specs.Writing.{Puts, Breaks}
 use Rattle.cmd_base.specs.declared.error.ProgramError.TheVariants as errors
-use Rattle.cmd_base.specs.Files.{Named, IsRefused}
+use Rattle.cmd_base.specs.Contents.{Named, IsRefused}
 use Rattle.cmd_base.specs.Texts.{OfFile, named_of}
 use Rattle.cmd_compare.specs.declared.comparison.LineComparison.{LineComparison}
 use Rattle.cmd_compare.specs.declared.pairs.Difference.{Difference}

@@ -4,7 +4,8 @@ use chart::Name;
 use cmd_base::ProgramError;
 use thiserror::Error;
 
-/// Why two recordings were not compared: the first of these causes that applies.
+/// Why two recordings were not compared: the first cause that applies. A fault of a text comes first, then F40, and
+/// then a chart that isn't possible.
 #[derive(Clone, Copy, Debug, PartialEq, Eq, Error)]
 pub enum CompareError {
     /// A refusal that `mscrun` has too: of the command line, a file, its text or chart, or a write.

@@ -7,7 +7,7 @@ ghost use Rattle.cmd_compare.specs.Comparisons.{FindsCounterparts};
 use crate::error::CompareError;
 use chart::{InstanceNo, Name, Names};
 use cmd_base::ProgramError;
-use std::alloc::Global;
+use std::alloc::{AllocFailed, Global};
 use texts::named;
 
 /// The number of the instance with the same name in the other recording. If there is none, the error is the name.
@@ -37,7 +37,7 @@ pub fn counterparts(
         match counterpart(names, other_names, place) {
             Ok(other) => match others.push(other) {
                 Ok(()) => {}
-                Err(_) => return Err(CompareError::Program(ProgramError::Memory)),
+                Err(AllocFailed { .. }) => return Err(CompareError::Program(ProgramError::Memory)),
             },
             Err(name) => return Err(CompareError::OtherInstances(name)),
         }

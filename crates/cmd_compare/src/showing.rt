@@ -20,7 +20,7 @@ use crate::pairs::Difference;
 use chart::{Chart, Names};
 use closure::Closure;
 use cmd_base::{ProgramError, Source, Text, answered, closure_of};
-use std::alloc::Global;
+use std::alloc::{AllocError, Global};
 use texts::{Out, WriteError};
 
 /// The result of a comparison.
@@ -90,7 +90,7 @@ fn ordered<'a>(alloc: Global, closure: &'a Closure<'a>) -> Result<Ordered<'a>, C
 {
     match Ordered::of(alloc, closure) {
         Ok(ordered) => Ok(ordered),
-        Err(_) => Err(CompareError::Program(ProgramError::Memory)),
+        Err(AllocError) => Err(CompareError::Program(ProgramError::Memory)),
     }
 }
 
@@ -117,8 +117,9 @@ fn compare_charts<W: Out>(
         others: others.as_slice(),
         back: back.as_slice(),
     };
-    let Ok(lines) = compared(alloc, &recordings) else {
-        return Err(CompareError::Program(ProgramError::Memory));
+    let lines = match compared(alloc, &recordings) {
+        Ok(lines) => lines,
+        Err(AllocError) => return Err(CompareError::Program(ProgramError::Memory)),
     };
     match write_both(both, lines.as_slice(), out) {
         Ok(()) => Ok(found_on(lines.as_slice())),

@@ -2,13 +2,13 @@
 use Rattle.std.proofs.Common.{◌≡◌, ℕ, ◌⊎◌, inl, inr, List, Err, refl}
 use Rattle.cmd_base.specs.declared.error.ProgramError.{ProgramError}
 use Rattle.cmd_base.specs.declared.error.ProgramError.TheVariants.{Usage, File, Memory, Text, ReceiveWithoutSend, NameMismatch, Cyclic, Write}
-use Rattle.cmd_base.specs.Files.{Named, IsRefused}
+use Rattle.cmd_base.specs.Contents.{Named, IsRefused}
 use Rattle.chart_layout.specs.declared.margin.MarginNote.{MarginNote}
 use Rattle.texts.specs.Outs.{Sink}
 use Rattle.cmd_draw.specs.declared.drawing.Wanted.{Wanted}
-use Rattle.cmd_draw.specs.declared.error.DrawError.TheVariants.{Format}
-use Rattle.cmd_base.specs.declared.columns.error.FormatError.{FormatError}
-use Rattle.cmd_base.specs.declared.columns.error.FormatError.TheVariants.{Program, NoSuchName}
+use Rattle.cmd_draw.specs.declared.error.DrawError.TheVariants.{Columns}
+use Rattle.cmd_base.specs.declared.columns.error.ColumnError.{ColumnError}
+use Rattle.cmd_base.specs.declared.columns.error.ColumnError.TheVariants.{Program, NoSuchName}
 use Rattle.cmd_draw.specs.declared.target.Target.{Target}
 use Rattle.cmd_base.specs.Columns.Columns.{AreColumns, RefusesColumns, only_of}
 use Rattle.cmd_draw.specs.Drawing.{Draws}
@@ -16,7 +16,7 @@ use Rattle.cmd_draw.specs.Exporting.{Exports}
 
 module _ {S : Type 0} (sink : S → Sink) (old : S) (turns : List ℕ) (notes : List MarginNote) (named : Named) where
   -- the chart has no such columns
-  pub no_columns : (wanted : Wanted) (error : FormatError) → RefusesColumns named.0 (only_of wanted.only) error → Draws sink old old (Err (Format error)) wanted turns notes named
+  pub no_columns : (wanted : Wanted) (error : ColumnError) → RefusesColumns named.0 (only_of wanted.only) error → Draws sink old old (Err (Columns error)) wanted turns notes named
   no_columns wanted NoSuchName none = (none, refl)
   no_columns wanted (Program Memory) why = refl
   no_columns wanted (Program Usage) why = absurd why
@@ -28,22 +28,22 @@ module _ {S : Type 0} (sink : S → Sink) (old : S) (turns : List ℕ) (notes : 
   no_columns wanted (Program Write) why = absurd why
 
   module _ (wanted : Wanted) (columns : List ℕ) (are : AreColumns named.0 (only_of wanted.only) columns) where
-    pub not_drawn : (error : ProgramError) → (error ≡ Memory) ⊎ IsRefused error named → Draws sink old old (Err (Format (Program error))) wanted turns notes named
-    not_drawn Memory why = refl
-    not_drawn Usage (inl is) = cc
-    not_drawn Usage (inr refused) = absurd refused
-    not_drawn File (inl is) = cc
-    not_drawn File (inr refused) = absurd refused
-    not_drawn (Text fault) (inl is) = cc
-    not_drawn (Text fault) (inr refused) = absurd refused
-    not_drawn (ReceiveWithoutSend p index) (inl is) = cc
-    not_drawn (ReceiveWithoutSend p index) (inr refused) = (columns, are, refused, refl)
-    not_drawn (NameMismatch p index) (inl is) = cc
-    not_drawn (NameMismatch p index) (inr refused) = (columns, are, refused, refl)
-    not_drawn Cyclic (inl is) = cc
-    not_drawn Cyclic (inr refused) = (columns, are, refused, refl)
-    not_drawn Write (inl is) = cc
-    not_drawn Write (inr refused) = absurd refused
+    pub not_pictured : (error : ProgramError) → (error ≡ Memory) ⊎ IsRefused error named → Draws sink old old (Err (Columns (Program error))) wanted turns notes named
+    not_pictured Memory why = refl
+    not_pictured Usage (inl is) = cc
+    not_pictured Usage (inr refused) = absurd refused
+    not_pictured File (inl is) = cc
+    not_pictured File (inr refused) = absurd refused
+    not_pictured (Text fault) (inl is) = cc
+    not_pictured (Text fault) (inr refused) = absurd refused
+    not_pictured (ReceiveWithoutSend p index) (inl is) = cc
+    not_pictured (ReceiveWithoutSend p index) (inr refused) = (columns, are, refused, refl)
+    not_pictured (NameMismatch p index) (inl is) = cc
+    not_pictured (NameMismatch p index) (inr refused) = (columns, are, refused, refl)
+    not_pictured Cyclic (inl is) = cc
+    not_pictured Cyclic (inr refused) = (columns, are, refused, refl)
+    not_pictured Write (inl is) = cc
+    not_pictured Write (inr refused) = absurd refused
 
 module _ {S : Type 0} (sink : S → Sink) (old : S) (turns : List ℕ) (named : Named) where
   module _ (target : Target) where

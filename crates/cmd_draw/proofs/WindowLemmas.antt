@@ -8,7 +8,7 @@ use Rattle.std.proofs.lemmas.Option.{none-some}
 use Rattle.chart.specs.declared.instance.EventNo.{EventNo}
 use Rattle.chart.specs.Charts.{at, chart_lines}
 use Rattle.closure.specs.Faults.{place_of}
-use Rattle.cmd_base.specs.Files.{Named}
+use Rattle.cmd_base.specs.Contents.{Named}
 use Rattle.cmd_draw.specs.declared.windows.Around.{Around}
 use Rattle.cmd_base.specs.Named.Asked.{instance_named, has_event}
 use Rattle.cmd_draw.specs.Windows.{event_at, event_named}

@@ -1,1 +1,1 @@
-pub mod DrawnLemmas
+pub mod PicturedLemmas

@@ -7,11 +7,11 @@ use Rattle.cmd_base.specs.declared.not_done.NotDone.{NotDone}
 use Rattle.cmd_base.specs.Named.NamedRefusals.{missing_text}
 use Rattle.cmd_base.specs.Columns.Answers.{refusal_text}
 use Rattle.cmd_draw.specs.declared.error.DrawError.{DrawError}
-use Rattle.cmd_draw.specs.declared.error.DrawError.TheVariants.{Format, NoSuchEvent}
+use Rattle.cmd_draw.specs.declared.error.DrawError.TheVariants.{Columns, NoSuchEvent}
 
 -- the line of a picture's refusal
 abbrev pub picture_refusal_text : DrawError → List ℕ
-picture_refusal_text (Format error) = refusal_text error
+picture_refusal_text (Columns error) = refusal_text error
 picture_refusal_text (NoSuchEvent missing) = missing_text missing
 
 abbrev pub draw_error_exit : DrawError → Exit

@@ -14,11 +14,11 @@ use Rattle.cmd_base.specs.declared.error.ProgramError.TheVariants as errors
 use Rattle.cmd_base.specs.NotDone.{IsNoted}
 use Rattle.cmd_base.specs.Texts.{OfFile, named_of}
 use Rattle.cmd_base.specs.declared.not_done.NotDone.{NotDone}
-use Rattle.cmd_base.specs.Files.{Named, IsRefused}
+use Rattle.cmd_base.specs.Contents.{Named, IsRefused}
 use Rattle.cmd_draw.specs.declared.drawing.Wanted.{Wanted}
 use Rattle.cmd_draw.specs.declared.error.DrawError.{DrawError}
-use Rattle.cmd_draw.specs.declared.error.DrawError.TheVariants.{Format, NoSuchEvent}
-use Rattle.cmd_base.specs.declared.columns.error.FormatError.TheVariants.{Program, NoSuchName}
+use Rattle.cmd_draw.specs.declared.error.DrawError.TheVariants.{Columns, NoSuchEvent}
+use Rattle.cmd_base.specs.declared.columns.error.ColumnError.TheVariants.{Program, NoSuchName}
 use Rattle.cmd_draw.specs.declared.windows.Window.{Window}
 use Rattle.cmd_base.specs.Columns.Columns.{AreColumns, only_of}
 use Rattle.cmd_draw.specs.Windows.{IsWindow, HasNoWindow}
@@ -36,7 +36,7 @@ pub record IsWanted (wanted : Wanted) (turns : List ℕ) (notes : List MarginNot
   pub prepared : IsPrepared named.1 turns rows ends
   pub races : AreReports named.1 reports
   pub chosen : IsWindow named rows wanted.rows window
-  pub drawn : IsPictureOf (record {
+  pub is_picture : IsPictureOf (record {
     title = wanted.title.now;
     names = named.0;
     lines = named.1;
@@ -44,7 +44,7 @@ pub record IsWanted (wanted : Wanted) (turns : List ℕ) (notes : List MarginNot
     reports = reports;
     ends = ends;
   }) (record {
-    drawn = columns;
+    instances = columns;
     first = wanted.events.first;
     last = wanted.events.last;
     top = window.top;
@@ -59,12 +59,12 @@ module _ {S : Type 0} (sink : S → Sink) where
   abbrev pub Draws : S → S → Result (Unit {0}) DrawError → Wanted → List ℕ → List MarginNote → Named → Type 0
   Draws old new (Ok done) wanted turns notes named = (picture : PictureView) × IsWanted wanted turns notes named picture
       × Puts sink old new (picture_text picture)
-  Draws old new (Err (Format NoSuchName)) wanted turns notes named =
+  Draws old new (Err (Columns NoSuchName)) wanted turns notes named =
       ((columns : List ℕ) → AreColumns named.0 (only_of wanted.only) columns → ⊥) × (new ≡ old)
-  Draws old new (Err (Format (Program errors.Memory))) wanted turns notes named = new ≡ old
-  Draws old new (Err (Format (Program errors.Write))) wanted turns notes named = (picture : PictureView)
+  Draws old new (Err (Columns (Program errors.Memory))) wanted turns notes named = new ≡ old
+  Draws old new (Err (Columns (Program errors.Write))) wanted turns notes named = (picture : PictureView)
       × IsWanted wanted turns notes named picture × Breaks sink old new (picture_text picture)
-  Draws old new (Err (Format (Program error))) wanted turns notes named = (columns : List ℕ)
+  Draws old new (Err (Columns (Program error))) wanted turns notes named = (columns : List ℕ)
       × AreColumns named.0 (only_of wanted.only) columns × IsRefused error named × (new ≡ old)
   Draws old new (Err (NoSuchEvent missing)) wanted turns notes named = (columns : List ℕ)
       × AreColumns named.0 (only_of wanted.only) columns × IsPossible (length named.1) (chart_lines named.1)
@@ -72,5 +72,5 @@ module _ {S : Type 0} (sink : S → Sink) where
 
   -- the same for the chart in a file; or nothing was written, if the bytes have a fault
   abbrev pub DrawsText : S → S → Wanted → List ℕ → Result (Option NotDone) DrawError → Type 0
-  DrawsText old new wanted bytes = OfFile (λ error. Format (Program error))
+  DrawsText old new wanted bytes = OfFile (λ error. Columns (Program error))
       (IsNoted (λ them. tt) (λ them. them) (λ source done. Draws old new done wanted (turns_in source) [] (named_of source))) old new bytes

@@ -19,9 +19,9 @@ use Rattle.texts.specs.Writing.{Puts, Breaks}
 use Rattle.cmd_base.specs.declared.error.ProgramError.TheVariants as errors
 use Rattle.cmd_base.specs.Answers.{Exit, exit_of}
 use Rattle.cmd_base.specs.Texts.{OfFile, named_of}
-use Rattle.cmd_base.specs.Files.{Named, IsRefused}
-use Rattle.cmd_base.specs.declared.columns.error.FormatError.{FormatError}
-use Rattle.cmd_base.specs.declared.columns.error.FormatError.TheVariants.{Program, NoSuchName}
+use Rattle.cmd_base.specs.Contents.{Named, IsRefused}
+use Rattle.cmd_base.specs.declared.columns.error.ColumnError.{ColumnError}
+use Rattle.cmd_base.specs.declared.columns.error.ColumnError.TheVariants.{Program, NoSuchName}
 use Rattle.cmd_draw.specs.declared.exporting.Diagnostics.{Diagnostics}
 use Rattle.cmd_draw.specs.declared.target.Target.{Target}
 use Rattle.cmd_draw.specs.declared.target.Target.TheVariants.{Diagram, ShiViz}
@@ -76,7 +76,7 @@ pub record IsExported (target : Target) (turns : List ℕ) (named : Named) (v : 
 
 module _ {S : Type 0} (sink : S → Sink) where
   -- a text was written; or a beginning of it, if a put failed; or nothing, if memory ran out
-  abbrev pub Writes : S → S → Result (Unit {0}) FormatError → List ℕ → Type 0
+  abbrev pub Writes : S → S → Result (Unit {0}) ColumnError → List ℕ → Type 0
   Writes old new (Ok done) text = Puts sink old new text
   Writes old new (Err NoSuchName) text = ⊥
   Writes old new (Err (Program errors.Memory)) text = new ≡ old
@@ -85,7 +85,7 @@ module _ {S : Type 0} (sink : S → Sink) where
 
   -- the text was written; or a beginning of it, if a put failed; or nothing, if the chart isn't possible or memory ran
   -- out
-  abbrev pub Exports : S → S → Result Diagnostics FormatError → Target → List ℕ → Named → Type 0
+  abbrev pub Exports : S → S → Result Diagnostics ColumnError → Target → List ℕ → Named → Type 0
   Exports old new (Ok diagnostics) target turns named = (v : ExportView) × IsExported target turns named v × (diagnostics ≡ diagnostics_of target v)
       × Puts sink old new (text_of target v)
   Exports old new (Err NoSuchName) target turns named = ⊥
@@ -95,7 +95,7 @@ module _ {S : Type 0} (sink : S → Sink) where
   Exports old new (Err (Program error)) target turns named = IsRefused error named × (new ≡ old)
 
   -- the same for the chart in a file; or nothing was written, if the bytes have a fault
-  abbrev pub ExportsText : S → S → Target → List ℕ → Result Diagnostics FormatError → Type 0
+  abbrev pub ExportsText : S → S → Target → List ℕ → Result Diagnostics ColumnError → Type 0
   ExportsText old new target bytes =
       OfFile Program (λ source done. Exports old new done target (turns_in source) (named_of source)) old new bytes
 
@@ -103,5 +103,5 @@ module _ {S : Type 0} (sink : S → Sink) where
 abbrev pub diagnostics_exit : Diagnostics → Exit
 diagnostics_exit diagnostics = record { status = 0; diagnostics = diagnostics_text diagnostics }
 
-abbrev pub export_exit : Result Diagnostics FormatError → Exit
+abbrev pub export_exit : Result Diagnostics ColumnError → Exit
 export_exit = exit_of diagnostics_exit error_exit

@@ -4,7 +4,7 @@ use Rattle.chart.specs.declared.event.Event.{Event}
 use Rattle.chart.specs.declared.instance.EventNo.{EventNo}
 use Rattle.chart.specs.Charts.{LineView, chart_lines}
 use Rattle.closure.specs.Faults.{place_of}
-use Rattle.cmd_base.specs.Files.{Named}
+use Rattle.cmd_base.specs.Contents.{Named}
 use Rattle.cmd_draw.specs.declared.windows.Around as arounds
 use Rattle.cmd_draw.specs.declared.windows.Rows.{Rows}
 use Rattle.cmd_draw.specs.declared.windows.Rows.TheVariants.{Between, Around}

@@ -16,7 +16,7 @@ pub fn refused_picture<V: Out>(error: &DrawError, err: &mut V) -> u8
     ensures line { Tried V.sink err.old err.new (picture_refusal_text error.now) }
 {
     match error {
-        DrawError::Format(cause) => refused(cause, err),
+        DrawError::Columns(cause) => refused(cause, err),
         DrawError::NoSuchEvent(missing) => refused_missing(missing, err),
     }
 }

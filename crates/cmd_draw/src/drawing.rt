@@ -17,10 +17,10 @@ use crate::windows::{Rows, window_in};
 use chart::{Chart, InstanceNo, Names, Report};
 use chart_layout::margin::MarginNote;
 use closure::Closure;
-use cmd_base::columns::{FormatError, columns_in};
+use cmd_base::columns::{ColumnError, columns_in};
 use cmd_base::{NotDone, ProgramError, Source, Text, answered, closure_of};
 use pictures::{Part, Picture, write_picture};
-use std::alloc::Global;
+use std::alloc::{AllocError, Global};
 use texts::Out;
 
 /// What to draw of a file, and how.
@@ -69,11 +69,14 @@ fn draw_columns<W: Out>(
         (subject.now.names.now, subject.now.closure.now) }
 {
     let (names, closure) = (subject.names, subject.closure);
-    let Ok(prepared) = prepare_by(alloc, closure, subject.turns) else {
-        return Err(DrawError::Format(FormatError::Program(ProgramError::Memory)));
+    let prepared = match prepare_by(alloc, closure, subject.turns) {
+        Ok(prepared) => prepared,
+        Err(AllocError) => return Err(DrawError::Columns(ColumnError::Program(
+            ProgramError::Memory,
+        ))),
     };
     let window = window_in(names, closure.lines(), &prepared.layout, &wanted.rows)?;
-    let drawn = pictures::Source {
+    let picture_source = pictures::Source {
         title: wanted.title,
         names,
         closure,
@@ -82,7 +85,7 @@ fn draw_columns<W: Out>(
         reports: subject.reports,
     };
     let part = Part {
-        drawn: columns,
+        instances: columns,
         first: wanted.events.first,
         last: wanted.events.last,
         top: window.top,
@@ -90,12 +93,15 @@ fn draw_columns<W: Out>(
         numbers: wanted.numbers,
         notes: subject.notes,
     };
-    let Ok(picture) = Picture::of(alloc, drawn, part) else {
-        return Err(DrawError::Format(FormatError::Program(ProgramError::Memory)));
+    let picture = match Picture::of(alloc, picture_source, part) {
+        Ok(picture) => picture,
+        Err(AllocError) => return Err(DrawError::Columns(ColumnError::Program(
+            ProgramError::Memory,
+        ))),
     };
     match write_picture(&picture, out) {
         Ok(()) => Ok(()),
-        Err(_) => Err(DrawError::Format(FormatError::Program(ProgramError::Write))),
+        Err(_) => Err(DrawError::Columns(ColumnError::Program(ProgramError::Write))),
     }
 }
 
@@ -113,11 +119,17 @@ fn draw_source<W: Out>(
     let names = source.names();
     let columns = columns_in(alloc, names, wanted.only)?;
     let closure = closure_of(alloc, names, source.chart())?;
-    let Ok(reports) = Reports::of(source, &closure) else {
-        return Err(DrawError::Format(FormatError::Program(ProgramError::Memory)));
+    let reports = match Reports::of(source, &closure) {
+        Ok(reports) => reports,
+        Err(AllocError) => return Err(DrawError::Columns(ColumnError::Program(
+            ProgramError::Memory,
+        ))),
     };
-    let Ok(turns) = turns_in(alloc, source) else {
-        return Err(DrawError::Format(FormatError::Program(ProgramError::Memory)));
+    let turns = match turns_in(alloc, source) {
+        Ok(turns) => turns,
+        Err(AllocError) => return Err(DrawError::Columns(ColumnError::Program(
+            ProgramError::Memory,
+        ))),
     };
     let subject = Subject {
         names,
@@ -148,8 +160,11 @@ pub fn draw_chart<W: Out>(
 {
     let columns = columns_in(alloc, names, wanted.only)?;
     let closure = closure_of(alloc, names, chart)?;
-    let Ok(reports) = closure.races() else {
-        return Err(DrawError::Format(FormatError::Program(ProgramError::Memory)));
+    let reports = match closure.races() {
+        Ok(reports) => reports,
+        Err(AllocError) => return Err(DrawError::Columns(ColumnError::Program(
+            ProgramError::Memory,
+        ))),
     };
     let subject = Subject {
         names,

@@ -1,7 +1,7 @@
 //! Why a picture is refused.
 
 use cmd_base::ProgramError;
-use cmd_base::columns::FormatError;
+use cmd_base::columns::ColumnError;
 use cmd_base::named::Missing;
 use thiserror::Error;
 
@@ -10,32 +10,32 @@ use thiserror::Error;
 pub enum DrawError {
     /// A cause that exports and races are refused for too.
     #[error(transparent)]
-    Format(FormatError),
+    Columns(ColumnError),
     /// F31: the chart has no instance of the name after `--around`, or the line of this instance has no such event.
     #[error("there is no such event")]
     NoSuchEvent(Missing),
 }
 
-impl From<FormatError> for DrawError {
+impl From<ColumnError> for DrawError {
     ghost use Rattle.std.specs.Prelude.{◌≡◌};
-    ghost use Rattle.cmd_draw.specs.declared.error.DrawError.TheVariants.{Format};
+    ghost use Rattle.cmd_draw.specs.declared.error.DrawError.TheVariants.{Columns};
 
-    ghost from_gives = { λ cause e. e ≡ Format cause };
+    ghost from_gives = { λ cause e. e ≡ Columns cause };
 
-    fn from(cause: FormatError) -> DrawError {
-        DrawError::Format(cause)
+    fn from(cause: ColumnError) -> DrawError {
+        DrawError::Columns(cause)
     }
 }
 
 impl From<ProgramError> for DrawError {
     ghost use Rattle.std.specs.Prelude.{◌≡◌};
-    ghost use Rattle.cmd_draw.specs.declared.error.DrawError.TheVariants.{Format};
-    ghost use Rattle.cmd_base.specs.declared.columns.error.FormatError.TheVariants.{Program};
+    ghost use Rattle.cmd_draw.specs.declared.error.DrawError.TheVariants.{Columns};
+    ghost use Rattle.cmd_base.specs.declared.columns.error.ColumnError.TheVariants.{Program};
 
-    ghost from_gives = { λ cause e. e ≡ Format (Program cause) };
+    ghost from_gives = { λ cause e. e ≡ Columns (Program cause) };
 
     fn from(cause: ProgramError) -> DrawError {
-        DrawError::Format(FormatError::Program(cause))
+        DrawError::Columns(ColumnError::Program(cause))
     }
 }
 

@@ -14,11 +14,11 @@ use crate::preparing::{Reports, prepare};
 use crate::target::Target;
 use chart::{Line, Names, Report};
 use closure::Closure;
-use cmd_base::columns::FormatError;
+use cmd_base::columns::ColumnError;
 use cmd_base::{Answer, ProgramError, Source, Text, answered, closure_of};
 use diagram_export::{Export, ExportSource, Log, has_parted, write_export, write_log};
 use diagram_tool::Tool;
-use std::alloc::Global;
+use std::alloc::{AllocError, Global};
 use texts::{Out, TextBuffer, WriteError};
 
 /// The warnings about what a text can't express.
@@ -63,21 +63,22 @@ fn write_text<W: Out>(
     target: Target,
     export: &Export<'_>,
     out: &mut W,
-) -> Result<(), FormatError>
+) -> Result<(), ColumnError>
     ensures { Writes W.sink out.old out.new result (text_of target export.now) }
 {
     let written = match target {
         Target::Diagram(_) => write_export(export, out),
         Target::ShiViz => {
-            let Ok(log) = Log::of(alloc, export) else {
-                return Err(FormatError::Program(ProgramError::Memory));
+            let log = match Log::of(alloc, export) {
+                Ok(log) => log,
+                Err(AllocError) => return Err(ColumnError::Program(ProgramError::Memory)),
             };
             write_log(export, &log, out)
         }
     };
     match written {
         Ok(()) => Ok(()),
-        Err(_) => Err(FormatError::Program(ProgramError::Write)),
+        Err(_) => Err(ColumnError::Program(ProgramError::Write)),
     }
 }
 
@@ -90,24 +91,26 @@ fn export_closure<W: Out>(
     reports: &[Report],
     target: Target,
     out: &mut W,
-) -> Result<Diagnostics, FormatError>
+) -> Result<Diagnostics, ColumnError>
     requires source { ComesFrom source.now }
     requires reports { AreReports closure.now reports.now }
     requires possible { IsPossible (length closure.now) (chart_lines closure.now) }
     ensures { Exports W.sink out.old out.new result target (turns_in source.now) (names.now, closure.now) }
 {
-    let Ok(prepared) = prepare(alloc, source, closure) else {
-        return Err(FormatError::Program(ProgramError::Memory));
+    let prepared = match prepare(alloc, source, closure) {
+        Ok(prepared) => prepared,
+        Err(AllocError) => return Err(ColumnError::Program(ProgramError::Memory)),
     };
-    let drawn = ExportSource {
+    let chart_source = ExportSource {
         names,
         closure,
         layout: &prepared.layout,
         ends: &prepared.ends,
         reports,
     };
-    let Ok(export) = Export::of(alloc, tool_of(target), drawn) else {
-        return Err(FormatError::Program(ProgramError::Memory));
+    let export = match Export::of(alloc, tool_of(target), chart_source) {
+        Ok(export) => export,
+        Err(AllocError) => return Err(ColumnError::Program(ProgramError::Memory)),
     };
     write_text(alloc, target, &export, out)?;
     Ok(Diagnostics {
@@ -122,14 +125,15 @@ fn export_source<W: Out>(
     source: &Source<'_>,
     target: Target,
     out: &mut W,
-) -> Result<Diagnostics, FormatError>
+) -> Result<Diagnostics, ColumnError>
     requires { ComesFrom source.now }
     ensures { Exports W.sink out.old out.new result target (turns_in source.now) (named_of source.now) }
 {
     let names = source.names();
     let closure = closure_of(alloc, names, source.chart())?;
-    let Ok(reports) = Reports::of(source, &closure) else {
-        return Err(FormatError::Program(ProgramError::Memory));
+    let reports = match Reports::of(source, &closure) {
+        Ok(reports) => reports,
+        Err(AllocError) => return Err(ColumnError::Program(ProgramError::Memory)),
     };
     export_closure(
         alloc,
@@ -148,7 +152,7 @@ fn export_text<W: Out>(
     bytes: &[u8],
     target: Target,
     out: &mut W,
-) -> Result<Diagnostics, FormatError>
+) -> Result<Diagnostics, ColumnError>
     ensures { ExportsText W.sink out.old out.new target bytes.now result }
 {
     let text = Text::read(alloc, bytes)?;

@@ -4,7 +4,7 @@ use Rattle.std.specs.Prelude.{Result, Ok, Err, IfOk}
 use Rattle.cmd_explain_file.specs.Verdicts.{IsOfLines, IsOfWhole, IsOfChart}
 use Rattle.cmd_explain_file.specs.declared.verdict.Verdict.{Verdict}
 use Rattle.cmd_explain_file.specs.declared.verdict.Verdict.TheVariants.{Read, Ran, Built, NotBuilt, Behind, Refused, NoSend, OtherName, Cyclic}
-use Rattle.cmd_base.specs.Files.{Named, chart_part}
+use Rattle.cmd_base.specs.Contents.{Named, chart_part}
 use Rattle.cmd_base.specs.declared.error.ProgramError.{ProgramError}
 use Rattle.msc_text.specs.Reader.Reading.{chart_of}
 

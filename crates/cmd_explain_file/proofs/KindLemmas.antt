@@ -4,7 +4,7 @@ use Rattle.diagram_import.specs.Importing.{behind_mark}
 use Rattle.cmd_explain_file.specs.Kinds.{begins_chart, detected_kind, kind_by}
 use Rattle.cmd_explain_file.specs.declared.kind.Kind.{Kind}
 use Rattle.cmd_explain_file.specs.declared.kind.Kind.TheVariants.{Schedule}
-use Rattle.cmd_base.specs.Files.{is_schedule}
+use Rattle.cmd_base.specs.Contents.{is_schedule}
 use Rattle.diagram_tool.specs.Detection.Detection.{detected_tool}
 
 first_is_not : (a b : Bool) (k : Kind) → (cond (a || b) Schedule k ≢ Schedule) → a ≡ false

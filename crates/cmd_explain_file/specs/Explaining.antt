@@ -14,7 +14,7 @@ use Rattle.cmd_explain_file.specs.declared.verdict.Exactly.TheVariants as exactl
 use Rattle.cmd_explain_file.specs.declared.verdict.Verdict.{Verdict}
 use Rattle.cmd_explain_file.specs.declared.verdict.Verdict.TheVariants.{Read, Ran, Built, NotBuilt, Behind, Refused, NoSend, OtherName, Cyclic}
 use Rattle.cmd_base.specs.Answers.{Exit, program_exit, exit_of}
-use Rattle.cmd_base.specs.Files.{is_schedule, chart_part}
+use Rattle.cmd_base.specs.Contents.{is_schedule, chart_part}
 use Rattle.cmd_base.specs.declared.error.ProgramError.{ProgramError}
 use Rattle.cmd_base.specs.declared.error.ProgramError.TheVariants as errors
 use Rattle.msc_text.specs.Reader.Reading.{chart_of}

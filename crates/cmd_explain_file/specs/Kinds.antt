@@ -5,7 +5,7 @@ use Rattle.diagram_import.specs.Importing.{behind_mark}
 use Rattle.cmd_explain_file.specs.declared.kind.Kind.{Kind}
 use Rattle.cmd_explain_file.specs.declared.kind.Kind.TheVariants as kinds
 use Rattle.fault_places.specs.Standings.{first_or}
-use Rattle.cmd_base.specs.Files.{is_schedule}
+use Rattle.cmd_base.specs.Contents.{is_schedule}
 use Rattle.texts.specs.Lines.{lines_of, end_of}
 use Rattle.diagram_tool.specs.Detection.Detection.{detected_tool}
 use Rattle.diagram_tool.specs.declared.detection.detection.ToolError.{ToolError}

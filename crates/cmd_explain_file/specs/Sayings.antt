@@ -115,13 +115,13 @@ unfoldable pub undone_text : ℕ → List ℕ
 undone_text count = if count == 1 then one_undone_text else several_undone_text count
 
 unfoldable pub cyclic_text : List ℕ
-cyclic_text = codes "\nerror: F18 Cyclic: events come before each other, in a circle\n"
+cyclic_text = codes "\nerror: F18 Cyclic: events come before each other, in a cycle\n"
 
 unfoldable pub tidy_text : List ℕ
 tidy_text = codes "\nhelp: mscview tidy writes the exact text of this file, which has no fault\n"
 
 unfoldable pub log_text : List ℕ
-log_text = codes "\nhelp: of a log, mscview races --from log tells the races: of lines HOST send PEER NAME and HOST recv PEER NAME, or as --pattern reads its lines\n"
+log_text = codes "\nhelp: of a log, mscview races --from log prints the races: of lines HOST send PEER NAME and HOST recv PEER NAME, or as --pattern reads its lines\n"
 
 -- a part of the explanation; `line` is the line of the file that is shown with it
 unfoldable pub text_by_line : List ℕ → Saying → List ℕ

@@ -14,10 +14,10 @@ use Rattle.cmd_explain_file.specs.declared.verdict.Unread.TheVariants as unreads
 use Rattle.cmd_explain_file.specs.declared.verdict.Verdict.{Verdict}
 use Rattle.cmd_explain_file.specs.declared.verdict.Verdict.TheVariants.{Read, Ran, Built, NotBuilt, Behind, Refused, NoSend, OtherName, Cyclic}
 use Rattle.cmd_base.specs.Answers.{Exit}
-use Rattle.cmd_base.specs.Files.{Named, chart_part}
+use Rattle.cmd_base.specs.Contents.{Named, chart_part}
 use Rattle.cmd_import_diagram.specs.Order.{in_order}
-use Rattle.diagram_join.specs.Drawing.{joined_chart_view}
-use Rattle.diagram_join.specs.declared.drawing.JoinedChart.{JoinedChart}
+use Rattle.diagram_join.specs.Building.{joined_chart_view}
+use Rattle.diagram_join.specs.declared.building.JoinedChart.{JoinedChart}
 use Rattle.msc_text.specs.Reader.Reading.{chart_of}
 use Rattle.schedule.specs.Plans.{Plan}
 use Rattle.schedule.specs.Reading.{schedule_of}

@@ -29,7 +29,8 @@ fn text_fault(alloc: Global, text: &[u8]) -> Result<Option<Fault>, ProgramError>
     match Text::read(alloc, text) {
         Ok(_) => Ok(None),
         Err(ProgramError::Text(fault)) => Ok(Some(fault)),
-        Err(_) => Err(ProgramError::Memory),
+        Err(ProgramError::Memory) => Err(ProgramError::Memory),
+        Err(_) => unreachable!(),
     }
 }
 
@@ -233,8 +234,9 @@ fn read_and_explain(alloc: Global, text: &[u8]) -> Result<Explanation, ProgramEr
     ensures sayings { IfOk result (λ done. done.sayings.items ≡ explanation_of text.now done.verdict) }
     ensures memory { IfErr result (λ e. e ≡ ProgramError.Memory) }
 {
-    let Ok(exact) = exact_text(alloc, text) else {
-        return Err(ProgramError::Memory);
+    let exact = match exact_text(alloc, text) {
+        Ok(exact) => exact,
+        Err(AllocError) => return Err(ProgramError::Memory),
     };
     let kind = kind_by(text, &exact.bytes);
     let verdict = judge(alloc, kind, text)?;
@@ -249,7 +251,7 @@ fn read_and_explain(alloc: Global, text: &[u8]) -> Result<Explanation, ProgramEr
             exactly,
             sayings,
         }),
-        Err(_) => Err(ProgramError::Memory),
+        Err(AllocError) => Err(ProgramError::Memory),
     }
 }
 

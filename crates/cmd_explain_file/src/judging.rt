@@ -4,10 +4,10 @@ ghost use Rattle.chart.specs.Charts.{chart_lines};
 ghost use Rattle.closure.specs.Faults.{Refuses};
 ghost use Rattle.diagram_import.specs.Importing.{imported};
 ghost use Rattle.diagram_import.specs.Refusals.{Gives};
-ghost use Rattle.diagram_join.specs.Drawing.{joined_chart_view};
+ghost use Rattle.diagram_join.specs.Building.{joined_chart_view};
 ghost use Rattle.cmd_explain_file.specs.Verdicts.{IsOfSchedule, IsOfDiagram, no_options, unread, IsOfLines, IsOfWhole, IsOfChart, IsVerdict};
 ghost use Rattle.cmd_explain_file.specs.declared.kind.Kind.TheVariants.{Schedule};
-ghost use Rattle.cmd_base.specs.Files.{Named, is_schedule, chart_part};
+ghost use Rattle.cmd_base.specs.Contents.{Named, is_schedule, chart_part};
 ghost use Rattle.msc_text.specs.Reader.Reading.{chart_of};
 
 use crate::kind::Kind;
@@ -20,7 +20,7 @@ use diagram_import::{ImportError, Options, import_text};
 use diagram_join::JoinedChart;
 use fault_places::steps_of;
 use schedule_replay::notes::notes_of;
-use std::alloc::Global;
+use std::alloc::{AllocError, Global};
 
 /// The verdict on a schedule's text.
 fn judge_schedule(alloc: Global, text: &[u8]) -> Result<Verdict, ProgramError>
@@ -30,11 +30,12 @@ fn judge_schedule(alloc: Global, text: &[u8]) -> Result<Verdict, ProgramError>
     let schedule = match schedule_in(alloc, text) {
         Ok(schedule) => schedule,
         Err(ProgramError::Text(fault)) => return Ok(Verdict::Refused(fault)),
-        Err(_) => return Err(ProgramError::Memory),
+        Err(ProgramError::Memory) => return Err(ProgramError::Memory),
+        Err(_) => unreachable!(),
     };
     match notes_of(alloc, &schedule) {
         Ok(notes) => Ok(Verdict::Ran(notes)),
-        Err(_) => Err(ProgramError::Memory),
+        Err(AllocError) => Err(ProgramError::Memory),
     }
 }
 
@@ -76,7 +77,7 @@ fn judge_diagram(alloc: Global, text: &[u8]) -> Result<Verdict, ProgramError>
     };
     match in_order(alloc, &built.built.left_out) {
         Ok(left_out) => Ok(Verdict::Built(left_out, built.overtaking)),
-        Err(_) => Err(ProgramError::Memory),
+        Err(AllocError) => Err(ProgramError::Memory),
     }
 }
 
@@ -94,7 +95,7 @@ fn judge_cycle(
 {
     match steps_of(alloc, text, names, chart) {
         Ok(steps) => Ok(Verdict::Cyclic(steps)),
-        Err(_) => Err(ProgramError::Memory),
+        Err(AllocError) => Err(ProgramError::Memory),
     }
 }
 
@@ -129,7 +130,8 @@ fn judge_whole(alloc: Global, text: &[u8]) -> Result<Verdict, ProgramError>
     match chart_in(alloc, text) {
         Ok(_) => Ok(Verdict::Read),
         Err(ProgramError::Text(fault)) => Ok(Verdict::Behind(fault)),
-        Err(_) => Err(ProgramError::Memory),
+        Err(ProgramError::Memory) => Err(ProgramError::Memory),
+        Err(_) => unreachable!(),
     }
 }
 
@@ -162,7 +164,8 @@ fn judge_chart(alloc: Global, text: &[u8]) -> Result<Verdict, ProgramError>
         Ok(Text::Chart(named)) => named,
         Ok(Text::Schedule(_)) => unreachable!(),
         Err(ProgramError::Text(fault)) => return Ok(Verdict::Refused(fault)),
-        Err(_) => return Err(ProgramError::Memory),
+        Err(ProgramError::Memory) => return Err(ProgramError::Memory),
+        Err(_) => unreachable!(),
     };
     let judged = judge_lines(alloc, text, named.names(), named.chart())?;
     or_whole(alloc, text, judged)

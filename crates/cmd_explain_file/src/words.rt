@@ -208,7 +208,7 @@ pub(crate) fn want_words(want: Want) -> &'static [u8]
 pub(crate) fn cyclic_words() -> &'static [u8]
     ensures { result.now ≡ cyclic_text }
 {
-    b"\nerror: F18 Cyclic: events come before each other, in a circle\n"
+    b"\nerror: F18 Cyclic: events come before each other, in a cycle\n"
 }
 
 /// The hint for a file that can be tidied.
@@ -224,5 +224,5 @@ pub(crate) fn tidy_words() -> &'static [u8]
 pub(crate) fn log_words() -> &'static [u8]
     ensures { result.now ≡ log_text }
 {
-    b"\nhelp: of a log, mscview races --from log tells the races: of lines HOST send PEER NAME and HOST recv PEER NAME, or as --pattern reads its lines\n"
+    b"\nhelp: of a log, mscview races --from log prints the races: of lines HOST send PEER NAME and HOST recv PEER NAME, or as --pattern reads its lines\n"
 }

@@ -11,7 +11,7 @@ use Rattle.texts.specs.Outs.{Sink}
 use Rattle.schedule.specs.Plans.{Plan}
 use Rattle.cmd_base.specs.declared.error.ProgramError.TheVariants.{Usage, File, Memory, Text, ReceiveWithoutSend, NameMismatch, Cyclic, Write}
 use Rattle.cmd_base.specs.declared.source.Source.{Source}
-use Rattle.cmd_base.specs.Files.{Named}
+use Rattle.cmd_base.specs.Contents.{Named}
 use Rattle.cmd_base.specs.Texts.{named_of}
 use Rattle.schedule_replay.specs.ReorderedRuns.Showing.{IsShown, HasSteps}
 use Rattle.schedule_replay.specs.declared.reordered_runs.overtaking.Reordered.{Reordered}
@@ -21,8 +21,8 @@ use Rattle.schedule_replay.specs.declared.reordered_runs.showing.Shown.{Shown}
 use Rattle.schedule_replay.specs.declared.reordered_runs.showing.Shown.TheVariants as founds
 use Rattle.schedule_replay.specs.ReorderedRuns.Reorderings.{receives}
 use Rattle.cmd_base.specs.Named.NamedRefusals.{missing_on}
-use Rattle.cmd_base.specs.declared.pairs.error.ViewError.{ViewError}
-use Rattle.cmd_base.specs.declared.pairs.error.ViewError.TheVariants.{Program, NoSuchEvent, NotEarlier, NotAReceive, ManySlots}
+use Rattle.cmd_base.specs.declared.pairs.error.PairError.{PairError}
+use Rattle.cmd_base.specs.declared.pairs.error.PairError.TheVariants.{Program, NoSuchEvent, NotEarlier, NotAReceive, ManySlots}
 use Rattle.cmd_base.specs.Named.Asked.{instance_named, has_event}
 use Rattle.cmd_explain_race.specs.declared.finding.Found.{Found}
 use Rattle.cmd_base.specs.declared.pairs.pair.Asked.{Asked}
@@ -53,7 +53,7 @@ has_shown names lines origin pair reordered founds.Enforced kept has is = is
 has_shown names lines origin pair reordered (founds.TooManySlots k) kept has is = is
 
 -- the result is for the pair that the words name
-pub found_from : (named : Named) (origin : Origin) (asked : Asked) (pair : Pair) (result : Result Found ViewError) → IsAskedFor named asked (Ok pair) → IsFoundOf named origin pair result → IsFound named origin asked result
+pub found_from : (named : Named) (origin : Origin) (asked : Asked) (pair : Pair) (result : Result Found PairError) → IsAskedFor named asked (Ok pair) → IsFoundOf named origin pair result → IsFound named origin asked result
 found_from named origin asked pair (Ok found) is (same, shown) =
     (subst (λ (p : Pair). pair_of named.0 named.1 asked ≡ Ok p) (sym same) is.0, is.1, shown_for named origin pair found same shown)
   where
@@ -81,20 +81,20 @@ module _ {S : Type 0} (sink : S → Sink) (old new : S) (asked : Asked) (source 
   finds_so (founds.TooManySlots k) witnessed is same wrote = cc
 
   -- the output for a pair whose text wasn't written completely
-  pub finds_broken : (shown : Shown) (error : ViewError) → HasShown (named_of source) (origin_of source) pair shown → WritesShown sink old new shown (Err error) → FindsIn sink old new asked source (Err error)
+  pub finds_broken : (shown : Shown) (error : PairError) → HasShown (named_of source) (origin_of source) pair shown → WritesShown sink old new shown (Err error) → FindsIn sink old new asked source (Err error)
   finds_broken (founds.Replay plan) error is (same, breaks) =
-      subst (λ (e : ViewError). FindsIn sink old new asked source (Err e)) (sym same) (pair, is_pair, possible, (plan, is, breaks))
+      subst (λ (e : PairError). FindsIn sink old new asked source (Err e)) (sym same) (pair, is_pair, possible, (plan, is, breaks))
   finds_broken founds.Enforced error is wrote = let differs = wrote.0 in cc
   finds_broken (founds.TooManySlots k) error is wrote = let differs = wrote.0 in cc
 
   -- the output for a pair if each run needs too many slots
-  pub finds_none : (shown : Shown) (error : ViewError) → HasShown (named_of source) (origin_of source) pair shown → IsJudged source pair shown (Err error) → FindsIn sink old old asked source (Err error)
+  pub finds_none : (shown : Shown) (error : PairError) → HasShown (named_of source) (origin_of source) pair shown → IsJudged source pair shown (Err error) → FindsIn sink old old asked source (Err error)
   finds_none (founds.TooManySlots k) error is same = subst (FindsIn sink old old asked source) (sym same) (pair, is_pair, possible, (is, refl))
   finds_none founds.Enforced error is same = cc
   finds_none (founds.Replay plan) error is (hidden, are, same) = cc
 
 -- if the words name no pair, the refusal isn't about slots
-failed : (b : Bool) (x : Result Pair ViewError) (error other : ViewError) → (error ≡ other → ⊥) → cond b x (Err error) ≡ Err other → x ≡ Err other
+failed : (b : Bool) (x : Result Pair PairError) (error other : PairError) → (error ≡ other → ⊥) → cond b x (Err error) ≡ Err other → x ≡ Err other
 failed true x error other differs is = is
 failed false x error other differs is = let same : error ≡ other = cc in absurd (differs same)
 
@@ -114,7 +114,7 @@ no_slots names lines asked k is = by_instance (instance_named names asked.instan
     by_instance (Some p) h = slots_on names p (chart_lines lines p) asked.earlier asked.receive k h
 
 -- if the pair isn't found, nothing is written
-pub not_found : {S : Type 0} (sink : S → Sink) (old : S) (named : Named) (origin : Origin) (asked : Asked) (error : ViewError) → IsAskedFor named asked (Err error) → Finds sink old old (Err error) named origin asked
+pub not_found : {S : Type 0} (sink : S → Sink) (old : S) (named : Named) (origin : Origin) (asked : Asked) (error : PairError) → IsAskedFor named asked (Err error) → Finds sink old old (Err error) named origin asked
 not_found sink old named origin asked (Program Usage) is = absurd is
 not_found sink old named origin asked (Program File) is = absurd is
 not_found sink old named origin asked (Program Memory) is = refl
@@ -123,7 +123,7 @@ not_found sink old named origin asked (Program (ReceiveWithoutSend p index)) is 
 not_found sink old named origin asked (Program (NameMismatch p index)) is = (is, refl)
 not_found sink old named origin asked (Program Cyclic) is = (is, refl)
 not_found sink old named origin asked (Program Write) is = absurd is
-not_found sink old named origin asked (NoSuchEvent missing) is = (is.0, refl)
-not_found sink old named origin asked NotEarlier is = (is.0, refl)
-not_found sink old named origin asked (NotAReceive receive) is = (is.0, refl)
+not_found sink old named origin asked (NoSuchEvent missing) is = (is.0, is.1, refl)
+not_found sink old named origin asked NotEarlier is = (is.0, is.1, refl)
+not_found sink old named origin asked (NotAReceive receive) is = (is.0, is.1, refl)
 not_found sink old named origin asked (ManySlots k) is = absurd (no_slots named.0 named.1 asked k is.0)

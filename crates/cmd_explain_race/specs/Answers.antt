@@ -1,10 +1,10 @@
 -- The text on standard error.
 use Rattle.std.specs.Prelude.{ℕ, Bool, true, false, List, ◌++◌, Option, None, Some, codes, Result}
 use Rattle.cmd_base.specs.Answers.{Exit, exit_of}
-use Rattle.cmd_base.specs.NotDone.{told_of, not_done_text}
+use Rattle.cmd_base.specs.NotDone.{not_done_diagnostic, not_done_text}
 use Rattle.cmd_base.specs.Refusals as refusals
 use Rattle.cmd_base.specs.declared.not_done.NotDone.{NotDone}
-use Rattle.cmd_base.specs.declared.pairs.error.ViewError.{ViewError}
+use Rattle.cmd_base.specs.declared.pairs.error.PairError.{PairError}
 use Rattle.cmd_base.specs.Pairs.Answers.{error_exit}
 use Rattle.cmd_base.specs.Pairs.SayingText.{hidden_text}
 use Rattle.cmd_explain_race.specs.declared.verdict.Verdict.{Verdict}
@@ -52,8 +52,8 @@ witnessed_exit witnessed =
 
 -- the lines about a coregion that hides the pair, and about a schedule's commands that did nothing
 abbrev pub explained_diagnostics : Verdict → Option NotDone → Option (List ℕ)
-explained_diagnostics Enforced them = told_of them
-explained_diagnostics Race them = told_of them
+explained_diagnostics Enforced them = not_done_diagnostic them
+explained_diagnostics Race them = not_done_diagnostic them
 explained_diagnostics Hidden None = Some hidden_text
 explained_diagnostics Hidden (Some them) = Some (hidden_text ++ not_done_text them)
 
@@ -62,11 +62,11 @@ abbrev pub explained_exit : Explained → Exit
 explained_exit explained =
     record { status = code_of explained.verdict; diagnostics = explained_diagnostics explained.verdict explained.not_done }
 
-abbrev pub why_file_exit : Result Explained ViewError → Exit
+abbrev pub why_file_exit : Result Explained PairError → Exit
 why_file_exit = exit_of explained_exit error_exit
 
-abbrev pub why_exit : Result Verdict ViewError → Exit
+abbrev pub why_exit : Result Verdict PairError → Exit
 why_exit = exit_of verdict_exit error_exit
 
-abbrev pub witness_exit : Result Witnessed ViewError → Exit
+abbrev pub witness_exit : Result Witnessed PairError → Exit
 witness_exit = exit_of witnessed_exit error_exit

@@ -12,9 +12,9 @@ use Rattle.closure.specs.Chain.Pasts.{IsPast}
 use Rattle.texts.specs.Outs.{Sink}
 use Rattle.texts.specs.Writing.{Puts, Breaks}
 use Rattle.cmd_base.specs.declared.error.ProgramError.TheVariants as errors
-use Rattle.cmd_base.specs.Files.{Named, IsRefused}
-use Rattle.cmd_base.specs.declared.pairs.error.ViewError.{ViewError}
-use Rattle.cmd_base.specs.declared.pairs.error.ViewError.TheVariants.{Program, ManySlots}
+use Rattle.cmd_base.specs.Contents.{Named, IsRefused}
+use Rattle.cmd_base.specs.declared.pairs.error.PairError.{PairError}
+use Rattle.cmd_base.specs.declared.pairs.error.PairError.TheVariants.{Program, ManySlots}
 use Rattle.cmd_base.specs.declared.pairs.pair.Asked.{Asked}
 use Rattle.cmd_base.specs.declared.pairs.pair.Pair.{Pair}
 use Rattle.cmd_base.specs.declared.pairs.saying.Saying.{Saying}
@@ -57,7 +57,7 @@ sayings_text (names, lines) pair sayings =
 module _ {S : Type 0} (sink : S → Sink) where
   -- the lines that explain the pair were written, or a beginning of them, if a put failed; or nothing, if the chart
   -- isn't possible, there is no such pair, or memory ran out
-  abbrev pub Explains : S → S → Result Verdict ViewError → Named → Asked → Type 0
+  abbrev pub Explains : S → S → Result Verdict PairError → Named → Asked → Type 0
   Explains old new (Ok verdict) named asked = (pair : Pair) × (sayings : List Saying)
       × (pair_of named.0 named.1 asked ≡ Ok pair) × IsPossible (length named.1) (chart_lines named.1)
       × IsExplained (length named.1) (chart_lines named.1) pair verdict sayings

@@ -6,7 +6,7 @@ use Rattle.closure.specs.Faults.{place_of}
 use Rattle.cmd_base.specs.declared.error.ProgramError.TheVariants as errors
 use Rattle.cmd_base.specs.declared.source.Source.{Source}
 use Rattle.cmd_base.specs.declared.source.Source.TheVariants.{Run, Written}
-use Rattle.cmd_base.specs.Files.{Named}
+use Rattle.cmd_base.specs.Contents.{Named}
 use Rattle.cmd_base.specs.Texts.{named_of}
 use Rattle.reordering.specs.OtherRuns.OtherRuns.{CanBeOvertaken}
 use Rattle.schedule.specs.declared.command.Action.{Action}
@@ -15,8 +15,8 @@ use Rattle.schedule.specs.declared.command.Command.{Command}
 use Rattle.schedule.specs.Plans.{Plan}
 use Rattle.schedule_replay.specs.declared.reordered_runs.showing.Shown.{Shown}
 use Rattle.schedule_replay.specs.declared.reordered_runs.showing.Shown.TheVariants as founds
-use Rattle.cmd_base.specs.declared.pairs.error.ViewError.{ViewError}
-use Rattle.cmd_base.specs.declared.pairs.error.ViewError.TheVariants.{Program, ManySlots}
+use Rattle.cmd_base.specs.declared.pairs.error.PairError.{PairError}
+use Rattle.cmd_base.specs.declared.pairs.error.PairError.TheVariants.{Program, ManySlots}
 use Rattle.cmd_explain_race.specs.declared.finding.Found.{Found}
 use Rattle.cmd_base.specs.declared.pairs.pair.Asked.{Asked}
 use Rattle.cmd_base.specs.declared.pairs.pair.Pair.{Pair}
@@ -60,20 +60,20 @@ HasShown named origin pair founds.Enforced =
 HasShown named origin pair (founds.TooManySlots k) = NeedsSlots named origin pair k
 
 -- the result was found for the pair, or memory ran out
-abbrev pub IsFoundOf : Named → Origin → Pair → Result Found ViewError → Type 0
+abbrev pub IsFoundOf : Named → Origin → Pair → Result Found PairError → Type 0
 IsFoundOf named origin pair (Ok found) = (found.pair ≡ pair) × HasShown named origin pair found.shown
 IsFoundOf named origin pair (Err (Program errors.Memory)) = Unit {0}
 IsFoundOf named origin pair (Err error) = ⊥
 
 -- the result was found for the two events that the words name; or the chart isn't possible, there is no such pair, or
 -- memory ran out
-abbrev pub IsFound : Named → Origin → Asked → Result Found ViewError → Type 0
+abbrev pub IsFound : Named → Origin → Asked → Result Found PairError → Type 0
 IsFound named origin asked (Ok found) = (pair_of named.0 named.1 asked ≡ Ok found.pair)
     × IsPossible (length named.1) (chart_lines named.1) × HasShown named origin found.pair found.shown
 IsFound named origin asked (Err error) = IsAskedFor named asked (Err error)
 
 -- the verdict on the pair of the source's chart, by its result
-abbrev pub IsJudged : Source → Pair → Shown → Result Witnessed ViewError → Type 0
+abbrev pub IsJudged : Source → Pair → Shown → Result Witnessed PairError → Type 0
 IsJudged source pair (founds.Replay plan) result = (hidden : Bool)
     × AreInOneRegion (chart_lines (named_of source).1) pair hidden
     × (result ≡ Ok (record { verdict = verdict_in hidden; has_closes = closes_in source }))
@@ -81,5 +81,5 @@ IsJudged source pair founds.Enforced result =
     result ≡ Ok (record { verdict = Enforced; has_closes = closes_in source })
 IsJudged source pair (founds.TooManySlots k) result = result ≡ Err (ManySlots k)
 
-abbrev pub Judges : Source → Found → Result Witnessed ViewError → Type 0
+abbrev pub Judges : Source → Found → Result Witnessed PairError → Type 0
 Judges source found = IsJudged source found.pair found.shown

@@ -3,5 +3,5 @@ pub mod Explaining
 pub mod Finding
 pub mod Reordering
 pub mod Verdicts
-pub mod Views
+pub mod FilePairs
 pub mod Witnessing

@@ -9,7 +9,7 @@ use Rattle.chart.specs.declared.history.TheConstants.{MAX_CAPACITY}
 use Rattle.schedule.specs.Plans.{Plan}
 use Rattle.schedule.specs.ScheduleText.{schedule_text}
 use Rattle.cmd_base.specs.declared.error.ProgramError.TheVariants as errors
-use Rattle.cmd_base.specs.Files.{Named, IsRefused}
+use Rattle.cmd_base.specs.Contents.{Named, IsRefused}
 use Rattle.schedule_replay.specs.Recorded.{IsRecorded}
 use Rattle.schedule_replay.specs.ReorderedRuns.Runs.{IsLeastRun}
 use Rattle.schedule_replay.specs.ReorderedRuns.Schedules.{commands_of}
@@ -19,8 +19,8 @@ use Rattle.schedule_replay.specs.declared.reordered_runs.scheduling.TheConstants
 use Rattle.schedule_replay.specs.declared.reordered_runs.overtaking.Reordered.{Reordered}
 use Rattle.reordering.specs.Witness.Orders.{IsInOrder}
 use Rattle.chart.specs.declared.run_steps.step.Step.{Step}
-use Rattle.cmd_base.specs.declared.pairs.error.ViewError.{ViewError}
-use Rattle.cmd_base.specs.declared.pairs.error.ViewError.TheVariants.{Program, ManySlots}
+use Rattle.cmd_base.specs.declared.pairs.error.PairError.{PairError}
+use Rattle.cmd_base.specs.declared.pairs.error.PairError.TheVariants.{Program, ManySlots}
 use Rattle.cmd_base.specs.declared.pairs.pair.Asked.{Asked}
 use Rattle.cmd_base.specs.declared.pairs.pair.Pair.{Pair}
 use Rattle.cmd_explain_race.specs.declared.verdict.Verdict.{Verdict}
@@ -29,7 +29,7 @@ use Rattle.cmd_explain_race.specs.Explaining.{AreInOneRegion}
 use Rattle.cmd_base.specs.Pairs.Pairs.{pair_of}
 
 -- the two events of a possible chart that the words name
-abbrev pub IsAskedFor : Named → Asked → Result Pair ViewError → Type 0
+abbrev pub IsAskedFor : Named → Asked → Result Pair PairError → Type 0
 IsAskedFor named asked (Ok pair) = (pair_of named.0 named.1 asked ≡ Ok pair)
     × IsPossible (length named.1) (chart_lines named.1)
 IsAskedFor named asked (Err (Program errors.Memory)) = Unit {0}
@@ -83,7 +83,7 @@ NeedsSlots (names, lines) origin pair k = (MAX_CAPACITY < k)
 module _ {S : Type 0} (sink : S → Sink) where
   -- for a pair of the chart, the text of a witness was written, or a beginning of it, if a put failed; or nothing, if
   -- no run reverses the pair, each needs too many slots, or memory ran out
-  abbrev pub Shows : S → S → Result Verdict ViewError → Named → Origin → Pair → Type 0
+  abbrev pub Shows : S → S → Result Verdict PairError → Named → Origin → Pair → Type 0
   Shows old new (Ok Enforced) named origin pair =
       (CanBeOvertaken (length named.0) (chart_lines named.1) (place_of pair.earlier) (place_of pair.receive) → ⊥)
       × (new ≡ old)

@@ -12,7 +12,7 @@ use chart::line_events::events_of;
 use chart::{Chart, Line, Names};
 use closure::Closure;
 use closure::chain::{past, shortest_chain};
-use cmd_base::pairs::{Asked, Pair, Saying, ViewError, pair_in, write_sayings};
+use cmd_base::pairs::{Asked, Pair, PairError, Saying, pair_in, write_sayings};
 use cmd_base::{ProgramError, closure_of};
 use std::alloc::{AllocError, Global};
 use texts::Out;
@@ -83,20 +83,21 @@ pub(crate) fn why_in<W: Out>(
     chart: &Chart,
     asked: &Asked<'_>,
     out: &mut W,
-) -> Result<Verdict, ViewError>
+) -> Result<Verdict, PairError>
     requires { length names.now ≡ length chart.now }
     ensures { Explains W.sink out.old out.new result (names.now, chart.now) asked.now }
 {
     let lines = chart.lines();
     let closure = closure_of(alloc, names, chart)?;
     let pair = pair_in(names, lines, asked)?;
-    let Ok((verdict, sayings)) = explain(alloc, &closure, &pair) else {
-        return Err(ViewError::Program(ProgramError::Memory));
+    let (verdict, sayings) = match explain(alloc, &closure, &pair) {
+        Ok((verdict, sayings)) => (verdict, sayings),
+        Err(AllocError) => return Err(PairError::Program(ProgramError::Memory)),
     };
     let events = events_of(lines, pair.receive.instance);
     match write_sayings(names, events, sayings.as_slice(), out) {
         Ok(()) => Ok(verdict),
-        Err(_) => Err(ViewError::Program(ProgramError::Write)),
+        Err(_) => Err(PairError::Program(ProgramError::Write)),
     }
 }
 

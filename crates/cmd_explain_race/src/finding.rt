@@ -13,14 +13,14 @@ ghost use Rattle.cmd_explain_race.specs.Reordering.Origin.{from_chart, recorded}
 use crate::explained::are_in_one_region;
 use crate::verdict::{Verdict, Witnessed};
 use chart::{Chart, Names};
-use cmd_base::pairs::{Asked, Pair, ViewError, pair_in};
+use cmd_base::pairs::{Asked, Pair, PairError, pair_in};
 use cmd_base::{ProgramError, Source, closure_of};
-use schedule::outcomes::Outcome;
+use schedule::outcomes::{Outcome, ReplayError};
 use schedule::{Action, Schedule};
 use schedule_replay::reordered_runs::{
     Reordered, Shown, overtake_of_chart, overtake_of_schedule, show,
 };
-use std::alloc::Global;
+use std::alloc::{AllocError, Global};
 
 /// The pair of events, and the result of the search for their other order.
 #[derive(Debug, Drop)]
@@ -35,7 +35,7 @@ fn pair_of_possible(
     names: &Names,
     chart: &Chart,
     asked: &Asked<'_>,
-) -> Result<Pair, ViewError>
+) -> Result<Pair, PairError>
     requires { length names.now ≡ length chart.now }
     ensures { IsAskedFor (names.now, chart.now) asked.now result }
 {
@@ -50,7 +50,7 @@ fn found_of(
     chart: &Chart,
     reordered: &Reordered,
     pair: &Pair,
-) -> Result<Found, ViewError>
+) -> Result<Found, PairError>
     requires named { length names.now ≡ length chart.now }
     requires reordered { (first : ℕ) × (1 ≤ first) × IsReordered (length names.now) first (chart_lines chart.now)
         (place_of pair.now.earlier) (place_of pair.now.receive) reordered.now }
@@ -63,7 +63,7 @@ fn found_of(
     prove!(2 <= lines.len());
     match show(alloc, names, reordered) {
         Ok(shown) => Ok(Found { pair: *pair, shown }),
-        Err(_) => Err(ViewError::Program(ProgramError::Memory)),
+        Err(AllocError) => Err(PairError::Program(ProgramError::Memory)),
     }
 }
 
@@ -73,13 +73,14 @@ fn found_in_chart(
     names: &Names,
     chart: &Chart,
     asked: &Asked<'_>,
-) -> Result<Found, ViewError>
+) -> Result<Found, PairError>
     requires { length names.now ≡ length chart.now }
     ensures { IsFound (names.now, chart.now) from_chart asked.now result }
 {
     let pair = pair_of_possible(alloc, names, chart, asked)?;
-    let Ok(reordered) = overtake_of_chart(alloc, chart, pair.receive, pair.earlier) else {
-        return Err(ViewError::Program(ProgramError::Memory));
+    let reordered = match overtake_of_chart(alloc, chart, pair.receive, pair.earlier) {
+        Ok(reordered) => reordered,
+        Err(AllocError) => return Err(PairError::Program(ProgramError::Memory)),
     };
     found_of(alloc, names, chart, &reordered, &pair)
 }
@@ -91,13 +92,14 @@ fn found_in_run(
     schedule: &Schedule,
     outcome: &Outcome<'_>,
     asked: &Asked<'_>,
-) -> Result<Found, ViewError>
+) -> Result<Found, PairError>
     requires { IsOutcome schedule.now outcome.now }
     ensures { IsFound (outcome.now.names, outcome.now.chart) (recorded schedule.now) asked.now result }
 {
     let pair = pair_of_possible(alloc, outcome.names(), outcome.chart(), asked)?;
-    let Ok(reordered) = overtake_of_schedule(alloc, schedule, pair.receive, pair.earlier) else {
-        return Err(ViewError::Program(ProgramError::Memory));
+    let reordered = match overtake_of_schedule(alloc, schedule, pair.receive, pair.earlier) {
+        Ok(reordered) => reordered,
+        Err(ReplayError::Memory) => return Err(PairError::Program(ProgramError::Memory)),
     };
     prove!(1 <= schedule.capacity().slots());
     found_of(alloc, outcome.names(), outcome.chart(), &reordered, &pair)
@@ -106,7 +108,7 @@ fn found_in_run(
 /// The result for two events of a chart that was read: a schedule with a run that reverses them; or that no run does;
 /// or how many slots a run needs. F16, F17 or F18: the chart isn't possible. F31 or F32: the chart has no such pair.
 /// F6: a growth was refused.
-pub fn found_in(alloc: Global, source: &Source<'_>, asked: &Asked<'_>) -> Result<Found, ViewError>
+pub fn found_in(alloc: Global, source: &Source<'_>, asked: &Asked<'_>) -> Result<Found, PairError>
     requires { ComesFrom source.now }
     ensures { IsFound (named_of source.now) (origin_of source.now) asked.now result }
 {
@@ -148,13 +150,13 @@ fn closes_in(source: &Source<'_>) -> bool
 
 /// The verdict on the two events of the source's chart, by the result for them. F33: all runs that reverse them need
 /// more than 64 slots.
-pub fn judged(source: &Source<'_>, found: &Found) -> Result<Witnessed, ViewError>
+pub fn judged(source: &Source<'_>, found: &Found) -> Result<Witnessed, PairError>
     requires { IsPair (chart_lines (named_of source.now).1) found.now.pair }
     ensures { Judges source.now found.now result }
 {
     let verdict = match &found.shown {
         Shown::Enforced => Verdict::Enforced,
-        Shown::TooManySlots(slots) => return Err(ViewError::ManySlots(*slots as u64)),
+        Shown::TooManySlots(slots) => return Err(PairError::ManySlots(*slots as u64)),
         Shown::Replay(_) => Verdict::of(are_in_one_region(source.chart().lines(), &found.pair)),
     };
     Ok(Witnessed {

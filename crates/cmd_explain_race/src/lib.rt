@@ -27,13 +27,13 @@
 mod answering;
 mod explained;
 mod explaining;
+mod file_pairs;
 mod finding;
 mod verdict;
-mod view;
 mod witnessing;
 
 pub use explained::one_explanation_law;
+pub use file_pairs::{why, why_of_source};
 pub use finding::{Found, found_in, judged};
 pub use verdict::{Explained, Verdict, Witnessed};
-pub use view::{why, why_of_source};
 pub use witnessing::{witness, witness_of_source};

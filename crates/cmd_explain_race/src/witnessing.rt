@@ -6,20 +6,20 @@ ghost use Rattle.cmd_explain_race.specs.Witnessing.{WritesShown, FindsIn, Witnes
 
 use crate::finding::{found_in, judged};
 use crate::verdict::Witnessed;
-use cmd_base::pairs::{Asked, ViewError};
+use cmd_base::pairs::{Asked, PairError};
 use cmd_base::{ProgramError, Source, Text, answered};
 use schedule_replay::reordered_runs::Shown;
 use std::alloc::Global;
 use texts::Out;
 
 /// Writes the schedule that was found, if there is one.
-fn write_shown<W: Out>(shown: &Shown, out: &mut W) -> Result<(), ViewError>
+fn write_shown<W: Out>(shown: &Shown, out: &mut W) -> Result<(), PairError>
     ensures { WritesShown W.sink out.old out.new shown.now result }
 {
     match shown {
         Shown::Replay(schedule) => match schedule.write(out) {
             Ok(()) => Ok(()),
-            Err(_) => Err(ViewError::Program(ProgramError::Write)),
+            Err(_) => Err(PairError::Program(ProgramError::Write)),
         },
         Shown::Enforced | Shown::TooManySlots(_) => Ok(()),
     }
@@ -31,7 +31,7 @@ fn witness_of<W: Out>(
     source: &Source<'_>,
     asked: &Asked<'_>,
     out: &mut W,
-) -> Result<Witnessed, ViewError>
+) -> Result<Witnessed, PairError>
     requires { ComesFrom source.now }
     ensures { FindsIn W.sink out.old out.new asked.now source.now result }
 {
@@ -61,7 +61,7 @@ fn witness_text<W: Out>(
     bytes: &[u8],
     asked: &Asked<'_>,
     out: &mut W,
-) -> Result<Witnessed, ViewError>
+) -> Result<Witnessed, PairError>
     ensures { Witnesses W.sink out.old out.new bytes.now asked.now result }
 {
     let text = Text::read(alloc, bytes)?;

@@ -5,7 +5,7 @@ use Rattle.std.specs.List.{flat_map}
 use Rattle.diagram_labels.specs.declared.renaming.Renamed.{Renamed}
 use Rattle.diagrams.specs.declared.left_out.LeftOut.{LeftOut}
 use Rattle.diagram_join.specs.declared.moves.Overtaking.{Overtaking}
-use Rattle.diagram_labels.specs.Renamed.Telling.{renamed_line}
+use Rattle.diagram_labels.specs.Renamed.Reporting.{renamed_line}
 use Rattle.cmd_import_diagram.specs.KindWords.{kind_word, kind_words, kind_reading}
 
 -- the warning about one skipped construct, with its line and the way in which it is read

@@ -6,16 +6,16 @@ use Rattle.diagram_import.specs.Refusals.{Fails}
 use Rattle.diagram_import.specs.declared.error.ImportError.{ImportError}
 use Rattle.cmd_base.specs.Answers.{Exit, refusal, exit_of}
 use Rattle.cmd_base.specs.Refusals.{labelled_text}
-use Rattle.diagram_join.specs.Drawing.{joined_chart_view}
-use Rattle.diagram_join.specs.declared.drawing.JoinedChart.{JoinedChart}
+use Rattle.diagram_join.specs.Building.{joined_chart_view}
+use Rattle.diagram_join.specs.declared.building.JoinedChart.{JoinedChart}
 use Rattle.msc_text.specs.ChartText.{chart_text}
 use Rattle.texts.specs.Outs.{Sink}
 use Rattle.texts.specs.Writing.{Puts, Breaks}
 use Rattle.diagram_tool.specs.declared.Tool.{Tool}
 use Rattle.cmd_import_diagram.specs.Order.{in_order}
-use Rattle.cmd_import_diagram.specs.Refusals.{drawing_refusal_text}
+use Rattle.cmd_import_diagram.specs.Refusals.{diagram_refusal_text}
 use Rattle.cmd_import_diagram.specs.Diagnostics.{diagnostics_text}
-use Rattle.cmd_import_diagram.specs.declared.importing.Drawing.{Drawing}
+use Rattle.cmd_import_diagram.specs.declared.importing.ImportedDiagram.{ImportedDiagram}
 use Rattle.cmd_import_diagram.specs.declared.importing.Diagnostics.{Diagnostics}
 use Rattle.cmd_import_diagram.specs.declared.importing.ImportWriteError.{ImportWriteError}
 use Rattle.cmd_import_diagram.specs.declared.importing.ImportWriteError.TheVariants.{Diagram, Write}
@@ -30,14 +30,14 @@ abbrev pub AreDiagnosticsOf : Diagnostics → JoinedChart → Type 0
 AreDiagnosticsOf diagnostics built = (diagnostics.left_out.items ≡ in_order built.built.left_out.items) × (diagnostics.overtaking ≡ built.overtaking) × (diagnostics.renamed ≡ built.built.renamed)
 
 -- the names and the chart are those of the bytes, and the warnings are those about the chart
-abbrev pub IsDrawingOf : Drawing → Option Tool → List ℕ → OptionsView → Type 0
-IsDrawingOf drawing tool bytes options = (built : JoinedChart) × IsChartOf built tool bytes options
-    × AreDiagnosticsOf drawing.diagnostics built × (drawing.names ≡ built.built.names) × (drawing.chart ≡ built.built.chart)
+abbrev pub IsImportedDiagram : ImportedDiagram → Option Tool → List ℕ → OptionsView → Type 0
+IsImportedDiagram diagram tool bytes options = (built : JoinedChart) × IsChartOf built tool bytes options
+    × AreDiagnosticsOf diagram.diagnostics built × (diagram.names ≡ built.built.names) × (diagram.chart ≡ built.built.chart)
 
 -- the result is the chart of the bytes, or the bytes are refused, or memory ran out
-abbrev pub ReadsDrawing : Result Drawing ImportError → Option Tool → List ℕ → OptionsView → Type 0
-ReadsDrawing (Ok drawing) tool bytes options = IsDrawingOf drawing tool bytes options
-ReadsDrawing (Err error) tool bytes options = Fails error (imported tool bytes options)
+abbrev pub ReadsDiagram : Result ImportedDiagram ImportError → Option Tool → List ℕ → OptionsView → Type 0
+ReadsDiagram (Ok diagram) tool bytes options = IsImportedDiagram diagram tool bytes options
+ReadsDiagram (Err error) tool bytes options = Fails error (imported tool bytes options)
 
 module _ {S : Type 0} (sink : S → Sink) where
   -- the text of the bytes' chart was written; or a beginning of it, if a put failed; or nothing, if the bytes are
@@ -56,7 +56,7 @@ diagnostics_exit diagnostics = record { status = 0; diagnostics = Some (diagnost
 -- the exit after a refusal
 abbrev pub import_write_error_exit : ImportWriteError → Exit
 import_write_error_exit Write = refusal (labelled_text (codes "F24 Write") None)
-import_write_error_exit (Diagram error) = refusal (drawing_refusal_text error)
+import_write_error_exit (Diagram error) = refusal (diagram_refusal_text error)
 
 -- the exit after an import
 abbrev pub imported_exit : Result Diagnostics ImportWriteError → Exit

@@ -22,10 +22,10 @@ chart_refusal_text (charts.LineFull line) = labelled_text (codes "F7 LineFull") 
 chart_refusal_text (charts.NotPossible line) = labelled_text (codes "F37 NotPossible") (Some line)
 
 -- the line of a refusal of a tool's text
-abbrev pub drawing_refusal_text : ImportError → List ℕ
-drawing_refusal_text diagrams.Memory = labelled_text (codes "F6 Memory") None
-drawing_refusal_text diagrams.Usage = labelled_text (codes "G1 Usage") None
-drawing_refusal_text diagrams.Unfinished = labelled_text (codes "F21 Unfinished") None
-drawing_refusal_text (diagrams.UnknownInstance line) = labelled_text (codes "F23 UnknownInstance") (Some line)
-drawing_refusal_text (diagrams.NotRead place words) = not_read_text place words.items
-drawing_refusal_text (diagrams.NoChart error) = chart_refusal_text error
+abbrev pub diagram_refusal_text : ImportError → List ℕ
+diagram_refusal_text diagrams.Memory = labelled_text (codes "F6 Memory") None
+diagram_refusal_text diagrams.Usage = labelled_text (codes "G1 Usage") None
+diagram_refusal_text diagrams.Unfinished = labelled_text (codes "F21 Unfinished") None
+diagram_refusal_text (diagrams.UnknownInstance line) = labelled_text (codes "F23 UnknownInstance") (Some line)
+diagram_refusal_text (diagrams.NotRead place words) = not_read_text place words.items
+diagram_refusal_text (diagrams.NoChart error) = chart_refusal_text error

@@ -3,7 +3,7 @@ ghost use Rattle.std.specs.Prelude.{◌≡◌};
 ghost use Rattle.std.specs.List.{flat_map};
 ghost use Rattle.texts.specs.Writing.{Wrote, Adds};
 ghost use Rattle.cmd_import_diagram.specs.Diagnostics.{one_line, several_line, left_out_line, overtaking_line};
-ghost use Rattle.diagram_labels.specs.Renamed.Telling.{is};
+ghost use Rattle.diagram_labels.specs.Renamed.Reporting.{is};
 ghost use Rattle.cmd_import_diagram.specs.Diagnostics.{diagnostics_text};
 
 use crate::kind_words::{kind_reading, kind_word, kind_words};
@@ -137,9 +137,9 @@ fn add_diagnostics<V: Out>(
     add_all_renamed(text, renamed)
 }
 
-/// Writes the warnings about a chart.
+/// Writes the warnings about a chart, or about a picture of it. F24: a put failed.
 #[tactic(auto, using(texts::proofs::Writes::joining))]
-pub(crate) fn write_diagnostics<V: Out>(
+pub fn write_diagnostics<V: Out>(
     left_out: &[LeftOut],
     overtaking: &[Overtaking],
     renamed: &[Renamed],

@@ -4,8 +4,8 @@ ghost use Rattle.texts.specs.Writing.{Wrote, Adds};
 ghost use Rattle.cmd_base.specs.Answers.{Answers};
 ghost use Rattle.cmd_base.specs.Refusals.{Tried};
 ghost use Rattle.diagram_import.specs.Importing.{options_view};
-ghost use Rattle.cmd_import_diagram.specs.Importing.{ReadsDrawing, Imports};
-ghost use Rattle.cmd_import_diagram.specs.Refusals.{not_read_text, chart_refusal_text, drawing_refusal_text};
+ghost use Rattle.cmd_import_diagram.specs.Importing.{ReadsDiagram, Imports};
+ghost use Rattle.cmd_import_diagram.specs.Refusals.{not_read_text, chart_refusal_text, diagram_refusal_text};
 ghost use Rattle.cmd_import_diagram.specs.Importing.{diagnostics_exit, import_write_error_exit, imported_exit};
 
 use crate::diagnostics::write_diagnostics;
@@ -17,7 +17,7 @@ use diagram_join::{JoinError, JoinedChart, Overtaking};
 use diagram_labels::Renamed;
 use diagram_tool::Tool;
 use diagrams::{DiagramChart, LeftOut, Place};
-use std::alloc::Global;
+use std::alloc::{AllocError, Global};
 use texts::pieces::{Piece, add_pieces};
 use texts::{Out, TextBuffer, WriteError};
 
@@ -32,7 +32,7 @@ pub struct Diagnostics {
 
 /// The chart of a tool's text, with its warnings.
 #[derive(Debug, Drop)]
-pub struct Drawing {
+pub struct ImportedDiagram {
     /// A name for each line of the chart.
     pub names: Names,
     pub chart: Chart,
@@ -50,13 +50,13 @@ pub enum ImportWriteError {
 
 /// The chart of a tool's text. The tool is the named one, or otherwise the detected one. The chart is possible.
 /// Refusals are those of [`import_text`].
-pub fn drawing_in(
+pub fn imported_diagram(
     alloc: Global,
     tool: Option<Tool>,
     text: &[u8],
     options: Options<'_>,
-) -> Result<Drawing, ImportError>
-    ensures reads { ReadsDrawing result tool text.now (options_view options.entry) }
+) -> Result<ImportedDiagram, ImportError>
+    ensures reads { ReadsDiagram result tool text.now (options_view options.entry) }
     ensures named { IfOk result (λ d. length d.names ≡ length d.chart) }
 {
     let JoinedChart { built, overtaking } = import_text(alloc, tool, text, options)?;
@@ -68,9 +68,9 @@ pub fn drawing_in(
     } = built;
     let left_out = match in_order(alloc, &left_out) {
         Ok(left_out) => left_out,
-        Err(_) => return Err(ImportError::Memory),
+        Err(AllocError) => return Err(ImportError::Memory),
     };
-    Ok(Drawing {
+    Ok(ImportedDiagram {
         names,
         chart,
         diagnostics: Diagnostics {
@@ -91,12 +91,12 @@ fn translate<W: Out>(
 ) -> Result<Diagnostics, ImportWriteError>
     ensures { Imports W.sink out.old out.new result tool text.now (options_view options.entry) }
 {
-    let drawing = match drawing_in(alloc, tool, text, options) {
-        Ok(drawing) => drawing,
+    let diagram = match imported_diagram(alloc, tool, text, options) {
+        Ok(diagram) => diagram,
         Err(error) => return Err(ImportWriteError::Diagram(error)),
     };
-    match msc_text::write(&drawing.names, &drawing.chart, out) {
-        Ok(()) => Ok(drawing.diagnostics),
+    match msc_text::write(&diagram.names, &diagram.chart, out) {
+        Ok(()) => Ok(diagram.diagnostics),
         Err(_) => Err(ImportWriteError::Write),
     }
 }
@@ -159,9 +159,9 @@ fn refused_chart<V: Out>(error: JoinError, err: &mut V) -> u8
 
 /// Prints the line of a refusal of a tool's text. Returns the exit status, which is 2 whether or not the line could be
 /// written.
-pub fn refused_drawing<V: Out>(error: &ImportError, err: &mut V) -> u8
+pub fn refused_diagram<V: Out>(error: &ImportError, err: &mut V) -> u8
     ensures status { result ≡ 2 }
-    ensures line { Tried V.sink err.old err.new (drawing_refusal_text error.now) }
+    ensures line { Tried V.sink err.old err.new (diagram_refusal_text error.now) }
 {
     match error {
         ImportError::Memory => refused_by(b"F6 Memory", None, err),
@@ -199,7 +199,7 @@ impl Answer for ImportWriteError {
     fn print_diagnostics<V: Out>(&self, err: &mut V) {
         let _ = match self {
             ImportWriteError::Write => refused_by(b"F24 Write", None, err),
-            ImportWriteError::Diagram(error) => refused_drawing(error, err),
+            ImportWriteError::Diagram(error) => refused_diagram(error, err),
         };
     }
 }

@@ -14,6 +14,8 @@ mod importing;
 mod kind_words;
 mod order;
 
-pub use diagnostics::{add_left_out, add_overtaking};
-pub use importing::{Diagnostics, Drawing, ImportWriteError, drawing_in, import, refused_drawing};
+pub use diagnostics::{add_left_out, add_overtaking, write_diagnostics};
+pub use importing::{
+    Diagnostics, ImportWriteError, ImportedDiagram, import, imported_diagram, refused_diagram,
+};
 pub use order::in_order;

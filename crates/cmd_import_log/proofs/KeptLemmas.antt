@@ -5,7 +5,7 @@ use Rattle.std.proofs.lemmas.Bool.{cases_lt, eq-eqb, false≢true}
 use Rattle.std.proofs.lemmas.List.{length-map, get_or_past}
 use Rattle.std.proofs.lemmas.List.Elements.{All-filter, All-weaker}
 use Rattle.std.proofs.lemmas.Option.{none-some, slice_get-map, slice_get-get_or, slice_get_read, slice_get_within, get_or_from_slice_get}
-use Rattle.chart.specs.Charts.{Place, LineView, IsNumbered, chart_lines, IsSendTo}
+use Rattle.chart.specs.Charts.{Place, LineView, IsNumbered, IsPossible, chart_lines, IsSendTo}
 use Rattle.chart.specs.Events.{ith, is_send_to, send_event, receive_event}
 use Rattle.log_chart.specs.Entries.{is_send, HaveStreams}
 use Rattle.log_chart.specs.Fates.{fate_of, stays}
@@ -32,7 +32,7 @@ use Rattle.log_chart.specs.declared.named.entering.LogError.{LogError}
 use Rattle.log_chart.specs.declared.named.entering.LogError.TheVariants.{Instances}
 use Rattle.log_chart.proofs.CyclesLemmas.SettleLemmas.{settled_streams, settled_among}
 use Rattle.log_chart.proofs.NamedLemmas.EntryLemmas.{have_streams, are_among}
-use Rattle.cmd_import_log.specs.Drawing.{named_in}
+use Rattle.cmd_import_log.specs.Imported.{named_in}
 use Rattle.cmd_import_log.specs.Entries.{host_event_of, entries_in, names_in}
 use Rattle.cmd_import_log.specs.Options.{OptionsView}
 use Rattle.cmd_import_log.specs.Recording.{lent_of, IsRecordingOf, Records}
@@ -139,38 +139,42 @@ numbered_chart n log i l is =
     ap (λ (x : LineView). x.instance) (sym (get_or_from_slice_get lines i l l is) ∙ view_is n log i l (omega (arith, within, whole)))
 
 -- the lines of a recording's chart are numbered
-is_numbered : (o : OptionsView) (texts : List (List ℕ)) (r : LogRecording) → IsRecordingOf o texts r → IsNumbered r.drawing.chart
+is_numbered : (o : OptionsView) (texts : List (List ℕ)) (r : LogRecording) → IsRecordingOf o texts r → IsNumbered r.imported.chart
 is_numbered o texts r its =
-    let drawing = its.recording.drawing in
-    subst IsNumbered (sym (drawing.chart ∙ drawing.is_built.chart)) (numbered_chart (length (names_in (named_in o its.log))) drawing.settled)
+    let imported = its.recording.imported in
+    subst IsNumbered (sym (imported.chart ∙ imported.is_built.chart)) (numbered_chart (length (names_in (named_in o its.log))) imported.settled)
 
 -- a log's recording satisfies what its judge needs
 is_recording : (o : OptionsView) (texts : List (List ℕ)) (r : LogRecording) → IsRecordingOf o texts r → length r.words.items ≡ length r.lines.items → AllPairs (λ a b. a.line ≤ b.line) (lent_of r).taken
-    → IsRecording r.drawing.chart (lent_of r)
+    → IsRecording r.imported.chart (lent_of r)
 is_recording o texts r its whole rises =
-    let drawing = its.recording.drawing in
+    let imported = its.recording.imported in
     let recorded = its.recording.recorded in
     let n = named_in o its.log in
-    let settled = drawing.settled in
-    let hosts = length r.drawing.diagnostics.names in
+    let settled = imported.settled in
+    let hosts = length r.imported.diagnostics.names in
     let rec : RecordingView = lent_of r in
-    let have = settled_streams (entries_in n) settled drawing.settles (have_streams n.hosts.names (map host_event_of n.lines)) in
+    let have = settled_streams (entries_in n) settled imported.settles (have_streams n.hosts.names (map host_event_of n.lines)) in
     let words : length rec.words ≡ length (matched settled) = length-map r.words.items words_view ∙ whole ∙ ap length recorded.lines in
-    let names : length (names_in n) ≡ hosts = ap length (sym drawing.diagnostics.names) in
-    let none = no_fault (nat_lt MAX_INSTANCES (length (fold with_word [] n.hosts.names))) (first_fault (begun n.hosts.names) (map host_event_of n.lines)) drawing.faultless in
-    let two = subst (λ (k : ℕ). AreAmong k settled) names (settled_among (length (names_in n)) (entries_in n) settled drawing.settles (are_among n.hosts.names (map host_event_of n.lines) none)) in
+    let names : length (names_in n) ≡ hosts = ap length (sym imported.diagnostics.names) in
+    let none = no_fault (nat_lt MAX_INSTANCES (length (fold with_word [] n.hosts.names))) (first_fault (begun n.hosts.names) (map host_event_of n.lines)) imported.faultless in
+    let two = subst (λ (k : ℕ). AreAmong k settled) names (settled_among (length (names_in n)) (entries_in n) settled imported.settles (are_among n.hosts.names (map host_event_of n.lines) none)) in
     let of_log = recording_of hosts settled rec.words rec.taken rec.arrivals have two words rises in
-    let chart : r.drawing.chart ≡ chart_from settled 1 (host_lines hosts settled) =
-    drawing.chart ∙ drawing.is_built.chart ∙ ap (λ k. chart_from settled 1 (host_lines k settled)) names in
+    let chart : r.imported.chart ≡ chart_from settled 1 (host_lines hosts settled) =
+    imported.chart ∙ imported.is_built.chart ∙ ap (λ k. chart_from settled 1 (host_lines k settled)) names in
     subst (λ (ls : List LineView). IsRecording ls rec) (sym chart)
     (subst (λ (ls : List LogLine). IsRecording (chart_from settled 1 (host_lines hosts settled)) (record rec { lines = ls })) (sym recorded.lines)
     (subst (λ (hs : List (List Item)). IsRecording (chart_from settled 1 (host_lines hosts settled)) (record rec { lines = matched settled; hosts = hs })) (sym recorded.hosts) of_log))
 
 -- the same for a result
-pub records_keep : (o : OptionsView) (texts : List (List ℕ)) (result : Result LogRecording LogImportError) → Records result o texts → IfOk result (λ r. IsRecording r.drawing.chart (lent_of r))
+pub records_keep : (o : OptionsView) (texts : List (List ℕ)) (result : Result LogRecording LogImportError) → Records result o texts → IfOk result (λ r. IsRecording r.imported.chart (lent_of r))
 records_keep o texts (Ok r) its = is_recording o texts r its (words_for_all o texts r its) (taken_rises o texts r its)
 records_keep o texts (Err e) its = tt
 
-pub records_numbered : (o : OptionsView) (texts : List (List ℕ)) (result : Result LogRecording LogImportError) → Records result o texts → IfOk result (λ r. IsNumbered r.drawing.chart)
+pub records_numbered : (o : OptionsView) (texts : List (List ℕ)) (result : Result LogRecording LogImportError) → Records result o texts → IfOk result (λ r. IsNumbered r.imported.chart)
 records_numbered o texts (Ok r) its = is_numbered o texts r its
 records_numbered o texts (Err e) its = tt
+
+pub records_possible : (o : OptionsView) (texts : List (List ℕ)) (result : Result LogRecording LogImportError) → Records result o texts → IfOk result (λ r. IsPossible (length r.imported.chart) (chart_lines r.imported.chart))
+records_possible o texts (Ok r) its = its.recording.imported.possible
+records_possible o texts (Err e) its = tt

@@ -1,6 +1,13 @@
 pub mod CountLemmas
-pub mod DrawingLemmas
+pub mod ImportedLemmas
+pub mod EntryNameLemmas
+pub mod HostNameLemmas
 pub mod KeptLemmas
+pub mod PeerEntryLemmas
+pub mod ReadEntryLemmas
 pub mod ReadingLemmas
+pub mod RecordedClockLemmas
+pub mod RecordedLuckLemmas
 pub mod RecordingLemmas
 pub mod RefusalLemmas
+pub mod UnreadLemmas

@@ -19,27 +19,27 @@ use Rattle.log_lines.specs.declared.takes.observations.Observations.{Observation
 use Rattle.log_chart.proofs.OrderLemmas.{matched_length}
 use Rattle.log_chart.specs.declared.entry.Entry.{Entry}
 use Rattle.race_verdicts.specs.Recordings.{TakenView, words_view}
-use Rattle.cmd_import_log.specs.Drawing.{beside_with, named_in, IsNamedDrawing, IsLog, IsRefused}
+use Rattle.cmd_import_log.specs.Imported.{beside_with, named_in, IsImportedNamed, IsLog, IsRefused}
 use Rattle.cmd_import_log.specs.Entries.{host_event_of, entries_in}
 use Rattle.cmd_import_log.specs.Options.{FormView, Plain, Pattern, ShiViz, OptionsView}
 use Rattle.cmd_import_log.specs.Reading.{LogView, IsKept}
 use Rattle.cmd_import_log.specs.Recording.{is_known, Observes, lent_of, IsRecorded, IsNamedRecording, RecordsNamed, IsRecordingOf, Records}
-use Rattle.cmd_import_log.specs.declared.drawing.Beside.{Beside}
-use Rattle.cmd_import_log.specs.declared.drawing.LogDrawing.{LogDrawing}
+use Rattle.cmd_import_log.specs.declared.imported.Beside.{Beside}
+use Rattle.cmd_import_log.specs.declared.imported.ImportedLog.{ImportedLog}
 use Rattle.cmd_import_log.specs.declared.error.LogImportError.{LogImportError}
 use Rattle.cmd_import_log.specs.declared.error.LogImportError.TheVariants.{Memory, BadPattern, NotALog, NoReceive, Instances, ToItself, LineFull}
 use Rattle.cmd_import_log.specs.declared.recording.LogRecording.{LogRecording}
 
 -- a chart, and the entries that it was made from
-abbrev IsOfEntries : List Entry → Beside → NamedView → LogDrawing → Type 0
-IsOfEntries settled b n d = (its : IsNamedDrawing b n d) × (its.settled ≡ settled)
+abbrev IsOfEntries : List Entry → Beside → NamedView → ImportedLog → Type 0
+IsOfEntries settled b n d = (its : IsImportedNamed b n d) × (its.settled ≡ settled)
 
 -- the recording of the entries of a chart
-pub named_as : (b : Beside) (n : NamedView) (o : OptionsView) (logged : List LoggedEventView) (observed : ObservationsView) (r : LogRecording) (settled : List Entry) (d : LogDrawing) → r.drawing ≡ d → IsOfEntries settled b n d
+pub named_as : (b : Beside) (n : NamedView) (o : OptionsView) (logged : List LoggedEventView) (observed : ObservationsView) (r : LogRecording) (settled : List Entry) (d : ImportedLog) → r.imported ≡ d → IsOfEntries settled b n d
     → IsRecorded o logged settled observed r → r.is_known ≡ is_known o.form b → IsNamedRecording b n o logged observed r
 named_as b n o logged observed r settled d same its recorded known =
     let built = subst (IsOfEntries settled b n) (sym same) its in
-    record { drawing = built.0; recorded = subst (λ (e : List Entry). IsRecorded o logged e observed r) (sym built.1) recorded; known = known }
+    record { imported = built.0; recorded = subst (λ (e : List Entry). IsRecorded o logged e observed r) (sym built.1) recorded; known = known }
 
 module _ (o : OptionsView) (texts : List (List ℕ)) (log : LogView) (is_log : IsLog o texts log) (observed : ObservationsView) (observes : Observes o.form o texts observed) where
   pub records_as : (result : Result LogRecording LogImportError) (b : Beside) (n : NamedView) (logged : List LoggedEventView) → b ≡ beside_with observed.misspelled log → n ≡ named_in o log → logged ≡ log.read.logged
@@ -55,8 +55,8 @@ module _ (o : OptionsView) (texts : List (List ℕ)) (log : LogView) (is_log : I
   }
   records_as (Err Memory) b n logged be ne se refused = tt
   records_as (Err (BadPattern place fault)) b n logged be ne se refused = absurd refused
-  records_as (Err (NotALog lines others)) b n logged be ne se refused = absurd refused
-  records_as (Err (NoReceive sends lines others)) b n logged be ne se refused = absurd refused
+  records_as (Err (NotALog lines others unread)) b n logged be ne se refused = absurd refused
+  records_as (Err (NoReceive sends lines others unread)) b n logged be ne se refused = absurd refused
   records_as (Err Instances) b n logged be ne se refused = record { log = log; is_log = is_log; refused = subst (λ (y : NamedView). IsRefused y Instances) ne refused }
   records_as (Err (ToItself place)) b n logged be ne se refused = record { log = log; is_log = is_log; refused = subst (λ (y : NamedView). IsRefused y (ToItself place)) ne refused }
   records_as (Err (LineFull name)) b n logged be ne se refused = record { log = log; is_log = is_log; refused = subst (λ (y : NamedView). IsRefused y (LineFull name)) ne refused }
@@ -77,15 +77,15 @@ pub words_for_all : (o : OptionsView) (texts : List (List ℕ)) (r : LogRecordin
 words_for_all o texts r its =
     let logged = its.log.read.logged in
     let n = named_in o its.log in
-    let drawing = its.recording.drawing in
+    let imported = its.recording.imported in
     let recorded = its.recording.recorded in
     sym (length-map r.words.items words_view)
     ∙ ap length recorded.words
     ∙ words_whole o.hosts o.peers logged
     ∙ sym (length-map n.lines host_event_of)
     ∙ sym (entries_whole (begun n.hosts.names) (map host_event_of n.lines))
-    ∙ sym (settled_length (entries_in n) drawing.settled drawing.settles)
-    ∙ sym (matched_length drawing.settled)
+    ∙ sym (settled_length (entries_in n) imported.settled imported.settles)
+    ∙ sym (matched_length imported.settled)
     ∙ sym (ap length recorded.lines)
 
 -- what receives would have taken is in the order of their lines

@@ -1,5 +1,5 @@
-pub mod Spots
 pub mod DiagnosticLines
 pub mod EventsRead
 pub mod AlikeHosts
 pub mod Diagnostics
+pub mod Claims

@@ -7,10 +7,10 @@ use Rattle.cmd_import_log.specs.declared.answers.diagnostics.Diagnostics.{Diagno
 use Rattle.msc_text.specs.ChartText.{chart_text}
 use Rattle.texts.specs.Outs.{Sink}
 use Rattle.texts.specs.Writing.{Puts, Breaks}
-use Rattle.cmd_import_log.specs.Drawing.{IsDrawingOf, IsRefusalOf}
+use Rattle.cmd_import_log.specs.Imported.{IsImportedLog, IsRefusalOf}
 use Rattle.cmd_import_log.specs.Options.{OptionsView}
 use Rattle.cmd_import_log.specs.Refusals.{log_refusal_text}
-use Rattle.cmd_import_log.specs.declared.drawing.LogDrawing.{LogDrawing}
+use Rattle.cmd_import_log.specs.declared.imported.ImportedLog.{ImportedLog}
 use Rattle.cmd_import_log.specs.declared.importing.LogWriteError.{LogWriteError}
 use Rattle.cmd_import_log.specs.declared.importing.LogWriteError.TheVariants.{Log, Write}
 
@@ -18,10 +18,10 @@ module _ {S : Type 0} (sink : S → Sink) where
   -- the text of the texts' chart was written, or the beginning of it if a put failed. Nothing was written if the
   -- texts are refused or memory ran out
   abbrev pub Imports : S → S → Result Diagnostics LogWriteError → OptionsView → List (List ℕ) → Type 0
-  Imports old new (Ok diagnostics) o texts = (d : LogDrawing) × IsDrawingOf o texts d × (diagnostics ≡ d.diagnostics)
+  Imports old new (Ok diagnostics) o texts = (d : ImportedLog) × IsImportedLog o texts d × (diagnostics ≡ d.diagnostics)
       × Puts sink old new (chart_text d.diagnostics.names d.chart)
   Imports old new (Err (Log error)) o texts = IsRefusalOf o texts error × (new ≡ old)
-  Imports old new (Err Write) o texts = (d : LogDrawing) × IsDrawingOf o texts d
+  Imports old new (Err Write) o texts = (d : ImportedLog) × IsImportedLog o texts d
       × Breaks sink old new (chart_text d.diagnostics.names d.chart)
 
 -- the warnings about a chart that was written. `files` has the names of several files, and is empty for one

@@ -1,11 +1,13 @@
 pub mod Alike
 pub mod Answers
 pub mod Counting
-pub mod Drawing
+pub mod Imported
 pub mod Entries
-pub mod Faults
 pub mod Importing
 pub mod Options
 pub mod Reading
+pub mod RecordedClocks
+pub mod RecordedLuck
 pub mod Recording
 pub mod Refusals
+pub mod Unread

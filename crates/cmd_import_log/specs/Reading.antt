@@ -92,8 +92,8 @@ IsKept ShiViz e = Unit {0}
 abbrev pub IsBadExpression : List ℕ → LogImportError → Type 0
 IsBadExpression text errors.Memory = Unit {0}
 IsBadExpression text (errors.BadPattern place fault) = IsFault text place fault
-IsBadExpression text (errors.NotALog lines others) = ⊥
-IsBadExpression text (errors.NoReceive sends lines others) = ⊥
+IsBadExpression text (errors.NotALog lines others unread) = ⊥
+IsBadExpression text (errors.NoReceive sends lines others unread) = ⊥
 IsBadExpression text errors.Instances = ⊥
 IsBadExpression text (errors.ToItself place) = ⊥
 IsBadExpression text (errors.LineFull name) = ⊥
@@ -102,8 +102,8 @@ IsBadExpression text (errors.LineFull name) = ⊥
 abbrev pub IsMemory : LogImportError → Type 0
 IsMemory errors.Memory = Unit {0}
 IsMemory (errors.BadPattern place fault) = ⊥
-IsMemory (errors.NotALog lines others) = ⊥
-IsMemory (errors.NoReceive sends lines others) = ⊥
+IsMemory (errors.NotALog lines others unread) = ⊥
+IsMemory (errors.NoReceive sends lines others unread) = ⊥
 IsMemory errors.Instances = ⊥
 IsMemory (errors.ToItself place) = ⊥
 IsMemory (errors.LineFull name) = ⊥

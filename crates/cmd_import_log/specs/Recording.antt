@@ -15,10 +15,10 @@ use Rattle.log_chart.specs.Matching.{matched}
 use Rattle.log_chart.specs.declared.entry.Entry.{Entry}
 use Rattle.race_verdicts.specs.Recordings.{RecordingView, words_view, taken_view}
 use Rattle.race_verdicts.specs.declared.recording.Arrival.{Arrival}
-use Rattle.cmd_import_log.specs.Drawing.{beside_with, named_in, IsNamedDrawing, IsLog, IsRefused, IsRefusalOf}
+use Rattle.cmd_import_log.specs.Imported.{beside_with, named_in, IsImportedNamed, IsLog, IsRefused, IsRefusalOf}
 use Rattle.cmd_import_log.specs.Options.{FormView, Plain, Pattern, ShiViz, OptionsView}
 use Rattle.cmd_import_log.specs.Reading.{LogView}
-use Rattle.cmd_import_log.specs.declared.drawing.Beside.{Beside}
+use Rattle.cmd_import_log.specs.declared.imported.Beside.{Beside}
 use Rattle.cmd_import_log.specs.declared.error.LogImportError.{LogImportError}
 use Rattle.cmd_import_log.specs.declared.recording.LogRecording.{LogRecording}
 
@@ -51,15 +51,15 @@ arrivals_of o logged entries observed = arrivals_in (keys_in o.peers logged) (ma
 -- what the recording has beside its chart, for a log with these events and, once receives are freed, these entries
 pub record IsRecorded (o : OptionsView) (logged : List LoggedEventView) (settled : List Entry) (observed : ObservationsView) (r : LogRecording) : Type 0 where
   pub lines : r.lines.items ≡ matched settled
-  pub hosts : r.hosts.items ≡ host_lines (length r.drawing.diagnostics.names) settled
+  pub hosts : r.hosts.items ≡ host_lines (length r.imported.diagnostics.names) settled
   pub words : map words_view r.words.items ≡ words_in o.peers logged
   pub taken : map taken_view r.taken.items ≡ observed.taken
   pub arrivals : r.arrivals.items ≡ arrivals_of o logged settled observed
 
 -- the recording is that of these lines, of what else was read, and of these declarations
 pub record IsNamedRecording (b : Beside) (n : NamedView) (o : OptionsView) (logged : List LoggedEventView) (observed : ObservationsView) (r : LogRecording) : Type 0 where
-  pub drawing : IsNamedDrawing b n r.drawing
-  pub recorded : IsRecorded o logged drawing.settled observed r
+  pub imported : IsImportedNamed b n r.imported
+  pub recorded : IsRecorded o logged imported.settled observed r
   pub known : r.is_known ≡ is_known o.form b
 
 abbrev pub RecordsNamed : Result LogRecording LogImportError → Beside → NamedView → OptionsView → List LoggedEventView → ObservationsView → Type 0

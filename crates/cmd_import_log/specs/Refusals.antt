@@ -4,12 +4,14 @@ use Rattle.std.specs.List.{flat_map}
 use Rattle.cmd_base.specs.Refusals.{labelled_text}
 use Rattle.log_formats.specs.declared.patterns.expression.Fault.{Fault}
 use Rattle.log_lines.specs.declared.read.Others.{Others}
+use Rattle.log_text.specs.Counts.{others_of_text}
+use Rattle.log_text.specs.Faults.{fault_text}
+use Rattle.log_text.specs.Unread.{unread_text}
+use Rattle.log_text.specs.declared.unread.UnreadLine.{UnreadLine}
 use Rattle.cmd_import_log.specs.Answers.AlikeHosts.{alike_text}
-use Rattle.cmd_import_log.specs.Answers.DiagnosticLines.{others_of_text}
 use Rattle.cmd_import_log.specs.Answers.Diagnostics.{one_ended_note}
 use Rattle.cmd_import_log.specs.Answers.EventsRead.{lineless_text, lined_text}
 use Rattle.cmd_import_log.specs.declared.answers.diagnostics.Diagnostics.{Diagnostics}
-use Rattle.cmd_import_log.specs.Faults.{fault_text}
 use Rattle.cmd_import_log.specs.declared.error.LogImportError.{LogImportError}
 use Rattle.cmd_import_log.specs.declared.error.LogImportError.TheVariants as errors
 
@@ -28,11 +30,11 @@ bad_pattern_text place fault = place_text place ++ fault_text fault
 unfoldable pub no_log_line : List ℕ
 no_log_line = codes "refused: F38 NotALog\n"
 
--- the line of F38, and the line about lines that don't match. `files` has the names of several files, and is empty
--- for one
-unfoldable pub no_log_text : List (List ℕ) → ℕ → Option Others → List ℕ
-no_log_text files lines others =
-    no_log_line ++ others_of_text files lines (codes "lines doesn't match") (codes "lines don't match") others
+-- the line of F38, the line about lines that don't match, and the one about the first of these with a match that isn't
+-- read. `files` has the names of several files, and is empty for one
+unfoldable pub no_log_text : List (List ℕ) → ℕ → Option Others → Option UnreadLine → List ℕ
+no_log_text files lines others unread =
+    no_log_line ++ (others_of_text files lines (codes "lines doesn't match") (codes "lines don't match") others ++ unread_text files unread)
 
 -- the number of lines with messages, none of which is a receive
 unfoldable pub one_send_text : List ℕ
@@ -47,12 +49,13 @@ sends_text sends = if sends == 1 then one_send_text else several_sends_text send
 unfoldable pub no_receive_line : List ℕ
 no_receive_line = codes "refused: F51 NoReceive\n"
 
--- the line of F51, the number of lines that match, and the line about those that don't. `files` has the names of
--- several files, and is empty for one
-unfoldable pub no_receive_text : List (List ℕ) → ℕ → ℕ → Option Others → List ℕ
-no_receive_text files sends lines others =
+-- the line of F51, the number of lines that match, the line about those that don't, and the one about the first of
+-- these with a match that isn't read. `files` has the names of several files, and is empty for one
+unfoldable pub no_receive_text : List (List ℕ) → ℕ → ℕ → Option Others → Option UnreadLine → List ℕ
+no_receive_text files sends lines others unread =
     no_receive_line
-    ++ (sends_text sends ++ others_of_text files lines (codes "lines doesn't match") (codes "lines don't match") others)
+    ++ (sends_text sends
+    ++ (others_of_text files lines (codes "lines doesn't match") (codes "lines don't match") others ++ unread_text files unread))
 
 unfoldable pub one_end_line : List ℕ
 one_end_line = codes "refused: F52 OneEnd\n"
@@ -68,8 +71,8 @@ one_end_text t =
 abbrev pub log_refusal_text : List (List ℕ) → LogImportError → List ℕ
 log_refusal_text files errors.Memory = labelled_text (codes "F6 Memory") None
 log_refusal_text files (errors.BadPattern place fault) = bad_pattern_text place fault
-log_refusal_text files (errors.NotALog lines others) = no_log_text files lines others
-log_refusal_text files (errors.NoReceive sends lines others) = no_receive_text files sends lines others
+log_refusal_text files (errors.NotALog lines others unread) = no_log_text files lines others unread
+log_refusal_text files (errors.NoReceive sends lines others unread) = no_receive_text files sends lines others unread
 log_refusal_text files errors.Instances = labelled_text (codes "F8 Instances") None
 log_refusal_text files (errors.ToItself place) = labelled_text (codes "F13 ToItself") (Some place.line)
 log_refusal_text files (errors.LineFull name) = full_text name

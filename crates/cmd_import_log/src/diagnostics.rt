@@ -2,7 +2,7 @@
 ghost use Rattle.std.specs.Prelude.{◌≡◌, [], map, IfOk};
 ghost use Rattle.diagram_labels.specs.Renaming.{renamed_view};
 ghost use Rattle.cmd_import_log.specs.Alike.{has_line};
-ghost use Rattle.cmd_import_log.specs.Drawing.{log_place, log_overtaking, with_lineless, with_lined, renames_of};
+ghost use Rattle.cmd_import_log.specs.Imported.{log_place, log_overtaking, with_lineless, with_lined, renames_of};
 
 use crate::answers::Overtaking;
 use chart::Name;

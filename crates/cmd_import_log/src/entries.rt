@@ -4,7 +4,7 @@ ghost use Rattle.log_chart.specs.Entries.{HaveStreams};
 ghost use Rattle.log_chart.specs.Cycles.Freeing.{AreAmong, HaveLanes};
 ghost use Rattle.log_lines.specs.Names.Naming.{named_view};
 ghost use Rattle.cmd_import_log.specs.Entries.{entry_place, host_event_of, entries_in, names_in, fault_in};
-ghost use Rattle.cmd_import_log.specs.Drawing.{IsRefused};
+ghost use Rattle.cmd_import_log.specs.Imported.{IsRefused};
 
 use crate::diagnostics::log_place;
 use crate::error::LogImportError;

@@ -7,8 +7,8 @@ ghost use Rattle.cmd_import_log.specs.Importing.{Imports, imported_exit, log_wri
 ghost use Rattle.cmd_import_log.specs.Options.{options_view};
 
 use crate::answers::{Diagnostics, write_diagnostics};
-use crate::drawing::drawing_in;
 use crate::error::LogImportError;
+use crate::imported::imported_log;
 use crate::options::Options;
 use crate::refusing::refused_log;
 use cmd_base::refused_by;
@@ -16,7 +16,7 @@ use std::alloc::Global;
 use texts::Out;
 
 /// The reason why no chart was written.
-#[derive(Clone, Copy, Debug, PartialEq, Eq)]
+#[derive(Debug, Drop)]
 pub enum LogWriteError {
     /// The log is refused, or memory ran out.
     Log(LogImportError),
@@ -34,12 +34,12 @@ fn translate<W: Out>(
     ensures imports { Imports W.sink out.old out.new result (options_view options.entry) (map (λ text. text.now) texts.now) }
     ensures invented { IfOk result (λ diagnostics. All (λ e. e.instance ≤ length diagnostics.names) diagnostics.invented.items) }
 {
-    let drawing = match drawing_in(alloc, options, texts) {
-        Ok(drawing) => drawing,
+    let imported = match imported_log(alloc, options, texts) {
+        Ok(imported) => imported,
         Err(error) => return Err(LogWriteError::Log(error)),
     };
-    match msc_text::write(&drawing.diagnostics.names, &drawing.chart, out) {
-        Ok(()) => Ok(drawing.diagnostics),
+    match msc_text::write(&imported.diagnostics.names, &imported.chart, out) {
+        Ok(()) => Ok(imported.diagnostics),
         Err(_) => Err(LogWriteError::Write),
     }
 }

@@ -1,13 +1,14 @@
 //! The messages of a log's texts, at least one of which is received.
 ghost use Rattle.std.specs.Prelude.{◌≡◌, map, IfOk, IfErr};
 ghost use Rattle.log_lines.specs.Events.{logged_event_view};
-ghost use Rattle.cmd_import_log.specs.Drawing.{IsLog, IsRefusalOf};
+ghost use Rattle.cmd_import_log.specs.Imported.{IsLog, IsRefusalOf};
 ghost use Rattle.cmd_import_log.specs.Options.{options_view};
 ghost use Rattle.cmd_import_log.specs.Reading.{log_view, is_receive, has_receive, IsKept};
 
 use crate::error::LogImportError;
 use crate::options::Options;
 use crate::reading::{ReadLog, read_log};
+use crate::unread::first_unread_in;
 use log_lines::{Act, LoggedEvent};
 use std::alloc::Global;
 
@@ -48,11 +49,13 @@ pub(crate) fn messages_in<'a>(
     let log = read_log(alloc, options.form, options.range, texts)?;
     let logged = log.read.logged.as_slice();
     if logged.is_empty() {
-        return Err(LogImportError::NotALog(log.lines, log.read.others));
+        let unread = first_unread_in(alloc, options, &log.expression, texts)?;
+        return Err(LogImportError::NotALog(log.lines, log.read.others, unread));
     }
     if !has_receive(logged) {
         let sends = logged.len() as u64;
-        return Err(LogImportError::NoReceive(sends, log.lines, log.read.others));
+        let unread = first_unread_in(alloc, options, &log.expression, texts)?;
+        return Err(LogImportError::NoReceive(sends, log.lines, log.read.others, unread));
     }
     Ok(log)
 }

@@ -1,6 +1,6 @@
 //! The recording of a log: its chart, and what the log declares about choices and arrivals.
 ghost use Rattle.std.specs.Prelude.{◌≡◌, ◌≤◌, length, map, All, IfOk};
-ghost use Rattle.chart.specs.Charts.{IsNumbered};
+ghost use Rattle.chart.specs.Charts.{chart_lines, IsNumbered, IsPossible};
 ghost use Rattle.log_lines.specs.Events.{logged_event_view};
 ghost use Rattle.log_lines.specs.Names.Naming.{named_view};
 ghost use Rattle.log_lines.specs.Takes.Observations.{observations_view};
@@ -11,8 +11,8 @@ ghost use Rattle.cmd_import_log.specs.Options.{Pattern, form_view, options_view}
 ghost use Rattle.cmd_import_log.specs.Reading.{IsKept};
 ghost use Rattle.cmd_import_log.specs.Recording.{lent_of, is_known, Observes, arrivals_of, IsRecorded, RecordsNamed, Records};
 
-use crate::drawing::{Beside, LogDrawing, Settled, settled_of};
 use crate::error::LogImportError;
+use crate::imported::{Beside, ImportedLog, Settled, settled_of};
 use crate::messages::messages_in;
 use crate::options::{Form, Options};
 use crate::reading::ReadLog;
@@ -27,7 +27,7 @@ use std::alloc::{AllocError, Global};
 /// The chart of a log with its warnings, and what the log declares about choices and arrivals.
 #[derive(Drop)]
 pub struct LogRecording<'a> {
-    pub drawing: LogDrawing,
+    pub imported: ImportedLog,
     /// The log's lines. Each receive has the send that it takes.
     pub lines: Vec<LogLine>,
     /// The events of each host, as the chart has them.
@@ -126,11 +126,11 @@ fn recorded<'a>(
     is_known: bool,
 ) -> Result<LogRecording<'a>, AllocError>
     requires streams { HaveStreams settled.entries.items }
-    ensures drawing { IfOk result (λ r. r.drawing ≡ settled.drawing) }
+    ensures imported { IfOk result (λ r. r.imported ≡ settled.imported) }
     ensures recorded { IfOk result (IsRecorded (options_view options.now) (map logged_event_view logged.now) settled.entries.items (observations_view observed.entry)) }
     ensures known { IfOk result (λ r. r.is_known ≡ is_known) }
 {
-    let Settled { drawing, entries } = settled;
+    let Settled { imported, entries } = settled;
     let arrivals = arrivals_of(alloc, options, logged, &entries, &observed)?;
     let words = words_in(alloc, options.peers, logged)?;
     let HostLines {
@@ -138,9 +138,9 @@ fn recorded<'a>(
         fates,
         given,
         lines,
-    } = host_lines(alloc, drawing.diagnostics.names.len(), &entries)?;
+    } = host_lines(alloc, imported.diagnostics.names.len(), &entries)?;
     Ok(LogRecording {
-        drawing,
+        imported,
         lines: matched,
         hosts: lines,
         words,
@@ -160,15 +160,15 @@ fn recording_of<'a>(
     observed: Observations<'a>,
 ) -> Result<LogRecording<'a>, LogImportError>
     ensures records { RecordsNamed result beside (named_view named.now) (options_view options.now) (map logged_event_view logged.now) (observations_view observed.entry) }
-    ensures named { IfOk result (λ r. length r.drawing.diagnostics.names ≡ length r.drawing.chart) }
-    ensures invented { IfOk result (λ r. All (λ e. e.instance ≤ length r.drawing.diagnostics.names) r.drawing.diagnostics.invented.items) }
+    ensures named { IfOk result (λ r. length r.imported.diagnostics.names ≡ length r.imported.chart) }
+    ensures invented { IfOk result (λ r. All (λ e. e.instance ≤ length r.imported.diagnostics.names) r.imported.diagnostics.invented.items) }
 {
     let settled = settled_of(alloc, beside, named)?;
     let is_known = is_known(options.form, beside);
     Ok(recorded(alloc, options, logged, settled, observed, is_known)?)
 }
 
-/// The recording of a log's texts. Its chart is that of [`drawing_in`](crate::drawing_in). There is no recording
+/// The recording of a log's texts. Its chart is that of [`imported_log`](crate::imported_log). There is no recording
 /// exactly if there is no chart.
 ///
 /// F39 refuses an invalid expression, F38 texts without a message, and F51 texts without a receive. F8, F13 and F7
@@ -179,10 +179,11 @@ pub fn recording_in<'a>(
     texts: &[&'a [u8]],
 ) -> Result<LogRecording<'a>, LogImportError>
     ensures records { Records result (options_view options.entry) (map (λ text. text.now) texts.now) }
-    ensures named { IfOk result (λ r. length r.drawing.diagnostics.names ≡ length r.drawing.chart) }
-    ensures invented { IfOk result (λ r. All (λ e. e.instance ≤ length r.drawing.diagnostics.names) r.drawing.diagnostics.invented.items) }
-    ensures keeps { IfOk result (λ r. IsRecording r.drawing.chart (lent_of r)) }
-    ensures numbered { IfOk result (λ r. IsNumbered r.drawing.chart) }
+    ensures named { IfOk result (λ r. length r.imported.diagnostics.names ≡ length r.imported.chart) }
+    ensures invented { IfOk result (λ r. All (λ e. e.instance ≤ length r.imported.diagnostics.names) r.imported.diagnostics.invented.items) }
+    ensures possible { IfOk result (λ r. IsPossible (length r.imported.chart) (chart_lines r.imported.chart)) }
+    ensures keeps { IfOk result (λ r. IsRecording r.imported.chart (lent_of r)) }
+    ensures numbered { IfOk result (λ r. IsNumbered r.imported.chart) }
 {
     let ReadLog {
         read,

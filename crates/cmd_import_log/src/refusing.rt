@@ -6,14 +6,14 @@ ghost use Rattle.cmd_import_log.specs.Refusals.{full_text, place_text, bad_patte
 ghost use Rattle.cmd_import_log.specs.Refusals.{one_send_text, several_sends_text, sends_text, no_receive_text, one_end_text, log_refusal_text};
 
 use crate::answers::{
-    Diagnostics, add_all_alike, add_all_lined, add_all_lineless, add_one_ended_note, add_others_of,
+    Diagnostics, add_all_alike, add_all_lined, add_all_lineless, add_one_ended_note,
 };
 use crate::error::LogImportError;
-use crate::faults::add_fault;
 use chart::Name;
 use cmd_base::refused_by;
 use log_formats::patterns::Fault;
 use log_lines::Others;
+use log_text::{UnreadLine, add_fault, add_others_of, add_unread};
 use texts::pieces::{Piece, add_pieces};
 use texts::{Out, TextBuffer, WriteError};
 
@@ -103,15 +103,16 @@ fn add_no_log_line<V: Out>(text: &mut TextBuffer<'_, V>) -> Result<(), WriteErro
     text.add(b"refused: F38 NotALog\n")
 }
 
-/// Adds the line of F38, and the line about lines that don't match.
+/// Adds the line of F38, the line about lines that don't match, and the one about a match that isn't read.
 #[tactic(auto, using(texts::proofs::Writes::joining), unfolding(crate::specs::Refusals::no_log_text))]
 fn add_no_log<V: Out>(
     text: &mut TextBuffer<'_, V>,
     files: &[&[u8]],
     lines: u64,
     others: Option<Others>,
+    unread: &Option<UnreadLine>,
 ) -> Result<(), WriteError>
-    ensures { Adds V.sink text.old text.new result (no_log_text (map (λ file. file.now) files.now) lines others) }
+    ensures { Adds V.sink text.old text.new result (no_log_text (map (λ file. file.now) files.now) lines others unread.now) }
 {
     add_no_log_line(text)?;
     add_others_of(
@@ -121,7 +122,8 @@ fn add_no_log<V: Out>(
         b"lines doesn't match",
         b"lines don't match",
         others,
-    )
+    )?;
+    add_unread(text, files, unread)
 }
 
 #[tactic(auto, using(texts::proofs::Writes::joining))]
@@ -129,21 +131,28 @@ fn write_no_log<V: Out>(
     files: &[&[u8]],
     lines: u64,
     others: Option<Others>,
+    unread: &Option<UnreadLine>,
     err: &mut V,
 ) -> Result<(), WriteError>
-    ensures { Wrote V.sink err.old err.new result (no_log_text (map (λ file. file.now) files.now) lines others) }
+    ensures { Wrote V.sink err.old err.new result (no_log_text (map (λ file. file.now) files.now) lines others unread.now) }
 {
     let mut text = TextBuffer::new(err);
-    add_no_log(&mut text, files, lines, others)?;
+    add_no_log(&mut text, files, lines, others, unread)?;
     text.finish()
 }
 
-/// Prints the line of F38 and the line about lines that don't match, and returns the exit status.
-fn refused_no_log<V: Out>(files: &[&[u8]], lines: u64, others: Option<Others>, err: &mut V) -> u8
+/// Prints the line of F38 and the lines about those that don't match, and returns the exit status.
+fn refused_no_log<V: Out>(
+    files: &[&[u8]],
+    lines: u64,
+    others: Option<Others>,
+    unread: &Option<UnreadLine>,
+    err: &mut V,
+) -> u8
     ensures status { result ≡ 2 }
-    ensures line { Tried V.sink err.old err.new (no_log_text (map (λ file. file.now) files.now) lines others) }
+    ensures line { Tried V.sink err.old err.new (no_log_text (map (λ file. file.now) files.now) lines others unread.now) }
 {
-    let _ = write_no_log(files, lines, others, err);
+    let _ = write_no_log(files, lines, others, unread, err);
     2
 }
 
@@ -185,7 +194,8 @@ fn add_no_receive_line<V: Out>(text: &mut TextBuffer<'_, V>) -> Result<(), Write
     text.add(b"refused: F51 NoReceive\n")
 }
 
-/// Adds the line of F51, the number of lines that match, and the line about those that don't.
+/// Adds the line of F51, the number of lines that match, the line about those that don't, and the one about a match
+/// that isn't read.
 #[tactic(auto, using(texts::proofs::Writes::joining), unfolding(crate::specs::Refusals::no_receive_text))]
 fn add_no_receive<V: Out>(
     text: &mut TextBuffer<'_, V>,
@@ -193,8 +203,9 @@ fn add_no_receive<V: Out>(
     sends: u64,
     lines: u64,
     others: Option<Others>,
+    unread: &Option<UnreadLine>,
 ) -> Result<(), WriteError>
-    ensures { Adds V.sink text.old text.new result (no_receive_text (map (λ file. file.now) files.now) sends lines others) }
+    ensures { Adds V.sink text.old text.new result (no_receive_text (map (λ file. file.now) files.now) sends lines others unread.now) }
 {
     add_no_receive_line(text)?;
     add_sends(text, sends)?;
@@ -205,7 +216,8 @@ fn add_no_receive<V: Out>(
         b"lines doesn't match",
         b"lines don't match",
         others,
-    )
+    )?;
+    add_unread(text, files, unread)
 }
 
 #[tactic(auto, using(texts::proofs::Writes::joining))]
@@ -214,28 +226,30 @@ fn write_no_receive<V: Out>(
     sends: u64,
     lines: u64,
     others: Option<Others>,
+    unread: &Option<UnreadLine>,
     err: &mut V,
 ) -> Result<(), WriteError>
-    ensures { Wrote V.sink err.old err.new result (no_receive_text (map (λ file. file.now) files.now) sends lines others) }
+    ensures { Wrote V.sink err.old err.new result (no_receive_text (map (λ file. file.now) files.now) sends lines others unread.now) }
 {
     let mut text = TextBuffer::new(err);
-    add_no_receive(&mut text, files, sends, lines, others)?;
+    add_no_receive(&mut text, files, sends, lines, others, unread)?;
     text.finish()
 }
 
-/// Prints the line of F51, the number of lines that match and the line about those that don't. Returns the exit
+/// Prints the line of F51, the number of lines that match and the lines about those that don't. Returns the exit
 /// status.
 fn refused_no_receive<V: Out>(
     files: &[&[u8]],
     sends: u64,
     lines: u64,
     others: Option<Others>,
+    unread: &Option<UnreadLine>,
     err: &mut V,
 ) -> u8
     ensures status { result ≡ 2 }
-    ensures line { Tried V.sink err.old err.new (no_receive_text (map (λ file. file.now) files.now) sends lines others) }
+    ensures line { Tried V.sink err.old err.new (no_receive_text (map (λ file. file.now) files.now) sends lines others unread.now) }
 {
-    let _ = write_no_receive(files, sends, lines, others, err);
+    let _ = write_no_receive(files, sends, lines, others, unread, err);
     2
 }
 
@@ -282,9 +296,10 @@ pub fn refused_one_end<V: Out>(diagnostics: &Diagnostics, err: &mut V) -> u8
     2
 }
 
-/// Prints the line of a log's refusal. After F38 and F51 a further line counts those that don't match, and after F39
-/// one reports the fault. `files` has the names of several files, and is empty for one. Returns the exit status,
-/// which is 2 whether or not this could be written.
+/// Prints the line of a log's refusal. After F38 and F51 a further line counts those that don't match, and another one
+/// reports the first match of the expression that isn't read. After F39 a further line reports the fault. `files` has
+/// the names of several files, and is empty for one. Returns the exit status, which is 2 whether or not this could be
+/// written.
 pub fn refused_log<V: Out>(files: &[&[u8]], error: &LogImportError, err: &mut V) -> u8
     ensures status { result ≡ 2 }
     ensures line { Tried V.sink err.old err.new (log_refusal_text (map (λ file. file.now) files.now) error.now) }
@@ -292,9 +307,11 @@ pub fn refused_log<V: Out>(files: &[&[u8]], error: &LogImportError, err: &mut V)
     match error {
         LogImportError::Memory => refused_by(b"F6 Memory", None, err),
         LogImportError::BadPattern(place, fault) => refused_pattern(*place, *fault, err),
-        LogImportError::NotALog(lines, others) => refused_no_log(files, *lines, *others, err),
-        LogImportError::NoReceive(sends, lines, others) => {
-            refused_no_receive(files, *sends, *lines, *others, err)
+        LogImportError::NotALog(lines, others, unread) => {
+            refused_no_log(files, *lines, *others, unread, err)
+        }
+        LogImportError::NoReceive(sends, lines, others, unread) => {
+            refused_no_receive(files, *sends, *lines, *others, unread, err)
         }
         LogImportError::Instances => refused_by(b"F8 Instances", None, err),
         LogImportError::ToItself(place) => refused_by(b"F13 ToItself", Some(place.line), err),

@@ -15,7 +15,6 @@ use Rattle.repair.specs.Messages.{NewMessage}
 use Rattle.repair.specs.declared.pairs.RacePair.{RacePair}
 use Rattle.repair.specs.Repairs.{AreFew, pairs_of_report, pairs_of}
 use Rattle.cmd_mend.specs.declared.brief.Shown.{Shown}
-use Rattle.cmd_mend.specs.declared.brief.TheConstants.{SHOWN_LINES}
 use Rattle.cmd_mend.specs.Brief.{HasFirst, Shows}
 use Rattle.cmd_mend.specs.Changes.{is_gone, gone_of, all_gone, is_kept, kept_of}
 
@@ -41,20 +40,20 @@ pub shows_then : (a b c xs ys : List Shown) → Shows a b xs → Shows b c ys �
 shows_then a b c xs ys first second all has = subst (λ (l : List Shown). HasFirst l c) (append_assoc all xs ys) (second (all ++ xs) (first all has))
 
 -- there is room for one more
-pub shows_one : (old : List Shown) (one : Shown) → IsRange one.range → length old < SHOWN_LINES → Shows old (old ++ one ∷ []) (one ∷ [])
+pub shows_one : (old : List Shown) (one : Shown) → IsRange one.range → length old < 10 → Shows old (old ++ one ∷ []) (one ∷ [])
 shows_one old one is room all has =
     let long = ap (λ (l : List Shown). length l) has.first in
-    let rest : take (SHOWN_LINES - length (take SHOWN_LINES all)) (one ∷ []) ≡ one ∷ [] = take_all (SHOWN_LINES - length (take SHOWN_LINES all)) (one ∷ []) (omega (arith, room, long)) in
+    let rest : take (10 - length (take 10 all)) (one ∷ []) ≡ one ∷ [] = take_all (10 - length (take 10 all)) (one ∷ []) (omega (arith, room, long)) in
     record {
-      first = ap (λ (l : List Shown). l ++ one ∷ []) has.first ∙ ap (λ (l : List Shown). take SHOWN_LINES all ++ l) (sym rest) ∙ sym (cut SHOWN_LINES all (one ∷ []));
+      first = ap (λ (l : List Shown). l ++ one ∷ []) has.first ∙ ap (λ (l : List Shown). take 10 all ++ l) (sym rest) ∙ sym (cut 10 all (one ∷ []));
       ranges = All-append ranged old (one ∷ []) has.ranges (All-cons ranged one [] is (All-nil ranged));
     }
 
 -- there is none
-pub shows_none : (old : List Shown) (one : Shown) → SHOWN_LINES ≤ length old → Shows old old (one ∷ [])
+pub shows_none : (old : List Shown) (one : Shown) → 10 ≤ length old → Shows old old (one ∷ [])
 shows_none old one full all has =
-    let long = ap (λ (l : List Shown). length l) has.first ∙ length-take SHOWN_LINES all in
-    record { first = has.first ∙ sym (take-append-le SHOWN_LINES all (one ∷ []) (omega (arith, full, long))); ranges = has.ranges }
+    let long = ap (λ (l : List Shown). length l) has.first ∙ length-take 10 all in
+    record { first = has.first ∙ sym (take-append-le 10 all (one ∷ []) (omega (arith, full, long))); ranges = has.ranges }
 
 -- a range more
 pub ranges_next : (f : EventRange → Shown) (start old new : List Shown) (ranges : List EventRange) (i : ℕ) (range : EventRange) → i < length ranges → range ≡ get_or ranges i range → Shows start old (map f (take i ranges)) → Shows old new (f range ∷ []) → Shows start new (map f (take (i + 1) ranges))

@@ -17,8 +17,9 @@ use Rattle.chart.proofs.ReportLists.{receives-within}
 use Rattle.repair.specs.Growing.{line_with}
 use Rattle.repair.specs.Messages.{NewMessage, IsWith, moved_index}
 use Rattle.repair.proofs.Lines.{moved_below, moved_above}
-use Rattle.cmd_mend.specs.Changes.{is_new, new_index, old_receives}
-use Rattle.cmd_mend.specs.Laws.{moved_event, PlacesLaw}
+use Rattle.repair.specs.Moves.{new_index, moved_event}
+use Rattle.cmd_mend.specs.Changes.{is_new, old_receives}
+use Rattle.cmd_mend.specs.Laws.{PlacesLaw}
 
 abbrev event : ℕ → ℕ → EventNo
 event p i = record { instance = p; index = i }

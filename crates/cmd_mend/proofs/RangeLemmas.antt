@@ -5,7 +5,7 @@ use Rattle.std.specs.List.{list_any}
 use Rattle.std.proofs.lemmas.Bool.{cases_Bool, cases_lt, lt-ltb, le-ltb, le-leb, lt-leb}
 use Rattle.chart.specs.declared.ranges.EventRange.{EventRange}
 use Rattle.chart.specs.Ranges.{events_from, events_of}
-use Rattle.cmd_mend.specs.Marks.{is_at}
+use Rattle.repair.specs.Marks.{is_at}
 
 differ : (a b : ℕ) → (a ≡ b → ⊥) → (a == b) ≡ false
 differ a b other = elim (cases_Bool (a == b)) [ inl same ↦ absurd (other (eqb-true a b same)) | inr off ↦ off ]

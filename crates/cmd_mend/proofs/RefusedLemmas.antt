@@ -2,7 +2,7 @@
 use Rattle.std.proofs.Common.{◌≡◌, ℕ, ◌⊎◌, inl, inr, List, Err, refl}
 use Rattle.cmd_base.specs.declared.error.ProgramError.{ProgramError}
 use Rattle.cmd_base.specs.declared.error.ProgramError.TheVariants.{Usage, File, Memory, Text, ReceiveWithoutSend, NameMismatch, Cyclic, Write}
-use Rattle.cmd_base.specs.Files.{Named, IsRefused}
+use Rattle.cmd_base.specs.Contents.{Named, IsRefused}
 use Rattle.texts.specs.Outs.{Sink}
 use Rattle.cmd_base.specs.declared.pairs.pair.Pair.{Pair}
 use Rattle.cmd_mend.specs.Answers.{by_program}

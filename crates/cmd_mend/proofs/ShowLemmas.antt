@@ -8,7 +8,7 @@ use Rattle.repair.specs.declared.error.MendError.TheVariants as fulls
 use Rattle.repair.specs.declared.mending.Mending.{Mending}
 use Rattle.repair.specs.Mends.{Fails}
 use Rattle.texts.specs.Outs.{Sink}
-use Rattle.cmd_base.specs.declared.pairs.error.ViewError.TheVariants.{Program, NoSuchEvent, NotEarlier, NotAReceive, ManySlots}
+use Rattle.cmd_base.specs.declared.pairs.error.PairError.TheVariants.{Program, NoSuchEvent, NotEarlier, NotAReceive, ManySlots}
 use Rattle.cmd_base.specs.declared.pairs.pair.Pair.{Pair}
 use Rattle.cmd_mend.specs.Naming.{IsMessageName}
 use Rattle.cmd_mend.specs.declared.answering.Outcome.{Outcome}

@@ -3,7 +3,7 @@ use Rattle.std.specs.Prelude.{ℕ, List, ◌++◌, Some, Result}
 use Rattle.cmd_base.specs.Answers.{Exit, refusal, program_exit, exit_of}
 use Rattle.cmd_base.specs.declared.error.ProgramError.{ProgramError}
 use Rattle.cmd_base.specs.Pairs.Answers as pairs
-use Rattle.cmd_base.specs.declared.pairs.error.ViewError.TheVariants.{Program}
+use Rattle.cmd_base.specs.declared.pairs.error.PairError.TheVariants.{Program}
 use Rattle.cmd_mend.specs.declared.answering.Outcome.{Outcome}
 use Rattle.cmd_mend.specs.declared.answering.Status.{Status}
 use Rattle.cmd_mend.specs.declared.answering.Status.TheVariants.{Done, Undone}
@@ -36,7 +36,7 @@ code_of Undone = 1
 abbrev pub outcome_exit : Outcome → Exit
 outcome_exit outcome = record { status = code_of outcome.status; diagnostics = Some outcome.diagnostics.items }
 
--- what is said of a race pair that was to be mended
+-- the diagnostics for a race pair that was to be mended
 abbrev pub mend_exit : Result Outcome MendRefusal → Exit
 mend_exit = exit_of outcome_exit refusal_exit
 

@@ -1,4 +1,4 @@
--- What is told in brief of a message that mends a race (this project's profile): where it is, the first ranges of races
+-- The brief report of a message that mends a race (this project's profile): where it is, the first ranges of races
 -- that go or come, and how many race pairs go, stay and come.
 use Rattle.std.specs.Prelude.{◌≡◌, ℕ, List, ◌++◌, length, map, take, All, decimal}
 use Rattle.std.specs.List.{flat_map}
@@ -14,7 +14,6 @@ use Rattle.cmd_mend.specs.declared.brief.Counts.{Counts}
 use Rattle.cmd_mend.specs.declared.brief.Fate.{Fate}
 use Rattle.cmd_mend.specs.declared.brief.Fate.TheVariants.{Goes, Comes}
 use Rattle.cmd_mend.specs.declared.brief.Shown.{Shown}
-use Rattle.cmd_mend.specs.declared.brief.TheConstants.{SHOWN_LINES}
 use Rattle.cmd_mend.specs.declared.word.Word.{Word}
 use Rattle.cmd_mend.specs.declared.word.Word.TheVariants as words
 use Rattle.cmd_mend.specs.Changes.{Changed}
@@ -45,21 +44,21 @@ counts_of changed = record {
   coming = length (pairs_of changed.coming);
 }
 
--- these are the first of all ranges, so many as are told one by one
+-- these are the first ten of all ranges, which are reported one by one
 pub record HasFirst (all shown : List Shown) : Type 0 where
-  pub first : shown ≡ take SHOWN_LINES all
+  pub first : shown ≡ take 10 all
   pub ranges : All (λ one. IsRange one.range) shown
 
 -- where these were the first of some ranges, those are the first with more ranges behind them
 abbrev pub Shows : List Shown → List Shown → List Shown → Type 0
 Shows old new more = (all : List Shown) → HasFirst all old → HasFirst (all ++ more) new
 
--- what is told in brief of the change
+-- the brief report of the change
 pub record IsBrief (changed : Changed) (brief : code.Brief) : Type 0 where
   pub shown : HasFirst (changes_shown changed) brief.shown.items
   pub counts : brief.counts ≡ counts_of changed
 
--- the word of a range's line, and the lines by whose numbers it is told: the old chart's, or the new one's
+-- the word of a range's line, and the lines whose numbers it has: the old chart's, or the new one's
 abbrev pub word_of : Fate → Word
 word_of Goes = words.Goes
 word_of Comes = words.Comes
@@ -84,7 +83,7 @@ unfoldable pub lines_text : List (List ℕ) → List LineView → List LineView 
 lines_text names old new m shown counts =
     message_text names m ++ (flat_map (shown_text names old new) shown ++ counts_text counts)
 
--- what is told in brief: the message, the first ranges of races that go or come, and the counts
+-- the brief report: the message, the first ranges of races that go or come, and the counts
 abbrev pub brief_text : List (List ℕ) → List LineView → List LineView → Message → Changed → List ℕ
 brief_text names old new m changed =
-    lines_text names old new m (take SHOWN_LINES (changes_shown changed)) (counts_of changed)
+    lines_text names old new m (take 10 (changes_shown changed)) (counts_of changed)

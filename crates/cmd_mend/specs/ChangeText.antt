@@ -1,4 +1,4 @@
--- What is told of a message that mends a race (this project's profile): where it is, and which races go, stay and come.
+-- The report of a message that mends a race (this project's profile): where it is, and which races go, stay and come.
 use Rattle.std.specs.Prelude.{ℕ, Bool, true, false, List, [], ◌++◌, decimal}
 use Rattle.std.specs.List.{flat_map}
 use Rattle.chart.specs.declared.event.Event.{Event}

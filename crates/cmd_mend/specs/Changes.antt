@@ -1,20 +1,15 @@
 -- Which races go, stay and come where a chart gets one message more (this project's profile).
-use Rattle.std.specs.Prelude.{ℕ, ◌+◌, Bool, true, false, not, ◌&&◌, ◌||◌, ◌==◌, List, [], ◌∷◌, filter, map, if◌then◌else◌}
+use Rattle.std.specs.Prelude.{◌+◌, Bool, true, false, not, ◌&&◌, ◌||◌, ◌==◌, List, [], ◌∷◌, filter, map, if◌then◌else◌}
 use Rattle.std.specs.List.{list_any}
 use Rattle.chart.specs.declared.instance.EventNo.{EventNo}
 use Rattle.chart.specs.Reports.{ReportView}
-use Rattle.repair.specs.Messages.{NewMessage, moved_index}
-use Rattle.cmd_mend.specs.Marks.{is_at}
+use Rattle.repair.specs.Messages.{NewMessage}
+use Rattle.repair.specs.Moves.{new_index}
+use Rattle.repair.specs.Marks.{is_at}
 
 -- in the new chart it is the message's send or its receive
 abbrev pub is_new : NewMessage → EventNo → Bool
 is_new m e = ((e.instance == m.sender) && (e.index == m.sent + 1)) || ((e.instance == m.receiver) && (e.index == m.received + 1))
-
--- the number of an old event in the new chart
-abbrev pub new_index : NewMessage → EventNo → ℕ
-new_index m e =
-    if e.instance == m.sender then moved_index m.sent e.index
-    else (if e.instance == m.receiver then moved_index m.received e.index else e.index)
 
 -- an old event is no race of a receive in the new chart, whose report this is
 abbrev pub is_gone : NewMessage → ReportView → EventNo → Bool

@@ -1,16 +1,12 @@
 -- Which old receive each report of the new chart is of: a statement that a function of `laws` proves (this project's
 -- own).
 use Rattle.std.specs.Prelude.{◌≡◌, List, map}
-use Rattle.chart.specs.declared.instance.EventNo.{EventNo}
 use Rattle.chart.specs.Charts.{LineView, IsNumbered, chart_lines}
 use Rattle.chart.specs.Reports.{ReportView, AreReports}
 use Rattle.repair.specs.Growing.{line_with}
 use Rattle.repair.specs.Messages.{NewMessage, IsWith}
-use Rattle.cmd_mend.specs.Changes.{new_index, old_receives}
-
--- where an old event is in the new chart
-abbrev pub moved_event : NewMessage → EventNo → EventNo
-moved_event m e = record { instance = e.instance; index = new_index m e }
+use Rattle.repair.specs.Moves.{moved_event}
+use Rattle.cmd_mend.specs.Changes.{old_receives}
 
 -- without the new receive's report the new chart's reports are, one by one, those of the old chart's receives
 abbrev pub PlacesLaw : Type 0

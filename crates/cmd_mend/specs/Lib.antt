@@ -2,10 +2,10 @@ pub mod Answers
 pub mod ChangeText
 pub mod Changes
 pub mod Laws
-pub mod Marks
 pub mod Naming
 pub mod Showing
 pub mod Outcomes
 pub mod Words
 pub mod Brief
 pub mod Limits
+pub mod Luck

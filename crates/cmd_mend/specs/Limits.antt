@@ -1,11 +1,12 @@
 -- How many race pairs of a chart may be tried (this project's profile).
-use Rattle.std.specs.Prelude.{ℕ, ◌+◌, ◌/◌, ◌≤◌, List, length, Option, None, Some, All}
+use Rattle.std.specs.Prelude.{◌≡◌, ℕ, ◌+◌, ◌/◌, ◌≤◌, List, length, Option, None, Some, All}
 use Rattle.std.specs.List.{flat_map}
 use Rattle.chart.specs.declared.event.Event.{Event}
 use Rattle.chart.specs.declared.instance.TheConstants.{MAX_INSTANCES}
 use Rattle.chart.specs.declared.line.TheConstants.{MAX_EVENTS}
 use Rattle.chart.specs.Charts.{LineView}
-use Rattle.cmd_mend.specs.declared.showing_all.TheConstants.{TRIED_EVENTS}
+use Rattle.chart.specs.Reports.{ReportView, AreReports}
+use Rattle.repair.specs.Repairs.{pairs_of}
 
 -- the events of all lines
 abbrev pub all_events : List LineView → List Event
@@ -16,8 +17,9 @@ pub record AreShort (lines : List LineView) : Type 0 where
   pub count : length lines ≤ MAX_INSTANCES
   pub each : All (λ line. length line.events ≤ MAX_EVENTS) lines
 
--- so many as are asked for; or, since each is tried in a chart of its own, so many that these have no more events than a
--- given number
-abbrev pub limit_of : List LineView → Option ℕ → ℕ
-limit_of lines None = TRIED_EVENTS / (length (all_events lines) + 1)
-limit_of lines (Some limit) = limit
+-- So many race pairs as are asked for. Else, since a try takes time for each event and each race pair of the chart, so
+-- many that these come to 20,000,000 in all.
+abbrev pub IsLimit : List LineView → Option ℕ → ℕ → Type 0
+IsLimit lines None limit = (reports : List ReportView) × AreReports lines reports
+    × (limit ≡ 20000000 / (length (all_events lines) + length (pairs_of reports) + 1))
+IsLimit lines (Some asked) limit = limit ≡ asked

@@ -1,5 +1,5 @@
 -- What the new message is called (this project's profile).
-use Rattle.std.specs.Prelude.{◌≡◌, ℕ, false, List, Option, None, Some, Result, Ok}
+use Rattle.std.specs.Prelude.{◌≡◌, ℕ, false, List, Option, None, Some, Ok}
 use Rattle.chart.specs.Charts.{LineView}
 use Rattle.diagram_labels.specs.Giving.{is_given}
 use Rattle.repair.specs.Naming.{message_names, IsNewName}

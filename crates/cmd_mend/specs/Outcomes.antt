@@ -1,4 +1,4 @@
--- What is told of a pair that was to be mended, and of messages that were added (this project's profile).
+-- The report of a pair that was to be mended, and of messages that were added (this project's profile).
 use Rattle.std.specs.Prelude.{◌≡◌, ℕ, ◌==◌, List, ◌++◌, Option, if◌then◌else◌}
 use Rattle.std.specs.List.{flat_map}
 use Rattle.chart.specs.declared.event.Event.{Event}
@@ -6,7 +6,7 @@ use Rattle.chart.specs.declared.instance.EventNo.{EventNo}
 use Rattle.chart.specs.Charts.{LineView, chart_lines, chart_event, IsReceiveFrom}
 use Rattle.chart.specs.Reports.{ReportView, AreReports}
 use Rattle.closure.specs.Faults.{place_of}
-use Rattle.cmd_base.specs.Files.{Named}
+use Rattle.cmd_base.specs.Contents.{Named}
 use Rattle.repair.specs.declared.adding.MendedChart.{MendedChart}
 use Rattle.repair.specs.Growing.{message_of}
 use Rattle.repair.specs.declared.message.Message.{Message}
@@ -40,15 +40,15 @@ IsNone named pair x why outcome = (outcome.status ≡ Undone)
     × ((q : ℕ) × IsReceiveFrom (chart_lines named.1) q (place_of pair.receive)
     × (outcome.diagnostics.items ≡ none_text named.0 pair.receive.instance q x.index (chart_event (chart_lines named.1) (place_of x)) why))
 
--- what is told of a change: in brief, or with a line for each range of races
-abbrev pub told_text : Detail → List (List ℕ) → List LineView → List LineView → Message → Changed → List ℕ
-told_text Brief names old new m changed = brief_text names old new m changed
-told_text Full names old new m changed = change_text names old new m changed
+-- the report of a change: in brief, or with a line for each range of races
+abbrev pub change_text_by : Detail → List (List ℕ) → List LineView → List LineView → Message → Changed → List ℕ
+change_text_by Brief names old new m changed = brief_text names old new m changed
+change_text_by Full names old new m changed = change_text names old new m changed
 
 -- where the message is, and which races of the chart with these lines go, and which of the chart with it stay and come
 abbrev pub IsChangeText : Detail → List (List ℕ) → List LineView → List LineView → Message → List ℕ → Type 0
 IsChangeText detail names old new m text = (olds : List ReportView) × (news : List ReportView) × AreReports old olds
-    × AreReports new news × (text ≡ told_text detail names old new m (changed_by (message_of m) olds news))
+    × AreReports new news × (text ≡ change_text_by detail names old new m (changed_by (message_of m) olds news))
 
 -- what came of the pair: the chain by which it is enforced, that a coregion hides it, why there is no message, or where
 -- the message is and which races go, stay and come

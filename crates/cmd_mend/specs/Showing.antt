@@ -1,12 +1,14 @@
 -- What is written of a pair of a chart, and of all its races; and of a file.
-use Rattle.std.specs.Prelude.{◌≡◌, ℕ, ◌≤◌, List, length, Option, option_map, Result, Ok, Err}
+use Rattle.std.specs.Prelude.{◌≡◌, ℕ, ◌≤◌, true, false, List, [], length, Option, option_map, Result, Ok, Err}
 use Rattle.chart.specs.Charts.{chart_lines, IsPossible}
 use Rattle.closure.specs.Faults.{place_of}
 use Rattle.cmd_base.specs.declared.error.ProgramError.{ProgramError}
 use Rattle.cmd_base.specs.declared.error.ProgramError.TheVariants as errors
 use Rattle.cmd_base.specs.Texts.{OfFile, named_of}
-use Rattle.cmd_base.specs.Files.{Named, IsRefused}
+use Rattle.cmd_base.specs.Contents.{Named, IsRefused}
+use Rattle.chart.specs.Reports.{ReportView}
 use Rattle.repair.specs.Best.{IsMendedChart}
+use Rattle.repair.specs.Counted.{CountedView}
 use Rattle.repair.specs.declared.adding.MendedChart.{MendedChart}
 use Rattle.repair.specs.declared.error.MendError.{MendError}
 use Rattle.repair.specs.declared.error.MendError.TheVariants as fulls
@@ -17,7 +19,7 @@ use Rattle.msc_text.specs.ChartText.{chart_text}
 use Rattle.texts.specs.Instances.{name_at}
 use Rattle.texts.specs.Outs.{Sink}
 use Rattle.texts.specs.Writing.{Puts, Breaks}
-use Rattle.cmd_base.specs.declared.pairs.error.ViewError.TheVariants.{Program, ManySlots}
+use Rattle.cmd_base.specs.declared.pairs.error.PairError.TheVariants.{Program, ManySlots}
 use Rattle.cmd_base.specs.declared.pairs.pair.Pair.{Pair}
 use Rattle.cmd_base.specs.Pairs.Pairs.{pair_of}
 use Rattle.cmd_mend.specs.Answers.{by_program}
@@ -26,8 +28,10 @@ use Rattle.cmd_mend.specs.declared.error.MendRefusal.{MendRefusal}
 use Rattle.cmd_mend.specs.declared.error.MendRefusal.TheVariants.{View, LineFull}
 use Rattle.cmd_mend.specs.declared.showing.Detail.{Detail}
 use Rattle.cmd_mend.specs.declared.showing.Wanted.{Wanted}
-use Rattle.cmd_mend.specs.Limits.{limit_of}
+use Rattle.cmd_mend.specs.declared.showing_all.WantedAll.{WantedAll}
+use Rattle.cmd_mend.specs.Limits.{IsLimit}
 use Rattle.cmd_mend.specs.Naming.{IsMessageName}
+use Rattle.shown_races.specs.declared.showing.Showing.{Showing}
 use Rattle.cmd_mend.specs.Outcomes.{IsOutcome, IsOutcomeOfAll}
 
 -- the bytes of the name that is asked for, if there are some
@@ -68,6 +72,18 @@ IsFirstRefusal named wanted (LineFull full) = (pair : Pair) × (name : List ℕ)
     × IsMessageName named.1 (name_asked wanted) name × (full ≡ name_at named.0 p)
     × IsFull (chart_lines named.1) (place_of pair.earlier) (place_of pair.receive) p
 
+-- all races count that are shown; or only those of them that were luck
+abbrev pub shown_of : Showing → CountedView
+shown_of showing = record { showing = showing; only_luck = false; luck = [] }
+
+abbrev pub lucky_of : Showing → List ReportView → CountedView
+lucky_of showing luck = record { showing = showing; only_luck = true; luck = luck }
+
+-- the messages were added to a possible chart, within so many pairs that are tried as are asked for, or as it allows
+abbrev pub AreAllMended : CountedView → Option ℕ → Named → MendedChart → Type 0
+AreAllMended counted asked named m = IsPossible (length named.1) (chart_lines named.1)
+    × ((limit : ℕ) × IsLimit named.1 asked limit × IsMendedChart counted limit named.1 m)
+
 module _ {S : Type 0} (sink : S → Sink) where
   -- the chart was written, or nothing, where there is none
   abbrev pub WritesIt : S → S → List (List ℕ) → Mending → Type 0
@@ -85,7 +101,7 @@ module _ {S : Type 0} (sink : S → Sink) where
   BreaksOff old new names (mendings.OnItsWay x) = ⊥
   BreaksOff old new names (mendings.Mended m chart reports) = Breaks sink old new (chart_text names chart)
 
-  -- what became of a pair that is asked about was written, and is told
+  -- the outcome of a pair that is asked about was written and reported
   abbrev pub Writes : S → S → Named → Detail → Pair → Mending → Result Outcome MendRefusal → Type 0
   Writes old new named detail pair mending (Ok outcome) =
       WritesIt old new named.0 mending × IsOutcome named detail pair mending outcome
@@ -110,19 +126,19 @@ module _ {S : Type 0} (sink : S → Sink) where
   ShowsText old new wanted bytes =
       OfFile by_program (λ source done. Shows old new done wanted (named_of source)) old new bytes
 
-  -- the messages were added to a possible chart that leave the fewest races, within so many pairs that are tried, the
-  -- chart was written, and they are told;
+  -- the messages were added to a possible chart that leave the fewest races of those that count, within so many
+  -- pairs that are tried, the chart was written, and they are reported;
   -- or a beginning of its text, where a put failed; or nothing, where the chart is not possible, or where memory ran
   -- out
-  abbrev pub ShowsAll : Option ℕ → S → S → Result Outcome ProgramError → Named → Type 0
-  ShowsAll asked old new (Ok outcome) named = (m : MendedChart) × IsPossible (length named.1) (chart_lines named.1)
-      × IsMendedChart (limit_of named.1 asked) named.1 m × Puts sink old new (chart_text named.0 m.chart) × IsOutcomeOfAll named.0 m outcome
-  ShowsAll asked old new (Err errors.Memory) named = new ≡ old
-  ShowsAll asked old new (Err errors.Write) named = (m : MendedChart) × IsPossible (length named.1) (chart_lines named.1)
-      × IsMendedChart (limit_of named.1 asked) named.1 m × Breaks sink old new (chart_text named.0 m.chart)
-  ShowsAll asked old new (Err error) named = IsRefused error named × (new ≡ old)
+  abbrev pub ShowsAll : CountedView → Option ℕ → S → S → Result Outcome ProgramError → Named → Type 0
+  ShowsAll counted asked old new (Ok outcome) named = (m : MendedChart) × AreAllMended counted asked named m
+      × Puts sink old new (chart_text named.0 m.chart) × IsOutcomeOfAll named.0 m outcome
+  ShowsAll counted asked old new (Err errors.Memory) named = new ≡ old
+  ShowsAll counted asked old new (Err errors.Write) named = (m : MendedChart) × AreAllMended counted asked named m
+      × Breaks sink old new (chart_text named.0 m.chart)
+  ShowsAll counted asked old new (Err error) named = IsRefused error named × (new ≡ old)
 
   -- the same for the chart that the bytes say; or nothing was written, where the bytes have a fault
-  abbrev pub ShowsAllText : Option ℕ → S → S → List ℕ → Result Outcome ProgramError → Type 0
-  ShowsAllText asked old new bytes =
-      OfFile (λ error. error) (λ source done. ShowsAll asked old new done (named_of source)) old new bytes
+  abbrev pub ShowsAllText : WantedAll → S → S → List ℕ → Result Outcome ProgramError → Type 0
+  ShowsAllText wanted old new bytes =
+      OfFile (λ error. error) (λ source done. ShowsAll (shown_of wanted.showing) wanted.limit old new done (named_of source)) old new bytes

@@ -1,4 +1,4 @@
--- The words of what is told of messages that mend races (this project's profile).
+-- The words of the reports of messages that mend races (this project's profile).
 use Rattle.std.specs.Prelude.{ℕ, List, codes}
 use Rattle.cmd_mend.specs.declared.word.Word.{Word}
 use Rattle.cmd_mend.specs.declared.word.Word.TheVariants as words

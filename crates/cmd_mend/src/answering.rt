@@ -1,4 +1,4 @@
-//! What is told on standard error, and the exit status.
+//! The text on standard error, and the exit status.
 ghost use Rattle.std.specs.Prelude.{◌≡◌};
 ghost use Rattle.texts.specs.Writing.{Wrote, Adds};
 ghost use Rattle.cmd_base.specs.Refusals.{Tried};
@@ -19,7 +19,7 @@ pub(crate) enum Status {
     Undone,
 }
 
-/// What came of it, and what is told.
+/// The outcome, and its report.
 #[derive(Debug, Drop)]
 pub(crate) struct Outcome {
     pub status: Status,

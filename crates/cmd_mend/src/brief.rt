@@ -1,4 +1,4 @@
-//! What of a change is told in brief: its first ranges of races, and how many race pairs go, stay and come.
+//! The brief report of a change: its first ranges of races, and how many race pairs go, stay and come.
 ghost use Rattle.std.specs.Prelude.{◌≡◌, ◌++◌, ◌∷◌, [], map, All, IfOk, OnOk};
 ghost use Rattle.chart.specs.Ranges.{IsRange};
 ghost use Rattle.repair.specs.Growing.{message_of};
@@ -11,7 +11,7 @@ use chart::{EventNo, EventRange, Report};
 use repair::{Message, count_pairs};
 use std::alloc::{AllocError, Global};
 
-/// So many ranges of races that go or come are told one by one.
+/// The most ranges of races that go or come which are listed one by one.
 pub const SHOWN_LINES: usize = 10;
 
 /// What becomes of races by a message.
@@ -39,7 +39,7 @@ pub(crate) struct Counts {
     pub coming: usize,
 }
 
-/// What is told in brief of a change.
+/// The brief report of a change.
 #[derive(Drop)]
 pub(crate) struct Brief {
     pub shown: Vec<Shown>,
@@ -108,7 +108,7 @@ fn first_shown(alloc: Global, gone: &[Report], coming: &[Report]) -> Result<Vec<
     Ok(shown)
 }
 
-/// What is told in brief where a chart with these reports gets the message, by which it has those.
+/// The brief report if a chart with these reports gets the message, by which it has those.
 pub(crate) fn brief_of(
     alloc: Global,
     message: &Message,

@@ -1,4 +1,4 @@
-//! What is told in brief of a message that mends a race, as text.
+//! The brief report of a message that mends a race, as text.
 ghost use Rattle.std.specs.Prelude.{◌≡◌, All};
 ghost use Rattle.std.specs.List.{flat_map};
 ghost use Rattle.chart.specs.Ranges.{IsRange};

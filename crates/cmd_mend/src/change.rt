@@ -3,14 +3,12 @@ ghost use Rattle.std.specs.Prelude.{◌≡◌, ◌+◌, ◌-◌, ◌==◌, ◌&&
 ghost use Rattle.std.specs.List.{list_any};
 ghost use Rattle.chart.specs.Ranges.{events_of, events_in};
 ghost use Rattle.repair.specs.Growing.{message_of};
-ghost use Rattle.repair.specs.Messages.{moved_index};
-ghost use Rattle.cmd_mend.specs.Changes.{is_new, new_index, gone_of, all_gone, old_receives, kept_of};
+ghost use Rattle.repair.specs.Marks.{is_at, AreMarks};
+ghost use Rattle.cmd_mend.specs.Changes.{is_new, gone_of, all_gone, old_receives, kept_of};
 ghost use Rattle.cmd_mend.specs.Changes.{has_new, is_kept, changed_by};
-ghost use Rattle.cmd_mend.specs.Marks.{is_at, AreMarks};
 
-use crate::marks::marked;
 use chart::{EventNo, EventRange, InstanceNo, Report};
-use repair::Message;
+use repair::{Message, marked, new_index};
 use std::alloc::{AllocError, Global};
 use std::marker::Model;
 
@@ -45,26 +43,6 @@ fn is_new(message: &Message, event: &EventNo) -> bool
 {
     (event.instance == message.sender && is_behind(event.index, message.sent))
         || (event.instance == message.receiver && is_behind(event.index, message.received))
-}
-
-fn moved_index(kept: usize, index: u32) -> usize
-    ensures { result ≡ moved_index kept index }
-{
-    let index = index as usize;
-    if index <= kept { index } else { index + 1 }
-}
-
-/// The number of an old event in the new chart.
-fn new_index(message: &Message, event: &EventNo) -> usize
-    ensures { result ≡ new_index (message_of message.now) event.now }
-{
-    if event.instance == message.sender {
-        moved_index(message.sent, event.index)
-    } else if event.instance == message.receiver {
-        moved_index(message.received, event.index)
-    } else {
-        event.index as usize
-    }
 }
 
 /// Whether the number is that of one of so many events from the first on.

@@ -1,4 +1,4 @@
-//! That what is told to go is what goes, a law that a function with no body proves.
+//! The law that the races reported to go are those that go. A function with no body proves it.
 ghost use Rattle.cmd_mend.specs.Laws.{PlacesLaw};
 
 /// Without the new receive's report the reports of the new chart are, one by one, those of the old chart's receives. So

@@ -6,7 +6,7 @@ ghost use Rattle.cmd_mend.specs.Naming.{IsMessageName};
 use chart::{Line, Name};
 use cmd_base::ProgramError;
 use repair::{free_name, is_taken};
-use std::alloc::Global;
+use std::alloc::{AllocError, Global};
 use texts::name_in;
 
 /// What the new message is called: as it is asked for, or by the first of `ack`, `ack_2`, .. that no message has. G1:
@@ -23,7 +23,7 @@ pub(crate) fn message_name(
     match asked {
         None => match free_name(alloc, lines) {
             Ok(name) => Ok(name),
-            Err(_) => Err(ProgramError::Memory),
+            Err(AllocError) => Err(ProgramError::Memory),
         },
         Some(bytes) => match name_in(bytes) {
             Ok(name) => {

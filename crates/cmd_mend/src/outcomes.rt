@@ -1,4 +1,4 @@
-//! What is told of a pair that was to be mended, and of messages that were added.
+//! The report of a pair that was to be mended, and of messages that were added.
 ghost use Rattle.std.specs.Prelude.{◌≡◌, IfOk};
 ghost use Rattle.std.specs.List.{flat_map};
 ghost use Rattle.chart.specs.Charts.{chart_lines};
@@ -109,7 +109,7 @@ fn brief_bytes(
     requires { AreReports chart.now news.now }
     ensures { IfOk result (λ bytes. IsChangeText Detail.Brief names.now closure.now chart.now message.now bytes.items) }
 {
-    // (what each chart keeps is said by a call)
+    // (a call states what each chart keeps)
     let _ = closure.len();
     let _ = chart.lines();
     let olds = closure.races()?;
@@ -184,7 +184,7 @@ fn none_outcome(
     })
 }
 
-/// What is told of a pair of a chart.
+/// The report of a pair of a chart.
 pub(crate) fn outcome_of(
     alloc: Global,
     names: &Names,
@@ -227,7 +227,7 @@ fn status_left(left: usize) -> Status
     }
 }
 
-/// What is told of messages that were added.
+/// The report of messages that were added.
 pub(crate) fn additions_outcome(
     alloc: Global,
     names: &Names,

@@ -14,14 +14,14 @@ use crate::naming::message_name;
 use crate::outcomes::outcome_of;
 use chart::{Chart, Names};
 use closure::Closure;
-use cmd_base::pairs::{Asked, Pair, ViewError, pair_in};
+use cmd_base::pairs::{Asked, Pair, PairError, pair_in};
 use cmd_base::{ProgramError, Source, Text, answered, closure_of};
 use msc_text::write;
 use repair::{MendError, Mending};
-use std::alloc::Global;
+use std::alloc::{AllocError, Global};
 use texts::{Out, named};
 
-/// How much is told of the races that go, stay and come.
+/// How much is reported of the races that go, stay and come.
 #[derive(Clone, Copy, Debug, PartialEq, Eq)]
 pub enum Detail {
     /// The first ranges that go or come, and how many race pairs go, stay and come.
@@ -30,7 +30,7 @@ pub enum Detail {
     Full,
 }
 
-/// Which race is to go, what the new message is called, and how much is told; without a name it has one of its own.
+/// Which race is to go, what the new message is called, and how much is listed; without a name it has one of its own.
 #[derive(Clone, Copy, Debug)]
 pub struct Wanted<'a> {
     pub asked: Asked<'a>,
@@ -42,7 +42,7 @@ pub struct Wanted<'a> {
 fn refusal(cause: ProgramError) -> MendRefusal
     ensures { result ≡ by_program cause }
 {
-    MendRefusal::View(ViewError::Program(cause))
+    MendRefusal::View(PairError::Program(cause))
 }
 
 /// The refusal of a message, by the name of the instance whose line is full.
@@ -56,7 +56,7 @@ fn refused(names: &Names, error: &MendError) -> MendRefusal
     }
 }
 
-/// Writes the chart, if there is one, and answers what is told. All memory is taken before the first byte is written.
+/// Writes the chart, if there is one, and answers the report. All memory is taken before the first byte is written.
 fn write_mending<W: Out>(
     alloc: Global,
     names: &Names,
@@ -71,8 +71,9 @@ fn write_mending<W: Out>(
     requires made { IsMadeOf closure.now mending.now }
     ensures { Writes W.sink out.old out.new (names.now, closure.now) detail pair.now mending.now result }
 {
-    let Ok(outcome) = outcome_of(alloc, names, closure, pair, detail, mending) else {
-        return Err(refusal(ProgramError::Memory));
+    let outcome = match outcome_of(alloc, names, closure, pair, detail, mending) {
+        Ok(outcome) => outcome,
+        Err(AllocError) => return Err(refusal(ProgramError::Memory)),
     };
     match mending {
         Mending::Mended(_, chart, _) => match write(names, chart, out) {
@@ -135,10 +136,10 @@ pub fn mend_of_source<W: Out, V: Out>(
 }
 
 /// Writes to `out` the chart that the bytes of a file say, or that their schedule comes to, with one message more by
-/// which the race that is asked about is gone. Tells on `err` where the message is, and which races go, in the old
+/// which the race that is asked about is gone. Reports on `err` where the message is, and which races go, in the old
 /// chart's numbers, and stay and come, in the new one's: in brief the first ranges that go or come, and counts. Where
 /// no message from the race's instance to its receive's sender does, none is needed, or a coregion hides the pair, it
-/// writes nothing, and tells that on `err`, as it does the line of a refusal. Answers the exit status: 1 where there is
+/// writes nothing, and says that on `err`, as it does the line of a refusal. Answers the exit status: 1 where there is
 /// no such message, 2 after a refusal, and else 0.
 /// Nothing is written to `out` before a refusal, but where writing to it failed (F24). A failed write to `err` changes
 /// nothing.

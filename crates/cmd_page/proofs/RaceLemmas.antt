@@ -4,7 +4,7 @@ use Rattle.std.specs.Prelude.{nat_lt, slice_get}
 use Rattle.std.proofs.lemmas.Option.{same_Some}
 use Rattle.std.proofs.lemmas.List.{length_push}
 use Rattle.chart.proofs.Places.{each-push}
-use Rattle.cmd_base.specs.Files.{Named}
+use Rattle.cmd_base.specs.Contents.{Named}
 use Rattle.cmd_page.specs.declared.text.race.Race.{Race}
 use Rattle.cmd_page.specs.declared.marks.pairs.RaceRange.{RaceRange}
 use Rattle.cmd_page.specs.Races.{IsPageRace, AreFirst}

@@ -1,1 +1,1 @@
-pub mod Drawings
+pub mod DiagramPages

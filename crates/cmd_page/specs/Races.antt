@@ -4,7 +4,7 @@ use Rattle.chart.specs.declared.event.Event.{Event}
 use Rattle.chart.specs.declared.instance.EventNo.{EventNo}
 use Rattle.chart.specs.declared.ranges.EventRange.{EventRange}
 use Rattle.chart.specs.Charts.{chart_lines}
-use Rattle.cmd_base.specs.Files.{Named}
+use Rattle.cmd_base.specs.Contents.{Named}
 use Rattle.texts.specs.Instances.{name_at}
 use Rattle.cmd_page.specs.declared.text.race.Answers.{Answers}
 use Rattle.cmd_page.specs.declared.text.race.Race.{Race}

@@ -2,7 +2,7 @@
 use Rattle.std.specs.Prelude.{◌≡◌, ℕ, ◌-◌, ◌^◌, false, List, [], length, Option, None, Some, option_map, Result, Ok, Err}
 use Rattle.chart.specs.Charts.{chart_lines, IsPossible}
 use Rattle.cmd_base.specs.Answers.{Exit, exit_of, program_exit}
-use Rattle.cmd_base.specs.Files.{Named, IsRefused}
+use Rattle.cmd_base.specs.Contents.{Named, IsRefused}
 use Rattle.cmd_base.specs.NotDone.{IsNoted, not_done_exit}
 use Rattle.cmd_base.specs.Texts.{OfFile, named_of}
 use Rattle.cmd_base.specs.declared.error.ProgramError.{ProgramError}
@@ -53,7 +53,7 @@ pub record IsAskedOf (file : List ℕ) (wanted : Wanted) : Type 0 where
   pub numbers : wanted.numbers ≡ false
 
 -- the picture is the output of `draw` for the bytes
-pub record IsDrawn (bytes file picture : List ℕ) : Type 0 where
+pub record IsPicture (bytes file picture : List ℕ) : Type 0 where
   pub wanted : Wanted
   pub asked : IsAskedOf file wanted
   pub out : Stored
@@ -62,7 +62,7 @@ pub record IsDrawn (bytes file picture : List ℕ) : Type 0 where
   pub text : picture ≡ out.bytes
 
 -- the picture is the output of `draw` for the chart in the order of the turns, without notes
-pub record IsDrawnBy (turns file : List ℕ) (named : Named) (picture : List ℕ) : Type 0 where
+pub record IsPictureBy (turns file : List ℕ) (named : Named) (picture : List ℕ) : Type 0 where
   pub wanted : Wanted
   pub asked : IsAskedOf file wanted
   pub out : Stored
@@ -71,8 +71,8 @@ pub record IsDrawnBy (turns file : List ℕ) (named : Named) (picture : List ℕ
 
 -- the picture is that of the bytes, or of the chart in the order of turns
 abbrev pub HasPicture : Option (List ℕ) → List ℕ → List ℕ → Named → List ℕ → Type 0
-HasPicture None bytes file named picture = IsDrawn bytes file picture
-HasPicture (Some turns) bytes file named picture = IsDrawnBy turns file named picture
+HasPicture None bytes file named picture = IsPicture bytes file picture
+HasPicture (Some turns) bytes file named picture = IsPictureBy turns file named picture
 
 -- the page of the bytes' chart, which some run has
 pub record IsPageOf (bytes : List ℕ) (heading : HeadingView) (named : Named) (page : Page) : Type 0 where

@@ -1,6 +1,6 @@
 //! What `mscview page --from` writes for the bytes of another tool's text, and its refusals.
 //!
-//! The bytes of the text, the tool, the options and a title decide the output of [`page_of_drawing`].
+//! The bytes of the text, the tool, the options and a title decide the output of [`page_of_diagram`].
 //!
 //! - With status 0 it wrote the page that `mscview page` writes for the chart of `mscview import`, with one
 //!   exception. The events of its picture are in the order of the diagram's rows, as in the picture of `mscview draw
@@ -9,6 +9,6 @@
 //! - With status 2 it wrote the refusal's line, or the beginning of it if standard error failed. Nothing was written
 //!   to the output before, unless a write failed (F24).
 
-mod drawings;
+mod diagram_pages;
 
-pub use drawings::{PageError, page_of_drawing};
+pub use diagram_pages::{PageError, page_of_diagram};

@@ -10,7 +10,7 @@
 //! - With status 2 it wrote the refusal's line, or the beginning of it if standard error failed. Nothing was written
 //!   to the output before, unless a write failed (F24).
 //!
-//! [`show_drawn`] promises the same with the text of a chart in place of the file's bytes. If a [`Heading`] has
+//! [`show_chart_text`] promises the same with the text of a chart in place of the file's bytes. If a [`Heading`] has
 //! turns, the picture is the output of `mscview draw` for the chart in this order. If it has races with verdicts, the
 //! page lists these, with the words of `mscview races --from log`.
 //!
@@ -29,4 +29,4 @@ mod text_page;
 
 pub use marks::{MOST_BYTES, MOST_EXPLAINED};
 pub use showing::{Heading, show_text, write_page_of};
-pub use text_page::show_drawn;
+pub use text_page::show_chart_text;

@@ -7,8 +7,8 @@ ghost use Rattle.cmd_page.specs.Marks.Pairing.{HasRange};
 ghost use Rattle.cmd_page.specs.Showing.{
   HasPicture,
   IsAskedOf,
-  IsDrawn,
-  IsDrawnBy,
+  IsPicture,
+  IsPictureBy,
   Shows,
   ShowsFile,
   ShowsText,
@@ -54,7 +54,7 @@ fn wanted_of(title: &[u8]) -> Wanted<'_>
 
 /// The picture of a file with this title: the output of `draw`.
 fn picture_of(alloc: Global, bytes: &[u8], title: &[u8]) -> Result<Vec<u8>, AllocError>
-    ensures { IfOk result (λ picture. IsDrawn bytes.now title.now picture.items) }
+    ensures { IfOk result (λ picture. IsPicture bytes.now title.now picture.items) }
 {
     let wanted = wanted_of(title);
     let mut out = Collected::new(alloc);
@@ -77,7 +77,7 @@ fn picture_by(
     title: &[u8],
 ) -> Result<Vec<u8>, AllocError>
     requires { length names.now ≡ length chart.now }
-    ensures { IfOk result (λ picture. IsDrawnBy turns.now title.now (names.now, chart.now) picture.items) }
+    ensures { IfOk result (λ picture. IsPictureBy turns.now title.now (names.now, chart.now) picture.items) }
 {
     let wanted = wanted_of(title);
     let mut out = Collected::new(alloc);
@@ -123,12 +123,14 @@ fn show_closure<W: Out>(
     ensures { Shows W.sink out.old out.new result file.entry.bytes.now (heading_view heading.now)
         (names.now, closure.now) }
 {
-    let Ok(pairs) = races_in(alloc, closure, heading.races) else {
-        return Err(ProgramError::Memory);
+    let pairs = match races_in(alloc, closure, heading.races) {
+        Ok(pairs) => pairs,
+        Err(AllocError) => return Err(ProgramError::Memory),
     };
     let explained = explained_of(file.bytes.len(), pairs.len());
-    let Ok(races) = races_of(alloc, file, names, closure, pairs.as_slice(), explained) else {
-        return Err(ProgramError::Memory);
+    let races = match races_of(alloc, file, names, closure, pairs.as_slice(), explained) {
+        Ok(races) => races,
+        Err(AllocError) => return Err(ProgramError::Memory),
     };
     let page = Page {
         title: heading.title,
@@ -157,8 +159,9 @@ fn show_chart<W: Out>(
     ensures { Shows W.sink out.old out.new result file.entry.bytes.now (heading_view heading.now) (names.now, chart.now) }
 {
     let closure = closure_of(alloc, names, chart)?;
-    let Ok(picture) = picture_in(alloc, file.bytes, names, chart, heading) else {
-        return Err(ProgramError::Memory);
+    let picture = match picture_in(alloc, file.bytes, names, chart, heading) {
+        Ok(picture) => picture,
+        Err(AllocError) => return Err(ProgramError::Memory),
     };
     show_closure(
         alloc,

@@ -24,7 +24,7 @@ fn text_of(alloc: Global, names: &Names, chart: &Chart) -> Result<Vec<u8>, Alloc
 }
 
 /// Writes the page of a chart's text. The chart has a line for each name. The refusals are those of [`show_text`].
-pub fn show_drawn<W: Out>(
+pub fn show_chart_text<W: Out>(
     alloc: Global,
     names: &Names,
     chart: &Chart,
@@ -35,8 +35,9 @@ pub fn show_drawn<W: Out>(
     requires ranges { IfSome heading.now.races (λ races. All HasRange races.now) }
     ensures { ShowsText W.sink out.old out.new (heading_view heading.now) (chart_text names.now chart.now) result }
 {
-    let Ok(text) = text_of(alloc, names, chart) else {
-        return Err(ProgramError::Memory);
+    let text = match text_of(alloc, names, chart) {
+        Ok(text) => text,
+        Err(AllocError) => return Err(ProgramError::Memory),
     };
     show_text(alloc, text.as_slice(), heading, out)
 }

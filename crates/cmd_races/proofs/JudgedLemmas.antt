@@ -3,10 +3,10 @@ use Rattle.std.proofs.Common.{◌≡◌, ℕ, ◌⊎◌, inl, inr, List, Err, re
 use Rattle.chart.specs.declared.instance.EventNo.{EventNo}
 use Rattle.cmd_base.specs.declared.error.ProgramError.{ProgramError}
 use Rattle.cmd_base.specs.declared.error.ProgramError.TheVariants.{Usage, File, Memory, Text, ReceiveWithoutSend, NameMismatch, Cyclic, Write}
-use Rattle.cmd_base.specs.Files.{Named, IsRefused}
+use Rattle.cmd_base.specs.Contents.{Named, IsRefused}
 use Rattle.texts.specs.Outs.{Sink}
-use Rattle.cmd_base.specs.declared.columns.error.FormatError.{FormatError}
-use Rattle.cmd_base.specs.declared.columns.error.FormatError.TheVariants.{Program, NoSuchName}
+use Rattle.cmd_base.specs.declared.columns.error.ColumnError.{ColumnError}
+use Rattle.cmd_base.specs.declared.columns.error.ColumnError.TheVariants.{Program, NoSuchName}
 use Rattle.cmd_base.specs.Columns.Columns.{AreColumns, RefusesColumns, only_of}
 use Rattle.cmd_races.specs.declared.judging.LuckWanted.{LuckWanted}
 use Rattle.cmd_races.specs.Judging.{ShowsJudged}
@@ -15,7 +15,7 @@ use Rattle.race_verdicts.specs.declared.verdict.Verdict.{Verdict}
 
 module _ {S : Type 0} (sink : S → Sink) (is : EventNo → EventNo → Verdict → Type 0) (old : S) (named : Named) (wanted : LuckWanted) where
   -- no such instances
-  pub unnamed : (error : FormatError) → RefusesColumns named.0 (only_of wanted.races.only) error → ShowsJudged sink is old old (Err error) wanted named
+  pub unnamed : (error : ColumnError) → RefusesColumns named.0 (only_of wanted.races.only) error → ShowsJudged sink is old old (Err error) wanted named
   unnamed NoSuchName none = (none, refl)
   unnamed (Program Memory) why = refl
   unnamed (Program Usage) why = absurd why

@@ -2,9 +2,9 @@
 use Rattle.std.proofs.Common.{◌≡◌, ℕ, ◌⊎◌, inl, inr, List, Err, refl}
 use Rattle.cmd_base.specs.declared.error.ProgramError.{ProgramError}
 use Rattle.cmd_base.specs.declared.error.ProgramError.TheVariants.{Usage, File, Memory, Text, ReceiveWithoutSend, NameMismatch, Cyclic, Write}
-use Rattle.cmd_base.specs.Files.{Named, IsRefused}
+use Rattle.cmd_base.specs.Contents.{Named, IsRefused}
 use Rattle.texts.specs.Outs.{Sink}
-use Rattle.cmd_base.specs.declared.columns.error.FormatError.TheVariants.{Program}
+use Rattle.cmd_base.specs.declared.columns.error.ColumnError.TheVariants.{Program}
 use Rattle.cmd_base.specs.Columns.Columns.{AreColumns, only_of}
 use Rattle.cmd_races.specs.declared.showing.Wanted.{Wanted}
 use Rattle.cmd_races.specs.Showing.{Shows}

@@ -5,10 +5,10 @@ use Rattle.chart.specs.Reports.{ReportView}
 use Rattle.cmd_base.specs.declared.error.ProgramError.TheVariants as errors
 use Rattle.cmd_base.specs.NotDone.{IsNoted}
 use Rattle.cmd_base.specs.Texts.{OfFile, named_of}
-use Rattle.cmd_base.specs.Files.{Named, IsRefused}
+use Rattle.cmd_base.specs.Contents.{Named, IsRefused}
 use Rattle.cmd_base.specs.Columns.Columns.{AreColumns, only_of}
-use Rattle.cmd_base.specs.declared.columns.error.FormatError.{FormatError}
-use Rattle.cmd_base.specs.declared.columns.error.FormatError.TheVariants.{Program, NoSuchName}
+use Rattle.cmd_base.specs.declared.columns.error.ColumnError.{ColumnError}
+use Rattle.cmd_base.specs.declared.columns.error.ColumnError.TheVariants.{Program, NoSuchName}
 use Rattle.cmd_base.specs.Statuses.{status_in}
 use Rattle.texts.specs.Outs.{Sink}
 use Rattle.texts.specs.Writing.{Puts, Breaks}
@@ -16,7 +16,8 @@ use Rattle.cmd_races.specs.declared.showing.Wanted.{Wanted}
 use Rattle.cmd_base.specs.declared.source.Source.{Source}
 use Rattle.cmd_base.specs.declared.status.Status.{Status}
 use Rattle.cmd_races.specs.declared.shown_file.ShownFile.{ShownFile}
-use Rattle.races_text.specs.Named.Listing.{Manner, AreSelected, races_text, shows_races}
+use Rattle.races_text.specs.Named.Listing.{Manner, races_text, shows_races}
+use Rattle.shown_races.specs.Selected.{AreSelected}
 
 -- the manner in which they are written, for these instances
 abbrev pub manner_of : Wanted → List ℕ → Manner
@@ -34,7 +35,7 @@ pub record AreWanted (wanted : Wanted) (named : Named) (instances : List ℕ) (r
   pub races : AreSelected wanted.run_to_completion named.1 reports
 
 -- races were written so, and the commands of a schedule that did nothing are these
-abbrev pub IsShownOf : (Source → Result Status FormatError → Type 0) → Source → Result ShownFile FormatError → Type 0
+abbrev pub IsShownOf : (Source → Result Status ColumnError → Type 0) → Source → Result ShownFile ColumnError → Type 0
 IsShownOf = IsNoted (λ shown. shown.status) (λ shown. shown.not_done)
 
 -- their text
@@ -45,7 +46,7 @@ module _ {S : Type 0} (sink : S → Sink) where
   -- the races were written, and the status depends on whether one is shown. If a put failed, the beginning of their
   -- text was written. Nothing was written if there are no such instances, if no run has the chart, or if memory ran
   -- out
-  abbrev pub Shows : S → S → Result Status FormatError → Wanted → Named → Type 0
+  abbrev pub Shows : S → S → Result Status ColumnError → Wanted → Named → Type 0
   Shows old new (Ok status) wanted named = (instances : List ℕ) × (reports : List ReportView)
       × AreWanted wanted named instances reports × Puts sink old new (text_of wanted named instances reports)
       × (status ≡ status_in (shows_races (manner_of wanted instances) named.1 reports))
@@ -58,6 +59,6 @@ module _ {S : Type 0} (sink : S → Sink) where
       × AreColumns named.0 (only_of wanted.only) instances × IsRefused error named × (new ≡ old)
 
   -- the same for the chart of the bytes; or nothing was written, if the bytes have a fault
-  abbrev pub ShowsText : S → S → Wanted → List ℕ → Result ShownFile FormatError → Type 0
+  abbrev pub ShowsText : S → S → Wanted → List ℕ → Result ShownFile ColumnError → Type 0
   ShowsText old new wanted bytes =
       OfFile Program (IsShownOf (λ source done. Shows old new done wanted (named_of source))) old new bytes

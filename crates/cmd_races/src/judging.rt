@@ -4,25 +4,25 @@ ghost use Rattle.chart.specs.declared.instance.EventNo.{EventNo};
 ghost use Rattle.chart.specs.Charts.{chart_lines, IsPossible};
 ghost use Rattle.cmd_base.specs.Columns.Columns.{AreColumns, only_of};
 ghost use Rattle.races_text.specs.Judged.Listing.{IsRaceIn};
-ghost use Rattle.races_text.specs.Named.Listing.{is_there};
+ghost use Rattle.shown_races.specs.Selected.{is_there};
 ghost use Rattle.cmd_races.specs.Judging.{ShowsJudged, IsLuckRefused, ShowsUnknown};
 
 use crate::showing::{Wanted, show_chart};
 use chart::{Chart, InstanceNo, Names};
 use closure::Closure;
-use cmd_base::columns::{FormatError, columns_in};
+use cmd_base::columns::{ColumnError, columns_in};
 use cmd_base::{ProgramError, Status};
 use races_text::judged::{RaceSummary, VerdictQuery, Verdicts, write_luck};
 use races_text::named::RaceQuery;
 use reordering::completion::Completion;
-use std::alloc::Global;
+use std::alloc::{AllocError, Global};
 use texts::Out;
 
 /// The selection of a recording's races, and their form.
 #[derive(Clone, Copy, Debug)]
 pub struct LuckWanted<'a> {
     pub races: Wanted<'a>,
-    /// Whether only races that were luck are shown.
+    /// Whether only races are shown that were luck or may have been.
     pub luck: bool,
 }
 
@@ -36,7 +36,7 @@ fn show_selected<W: Out, V: Verdicts>(
     completion: Option<&Completion<'_>>,
     verdicts: &V,
     out: &mut W,
-) -> Result<RaceSummary, FormatError>
+) -> Result<RaceSummary, ColumnError>
     requires instances { AreColumns names.now (only_of wanted.now.races.only) instances.now }
     requires possible { IsPossible (length closure.now) (chart_lines closure.now) }
     requires lines { IfSome completion (λ completion. completion.now ≡ closure.now) }
@@ -44,8 +44,9 @@ fn show_selected<W: Out, V: Verdicts>(
     requires races { (r e : EventNo) → IsRaceIn closure.now r e → V.is_race verdicts.now r e }
     ensures { ShowsJudged W.sink (V.is_verdict verdicts.now) out.old out.new result wanted.now (names.now, closure.now) }
 {
-    let Ok(reporter) = closure.reporter() else {
-        return Err(FormatError::Program(ProgramError::Memory));
+    let reporter = match closure.reporter() {
+        Ok(reporter) => reporter,
+        Err(AllocError) => return Err(ColumnError::Program(ProgramError::Memory)),
     };
     let query = VerdictQuery {
         query: RaceQuery {
@@ -61,7 +62,7 @@ fn show_selected<W: Out, V: Verdicts>(
     };
     match write_luck(&query, reporter, out) {
         Ok(summary) => Ok(summary),
-        Err(_) => Err(FormatError::Program(ProgramError::Write)),
+        Err(_) => Err(ColumnError::Program(ProgramError::Write)),
     }
 }
 
@@ -75,7 +76,7 @@ pub fn show_judged<W: Out, V: Verdicts>(
     wanted: &LuckWanted<'_>,
     verdicts: &V,
     out: &mut W,
-) -> Result<RaceSummary, FormatError>
+) -> Result<RaceSummary, ColumnError>
     requires instances { AreColumns names.now (only_of wanted.now.races.only) instances.now }
     requires possible { IsPossible (length closure.now) (chart_lines closure.now) }
     requires races { (r e : EventNo) → IsRaceIn closure.now r e → V.is_race verdicts.now r e }
@@ -84,8 +85,9 @@ pub fn show_judged<W: Out, V: Verdicts>(
     if !wanted.races.run_to_completion {
         return show_selected(names, closure, instances, wanted, None, verdicts, out);
     }
-    let Ok(completion) = Completion::of(alloc, closure) else {
-        return Err(FormatError::Program(ProgramError::Memory));
+    let completion = match Completion::of(alloc, closure) {
+        Ok(completion) => completion,
+        Err(AllocError) => return Err(ColumnError::Program(ProgramError::Memory)),
     };
     show_selected(
         names,
@@ -100,11 +102,11 @@ pub fn show_judged<W: Out, V: Verdicts>(
 
 /// Refuses luck if it isn't known. F34: a name in `only` isn't one of the chart's, or is there twice. Otherwise G1.
 /// F6 is possible before.
-fn refuse_luck(alloc: Global, names: &Names, wanted: &Wanted<'_>) -> Result<Status, FormatError>
+fn refuse_luck(alloc: Global, names: &Names, wanted: &Wanted<'_>) -> Result<Status, ColumnError>
     ensures { IsLuckRefused names.now (only_of wanted.now.only) result }
 {
     let _columns = columns_in(alloc, names, wanted.only)?;
-    Err(FormatError::Program(ProgramError::Usage))
+    Err(ColumnError::Program(ProgramError::Usage))
 }
 
 /// Writes the wanted races of a chart for which luck isn't known. It refuses the option `--luck`.
@@ -114,7 +116,7 @@ pub fn show_unknown<W: Out>(
     chart: &Chart,
     wanted: &LuckWanted<'_>,
     out: &mut W,
-) -> Result<Status, FormatError>
+) -> Result<Status, ColumnError>
     requires { length names.now ≡ length chart.now }
     ensures { ShowsUnknown W.sink wanted.now.luck out.old out.new result wanted.now (names.now, chart.now) }
 {

@@ -9,9 +9,9 @@
 //! - With status 2 it wrote the refusal's line, or the beginning of it if standard error failed. Nothing was written
 //!   to the output before, unless a write failed (F24).
 //!
-//! [`show_judged`] promises the same for a chart's races with the words of given verdicts, or for those that were
-//! luck. [`show_unknown`] does if luck isn't known: it refuses `--luck` (G1), after a name that isn't the chart's
-//! (F34).
+//! [`show_judged`] promises the same for a chart's races with the words of given verdicts, or for those that were luck
+//! or may have been. [`show_unknown`] does if luck isn't known: it refuses `--luck` (G1), after a name that isn't the
+//! chart's (F34).
 //!
 //! [`imports`] is for diagrams of other tools, [`logs`] for logs, and [`schedules`] for `--luck` with a schedule.
 #![tactic(auto)]

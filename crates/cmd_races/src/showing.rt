@@ -5,16 +5,16 @@ ghost use Rattle.cmd_base.specs.Answers.{Answers};
 ghost use Rattle.cmd_base.specs.Columns.Columns.{AreColumns, only_of};
 ghost use Rattle.cmd_races.specs.Showing.{Shows, ShowsText};
 ghost use Rattle.cmd_races.specs.Statuses.{shown_exit};
-ghost use Rattle.races_text.specs.Named.Listing.{is_there};
+ghost use Rattle.shown_races.specs.Selected.{is_there};
 
 use crate::shown_file::ShownFile;
 use chart::{Chart, InstanceNo, Names};
 use closure::Closure;
-use cmd_base::columns::{FormatError, columns_in};
+use cmd_base::columns::{ColumnError, columns_in};
 use cmd_base::{ProgramError, Source, Status, Text, answered, closure_of};
 use races_text::named::{Form, RaceQuery, write_races};
 use reordering::completion::Completion;
-use std::alloc::Global;
+use std::alloc::{AllocError, Global};
 use texts::Out;
 
 /// The selection of a file's races, and their form.
@@ -39,15 +39,16 @@ fn show_selected<W: Out>(
     wanted: &Wanted<'_>,
     completion: Option<&Completion<'_>>,
     out: &mut W,
-) -> Result<Status, FormatError>
+) -> Result<Status, ColumnError>
     requires instances { AreColumns names.now (only_of wanted.now.only) instances.now }
     requires possible { IsPossible (length closure.now) (chart_lines closure.now) }
     requires lines { IfSome completion (λ completion. completion.now ≡ closure.now) }
     requires asked { is_there completion ≡ wanted.now.run_to_completion }
     ensures { Shows W.sink out.old out.new result wanted.now (names.now, closure.now) }
 {
-    let Ok(reporter) = closure.reporter() else {
-        return Err(FormatError::Program(ProgramError::Memory));
+    let reporter = match closure.reporter() {
+        Ok(reporter) => reporter,
+        Err(AllocError) => return Err(ColumnError::Program(ProgramError::Memory)),
     };
     let query = RaceQuery {
         names,
@@ -59,7 +60,7 @@ fn show_selected<W: Out>(
     };
     match write_races(&query, reporter, out) {
         Ok(shown) => Ok(Status::of(shown)),
-        Err(_) => Err(FormatError::Program(ProgramError::Write)),
+        Err(_) => Err(ColumnError::Program(ProgramError::Write)),
     }
 }
 
@@ -71,7 +72,7 @@ fn show_races<W: Out>(
     instances: &[InstanceNo],
     wanted: &Wanted<'_>,
     out: &mut W,
-) -> Result<Status, FormatError>
+) -> Result<Status, ColumnError>
     requires instances { AreColumns names.now (only_of wanted.now.only) instances.now }
     requires possible { IsPossible (length closure.now) (chart_lines closure.now) }
     ensures { Shows W.sink out.old out.new result wanted.now (names.now, closure.now) }
@@ -79,8 +80,9 @@ fn show_races<W: Out>(
     if !wanted.run_to_completion {
         return show_selected(names, closure, instances, wanted, None, out);
     }
-    let Ok(completion) = Completion::of(alloc, closure) else {
-        return Err(FormatError::Program(ProgramError::Memory));
+    let completion = match Completion::of(alloc, closure) {
+        Ok(completion) => completion,
+        Err(AllocError) => return Err(ColumnError::Program(ProgramError::Memory)),
     };
     show_selected(names, closure, instances, wanted, Some(&completion), out)
 }
@@ -94,7 +96,7 @@ pub fn show_chart<W: Out>(
     chart: &Chart,
     wanted: &Wanted<'_>,
     out: &mut W,
-) -> Result<Status, FormatError>
+) -> Result<Status, ColumnError>
     requires { length names.now ≡ length chart.now }
     ensures { Shows W.sink out.old out.new result wanted.now (names.now, chart.now) }
 {
@@ -109,7 +111,7 @@ fn show_text<W: Out>(
     bytes: &[u8],
     wanted: &Wanted<'_>,
     out: &mut W,
-) -> Result<ShownFile, FormatError>
+) -> Result<ShownFile, ColumnError>
     ensures { ShowsText W.sink out.old out.new wanted.now bytes.now result }
 {
     let text = Text::read(alloc, bytes)?;

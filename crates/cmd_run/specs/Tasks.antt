@@ -2,7 +2,7 @@
 use Rattle.std.specs.Prelude.{◌≡◌, ℕ, List, length, Result, Ok, Err}
 use Rattle.chart.specs.Charts.{chart_lines, IsPossible}
 use Rattle.chart.specs.Reports.{ReportView, AreReports, has_races}
-use Rattle.cmd_base.specs.Files.{Named, IsRefused}
+use Rattle.cmd_base.specs.Contents.{Named, IsRefused}
 use Rattle.msc_text.specs.Reader.Reading.{chart_of}
 use Rattle.texts.specs.Outs.{Sink}
 use Rattle.msc_text.specs.RaceText.{races_text}

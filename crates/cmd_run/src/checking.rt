@@ -10,7 +10,7 @@ use chart::{EventRange, Names};
 use closure::Reporter;
 use cmd_base::{ProgramError, Status, chart_in, closure_of};
 use msc_text::RaceLines;
-use std::alloc::Global;
+use std::alloc::{AllocError, Global};
 use texts::{Out, TextBuffer, WriteError};
 
 /// Whether there is an event in these ranges.
@@ -69,8 +69,9 @@ pub fn check<W: Out>(alloc: Global, text: &[u8], out: &mut W) -> Result<Status, 
 {
     let (names, chart) = chart_in(alloc, text)?;
     let closure = closure_of(alloc, &names, &chart)?;
-    let Ok(reporter) = closure.reporter() else {
-        return Err(ProgramError::Memory);
+    let reporter = match closure.reporter() {
+        Ok(reporter) => reporter,
+        Err(AllocError) => return Err(ProgramError::Memory),
     };
     match write(&names, reporter, out) {
         Ok(has_races) => Ok(Status::of(has_races)),

@@ -3,7 +3,7 @@ ghost use Rattle.std.specs.Prelude.{◌≡◌, Result, Ok};
 ghost use Rattle.schedule.specs.Plans.{Plan};
 ghost use Rattle.schedule.specs.Reading.{schedule_of};
 ghost use Rattle.texts.specs.declared.fault.Fault.{Fault};
-ghost use Rattle.cmd_base.specs.Files.{Reads};
+ghost use Rattle.cmd_base.specs.Contents.{Reads};
 ghost use Rattle.cmd_run.specs.Tasks.{drawn_by, Replays};
 
 use cmd_base::{ProgramError, Status, schedule_in};

@@ -9,7 +9,7 @@ use cmd_base::{Answer, ProgramError, Status, answered, schedule_in};
 use instances::{Run, RunError};
 use schedule::Schedule;
 use schedule_threads::{RunOutcome, run_scripts};
-use std::alloc::Global;
+use std::alloc::{AllocError, Global};
 use std::thread::Threads;
 use texts::Out;
 
@@ -23,8 +23,9 @@ fn write_run<W: Out>(
     requires { IsRunOf schedule.now run }
     ensures { Shows W.sink schedule.now run out.old out.new result }
 {
-    let Ok(outcome) = RunOutcome::of(alloc, schedule, run) else {
-        return Err(ProgramError::Memory);
+    let outcome = match RunOutcome::of(alloc, schedule, run) {
+        Ok(outcome) => outcome,
+        Err(AllocError) => return Err(ProgramError::Memory),
     };
     match outcome.write(out) {
         Ok(()) => Ok(Status::of(outcome.has_races())),

@@ -1,7 +1,7 @@
 -- The results of `mscview tidy` for the bytes of a file.
 use Rattle.std.specs.Prelude.{◌≡◌, ℕ, ◌-◌, List, [], ◌∷◌, ◌++◌, length, codes, decimal, Option, None, Some, Result, Ok, Err, slice_index_or}
 use Rattle.cmd_base.specs.Answers.{Exit, program_exit, exit_of}
-use Rattle.cmd_base.specs.Files.{HasFault}
+use Rattle.cmd_base.specs.Contents.{HasFault}
 use Rattle.cmd_base.specs.Texts.{IsText}
 use Rattle.cmd_base.specs.declared.error.ProgramError.{ProgramError}
 use Rattle.cmd_base.specs.declared.error.ProgramError.TheVariants as errors

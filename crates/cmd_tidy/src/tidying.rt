@@ -7,7 +7,7 @@ ghost use Rattle.cmd_tidy.specs.Tidying.{typed_line, typed_fault, tidy_exit, Tid
 use crate::comments::Comments;
 use crate::exact::exact_text;
 use cmd_base::{ProgramError, Text, answered};
-use std::alloc::Global;
+use std::alloc::{AllocError, Global};
 use texts::{Fault, Out, TextBuffer, WriteError};
 
 /// The number of the typed line for a line of the exact text. `lines` has the numbers of the typed lines that stay
@@ -44,15 +44,17 @@ fn write_text<W: Out>(text: &[u8], out: &mut W) -> Result<(), WriteError>
 fn write_exact<W: Out>(alloc: Global, typed: &[u8], out: &mut W) -> Result<Comments, ProgramError>
     ensures { Tidies W.sink out.old out.new typed.now result }
 {
-    let Ok(exact) = exact_text(alloc, typed) else {
-        return Err(ProgramError::Memory);
+    let exact = match exact_text(alloc, typed) {
+        Ok(exact) => exact,
+        Err(AllocError) => return Err(ProgramError::Memory),
     };
     match Text::read(alloc, &exact.bytes) {
         Ok(_) => {}
         Err(ProgramError::Text(fault)) => {
             return Err(ProgramError::Text(typed_fault(&exact.lines, fault)));
         }
-        Err(_) => return Err(ProgramError::Memory),
+        Err(ProgramError::Memory) => return Err(ProgramError::Memory),
+        Err(_) => unreachable!(),
     }
     match write_text(&exact.bytes, out) {
         Ok(()) => Ok(Comments {

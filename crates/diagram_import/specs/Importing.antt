@@ -5,8 +5,8 @@ use Rattle.diagrams.specs.Diagrams.{DiagramView}
 use Rattle.diagrams.specs.Places.{earlier}
 use Rattle.diagrams.specs.declared.left_out.LeftOut.{LeftOut}
 use Rattle.diagrams.specs.declared.place.Place.{Place}
-use Rattle.diagrams.specs.Drawing.{◌>>=◌}
-use Rattle.diagram_join.specs.Drawing.{JoinedChartView, built_joined}
+use Rattle.diagrams.specs.Building.{◌>>=◌}
+use Rattle.diagram_join.specs.Building.{JoinedChartView, built_joined}
 use Rattle.diagram_join.specs.Joins.{JoinView, join_view}
 use Rattle.diagram_join.specs.declared.moves.Overtaking.{Overtaking}
 use Rattle.diagram_tool.specs.declared.Tool.{Tool}

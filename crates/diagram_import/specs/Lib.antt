@@ -6,5 +6,5 @@ pub mod Refusals
 pub mod Shown
 pub mod Skipping
 pub use Rattle.diagrams.specs.Diagrams
-pub use Rattle.diagrams.specs.Drawing
+pub use Rattle.diagrams.specs.Building
 pub use Rattle.diagrams.specs.LeftOuts

@@ -1,7 +1,7 @@
 -- The diagram of a text, in the language of its tool.
 use Rattle.std.specs.Prelude.{ℕ, List, Option, None, Some, Result, Ok, Err}
 use Rattle.diagrams.specs.Diagrams.{DiagramView}
-use Rattle.diagrams.specs.Drawing.{◌>>=◌}
+use Rattle.diagrams.specs.Building.{◌>>=◌}
 use Rattle.diagram_join.specs.declared.error.JoinError.TheVariants.{Instances}
 use Rattle.diagram_statements.specs.ToDiagram.Folds as folds
 use Rattle.diagram_statements.specs.declared.to_diagram.labels.Breaks.{Breaks}

@@ -1,7 +1,7 @@
 -- The diagram of a text, whether or not it has a chart.
 use Rattle.std.specs.Prelude.{ℕ, false, List, Option, Result, Ok, Err, if◌then◌else◌}
 use Rattle.diagrams.specs.Diagrams.{DiagramView}
-use Rattle.diagrams.specs.Drawing.{◌>>=◌}
+use Rattle.diagrams.specs.Building.{◌>>=◌}
 use Rattle.diagram_tool.specs.declared.Tool.{Tool}
 use Rattle.diagram_import.specs.Importing.{OptionsView, behind_mark}
 use Rattle.diagram_import.specs.Readers.{tool_in, diagram_in}

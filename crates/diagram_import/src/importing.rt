@@ -1,7 +1,7 @@
 //! Whole texts.
 ghost use Rattle.std.specs.Prelude.{◌≡◌, None, length, map, IfOk};
 ghost use Rattle.chart.specs.Charts.{chart_lines, IsPossible};
-ghost use Rattle.diagram_join.specs.Drawing.{joined_chart_view};
+ghost use Rattle.diagram_join.specs.Building.{joined_chart_view};
 ghost use Rattle.diagram_join.specs.Joins.{join_view};
 ghost use Rattle.diagram_import.specs.Refusals.{Gives};
 ghost use Rattle.diagram_import.specs.Importing.{options_view, behind_mark, with_place, first_place, first_overtaking, strictly, imported_from, imported};
@@ -10,7 +10,7 @@ use crate::error::ImportError;
 use crate::places::words_at;
 use crate::reading::{diagram_in, tool_in};
 use crate::skipping::{Skip, blanked, count_of_lines, is_beyond};
-use diagram_join::{Join, JoinError, JoinedChart, Overtaking, draw_joined};
+use diagram_join::{Join, JoinError, JoinedChart, Overtaking, build_joined};
 use diagram_tool::Tool;
 use diagrams::{LeftOut, Place};
 use std::alloc::Global;
@@ -114,7 +114,7 @@ fn imported_from(
 {
     let tool = tool_in(alloc, tool, text)?;
     let diagram = diagram_in(alloc, tool, text)?;
-    match draw_joined(alloc, diagram, joins) {
+    match build_joined(alloc, diagram, joins) {
         Ok(built) => strictly(alloc, is_strict, text, built),
         Err(JoinError::Memory) => Err(ImportError::Memory),
         Err(error) => Err(ImportError::NoChart(error)),

@@ -16,7 +16,7 @@ use diagram_statements::{ReadError, ReadText};
 use diagram_tool::Tool;
 use diagram_tool::detection::{ToolError, detected_tool};
 use diagrams::{Diagram, Place};
-use std::alloc::Global;
+use std::alloc::{AllocError, Global};
 
 /// The refusal of words at this place that can't be read.
 fn not_read(alloc: Global, text: &[u8], line: u64, column: u64) -> ImportError
@@ -25,7 +25,7 @@ fn not_read(alloc: Global, text: &[u8], line: u64, column: u64) -> ImportError
     let place = Place { line, column };
     match words_at(alloc, text, place) {
         Ok(words) => ImportError::NotRead(place, words),
-        Err(_) => ImportError::Memory,
+        Err(AllocError) => ImportError::Memory,
     }
 }
 
@@ -109,7 +109,7 @@ fn mermaid_in(alloc: Global, text: &[u8]) -> Result<Diagram, ImportError>
 {
     match diagram_mermaid::read(alloc, text) {
         Ok(read) => lines_in(alloc, Breaks::Mermaid, text, &read),
-        Err(_) => Err(ImportError::Memory),
+        Err(AllocError) => Err(ImportError::Memory),
     }
 }
 

@@ -1,6 +1,6 @@
 pub mod CoregionLemmas
 pub mod CutLemmas
-pub mod DrawingLemmas
+pub mod BuildingLemmas
 pub mod InstanceLemmas
 pub mod MoveLemmas
 pub mod PossibleLemmas

@@ -8,7 +8,7 @@ use Rattle.diagrams.specs.Messages.Following.{AreBuildable}
 use Rattle.diagrams.specs.Collecting.{CollectedView, collected}
 use Rattle.diagrams.specs.Crossing.{fault_from}
 use Rattle.diagrams.specs.Diagrams.{ParticipantView, ItemView}
-use Rattle.diagrams.specs.Drawing.{◌>>=◌}
+use Rattle.diagrams.specs.Building.{◌>>=◌}
 use Rattle.diagrams.specs.Full.{full_from}
 use Rattle.diagrams.specs.Losing.{kept}
 use Rattle.diagrams.specs.Naming.{named_from}
@@ -18,7 +18,7 @@ use Rattle.diagrams.proofs.ChartLemmas.{items_sound}
 use Rattle.diagrams.proofs.PlacedLemmas.{AreCollected}
 use Rattle.diagrams.proofs.StayingLemmas.{none_overtakes, stay_built}
 use Rattle.diagram_join.specs.Coregions.{cut_from}
-use Rattle.diagram_join.specs.Drawing.{unless, checked}
+use Rattle.diagram_join.specs.Building.{unless, checked}
 use Rattle.diagram_join.specs.Joined.{JoinedView, all_across, joined_of, unless_taken, joined}
 use Rattle.diagram_join.specs.Joins.{JoinView, is_misnamed, process_of, taken_from}
 use Rattle.diagram_join.specs.Joins as joins

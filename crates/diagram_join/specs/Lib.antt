@@ -1,5 +1,5 @@
 pub mod Coregions
-pub mod Drawing
+pub mod Building
 pub mod Joined
 pub mod Joins
 pub mod Moves

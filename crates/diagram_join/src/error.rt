@@ -1,9 +1,9 @@
 //! Why a diagram whose lines are joined has no chart.
 ghost use Rattle.std.specs.Prelude.{◌≡◌};
-ghost use Rattle.diagram_join.specs.Drawing.{join_error};
+ghost use Rattle.diagram_join.specs.Building.{join_error};
 ghost use Rattle.diagram_join.specs.declared.error.JoinError.TheVariants.{Memory};
 
-use diagrams::DrawError;
+use diagrams::BuildError;
 use std::alloc::{AllocError, AllocFailed};
 use thiserror::Error;
 
@@ -47,13 +47,13 @@ impl<T: Drop> From<AllocFailed<T>> for JoinError {
 }
 
 /// The same refusal, for a diagram whose lines may be joined.
-pub(crate) fn join_error(error: DrawError) -> JoinError
+pub(crate) fn join_error(error: BuildError) -> JoinError
     ensures { result ≡ join_error error }
 {
     match error {
-        DrawError::Memory => JoinError::Memory,
-        DrawError::Instances => JoinError::Instances,
-        DrawError::LineFull(line) => JoinError::LineFull(line),
-        DrawError::NotPossible(line) => JoinError::NotPossible(line),
+        BuildError::Memory => JoinError::Memory,
+        BuildError::Instances => JoinError::Instances,
+        BuildError::LineFull(line) => JoinError::LineFull(line),
+        BuildError::NotPossible(line) => JoinError::NotPossible(line),
     }
 }

@@ -1,14 +1,14 @@
 //! Charts of sequence diagrams in which several lines of one process are joined.
 //!
-//! [`draw_joined`] promises this, unless an allocation is refused. Names, chart, skipped constructs and reports are
-//! those of a definition over the diagram (`specs/Drawing`), or the result is the first refusal that applies. The chart
-//! is possible. Its messages are those of [`join_lines`] (`specs/Joined`).
+//! [`build_joined`] promises this, unless an allocation is refused. Names, chart, skipped constructs and reports are
+//! those of a definition over the diagram (`specs/Building`), or the result is the first refusal that applies. The
+//! chart is possible. Its messages are those of [`join_lines`] (`specs/Joined`).
 //!
 //! [`turns`] has the turns of a diagram's rows.
 #![tactic(auto)]
 
+mod building;
 mod coregions;
-mod drawing;
 mod error;
 mod instances;
 mod join;
@@ -17,7 +17,7 @@ mod moves;
 mod rows;
 pub mod turns;
 
-pub use drawing::{JoinedChart, draw_joined};
+pub use building::{JoinedChart, build_joined};
 pub use error::JoinError;
 pub use join::Join;
 pub use joined::{Joined, join_lines};

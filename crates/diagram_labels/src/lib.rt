@@ -21,5 +21,5 @@ mod spelling;
 pub use giving::GivenNames;
 pub use labels::{LabelNames, is_renamed};
 pub use laws::{called_law, labels_law, spelled_law};
-pub use renaming::{Renamed, add_renamed_labels, tell_label};
+pub use renaming::{Renamed, add_if_renamed, add_renamed_labels};
 pub use spelling::spelled;

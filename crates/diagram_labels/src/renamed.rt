@@ -3,6 +3,6 @@
 //! [`add_all_renamed`] promises this: it adds exactly one line for each such name, with its label. If a put fails, it
 //! has added a beginning of these lines. Nothing here takes memory.
 
-mod telling;
+mod reporting;
 
-pub use telling::add_all_renamed;
+pub use reporting::add_all_renamed;

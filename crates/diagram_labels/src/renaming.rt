@@ -15,7 +15,7 @@ pub struct Renamed {
 }
 
 /// Adds a label and its name, unless the name is the label with one `_` for each blank.
-pub fn tell_label(
+pub fn add_if_renamed(
     alloc: Global,
     renames: &mut Vec<Renamed>,
     label: &[u8],
@@ -51,7 +51,7 @@ pub fn add_renamed_labels(
         let Some(name) = name_in(names, place) else {
             return Ok(());
         };
-        tell_label(alloc, renames, label.as_slice(), name)?;
+        add_if_renamed(alloc, renames, label.as_slice(), name)?;
     }
     Ok(())
 }

@@ -7,7 +7,7 @@ use Rattle.chart.specs.declared.instance.EventNo.{EventNo}
 use Rattle.chart.specs.Charts.{LineView, chart_lines}
 use Rattle.chart.specs.Reports.{ReportView, AreReports, has_races}
 use Rattle.closure.specs.Faults.{place_of}
-use Rattle.diagrams.specs.Drawing.{DiagramChartView, ◌>>=◌}
+use Rattle.diagrams.specs.Building.{DiagramChartView, ◌>>=◌}
 use Rattle.diagram_import.specs.Importing.{behind_mark, first_place, first_overtaking, strictly_at, strictly, imported_from, imported}
 use Rattle.diagram_import.specs.Readers.{tool_in, diagram_in, refused_as, of_mscgen}
 use Rattle.diagram_import.specs.Refusals.{NoChart}
@@ -15,7 +15,7 @@ use Rattle.diagram_import.specs.Skipping.{blanked_from, line_behind}
 use Rattle.diagram_export.specs.Exports.{ExportView, note_of, report_at, in_row}
 use Rattle.diagram_export.specs.ExportText.{export_text}
 use Rattle.diagram_export.specs.Preparing.{IsExportOf, notes_of, notes_from, starts_from}
-use Rattle.diagram_join.specs.Drawing.{JoinedChartView, alone, built_joined}
+use Rattle.diagram_join.specs.Building.{JoinedChartView, alone, built_joined}
 use Rattle.chart_layout.specs.Ends.{AreEnds}
 use Rattle.chart_layout.specs.Layouts.{row_of}
 use Rattle.chart_layout.specs.declared.row.Row.{Row}

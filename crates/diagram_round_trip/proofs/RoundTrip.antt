@@ -10,12 +10,12 @@ use Rattle.chart.specs.Charts.{LineView, IsLine, chart_lines}
 use Rattle.chart.specs.Names.{IsName}
 use Rattle.chart.specs.Reports.{ReportView, AreReports}
 use Rattle.diagrams.specs.Diagrams.{DiagramView}
-use Rattle.diagrams.specs.Drawing.{DiagramChartView, ◌>>=◌, staying, chart_built, built_by, built, possible, within, built_named}
+use Rattle.diagrams.specs.Building.{DiagramChartView, ◌>>=◌, staying, chart_built, built_by, built, possible, within, built_named}
 use Rattle.diagrams.specs.Collecting.{CollectedView}
 use Rattle.diagrams.specs.Full.{load, full_from}
 use Rattle.diagrams.specs.Losing.{kept, with_lost}
 use Rattle.diagrams.specs.Naming.{names_from}
-use Rattle.diagrams.specs.declared.built.DrawError.TheVariants.{Instances}
+use Rattle.diagrams.specs.declared.built.BuildError.TheVariants.{Instances}
 use Rattle.diagrams.specs.declared.left_out.LeftOut.{LeftOut}
 use Rattle.diagrams.specs.declared.message.Message.{Message}
 use Rattle.diagram_export.specs.ExportText.{export_text}

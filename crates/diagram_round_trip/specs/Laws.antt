@@ -3,14 +3,14 @@ use Rattle.std.specs.Prelude.{◌≡◌, ◌≢◌, ◌⊎◌, ℕ, Bool, true, 
 use Rattle.chart.specs.Charts.{LineView, chart_lines}
 use Rattle.chart.specs.Reports.{ReportView, AreReports, has_races}
 use Rattle.chart.specs.declared.instance.EventNo.{EventNo}
-use Rattle.diagrams.specs.Drawing.{DiagramChartView}
+use Rattle.diagrams.specs.Building.{DiagramChartView}
 use Rattle.diagrams.specs.declared.left_out.Kind.TheVariants.{Note}
 use Rattle.diagram_import.specs.Importing.{OptionsView, imported}
 use Rattle.diagram_import.specs.Refusals.{Refusal}
 use Rattle.diagram_export.specs.Exports.{ExportView}
 use Rattle.diagram_export.specs.ExportText.{export_text}
 use Rattle.diagram_export.specs.Preparing.{IsExportOf}
-use Rattle.diagram_join.specs.Drawing.{JoinedChartView}
+use Rattle.diagram_join.specs.Building.{JoinedChartView}
 use Rattle.chart_layout.specs.Ends.{AreEnds}
 use Rattle.chart_layout.specs.Picking.{IsLayout}
 use Rattle.chart_layout.specs.declared.row.Row.{Row}

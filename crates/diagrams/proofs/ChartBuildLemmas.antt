@@ -10,20 +10,20 @@ use Rattle.diagram_labels.specs.Labels.{none}
 use Rattle.diagram_labels.specs.Spelling.{spelled}
 use Rattle.diagrams.specs.Collecting.{CollectedView, collected}
 use Rattle.diagrams.specs.Diagrams.{ParticipantView, ItemView, DiagramView, participant_view}
-use Rattle.diagrams.specs.Drawing.{DiagramChartView, staying, chart_built, built_by, has_no_chart, built, Fails, ◌>>=◌}
+use Rattle.diagrams.specs.Building.{DiagramChartView, staying, chart_built, built_by, has_no_chart, built, Fails, ◌>>=◌}
 use Rattle.diagram_labels.specs.Renaming.{renamed_from}
 use Rattle.diagrams.specs.Naming.{names_from, named_from, labels_from}
 use Rattle.diagrams.specs.Messages.Lines.{lines_from}
 use Rattle.diagrams.specs.Messages.Turns.{all_ends}
 use Rattle.diagrams.specs.declared.diagram.Participant.{Participant}
-use Rattle.diagrams.specs.declared.built.DrawError.{DrawError}
-use Rattle.diagrams.specs.declared.built.DrawError.TheVariants.{Memory, Instances, LineFull, NotPossible}
+use Rattle.diagrams.specs.declared.built.BuildError.{BuildError}
+use Rattle.diagrams.specs.declared.built.BuildError.TheVariants.{Memory, Instances, LineFull, NotPossible}
 use Rattle.diagrams.specs.declared.left_out.LeftOut.{LeftOut}
 use Rattle.diagrams.specs.declared.message.Message.{Message}
 use Rattle.diagrams.proofs.MessagesLemmas.LinesLemmas.{length-lines}
 
 -- the first step that fails decides
-fails_first : {A B : Type 0} (error : DrawError) (r : Result A DrawError) (f : A → Result B DrawError) → Fails error r → Fails error (r >>= f)
+fails_first : {A B : Type 0} (error : BuildError) (r : Result A BuildError) (f : A → Result B BuildError) → Fails error r → Fails error (r >>= f)
 fails_first Memory r f h = tt
 fails_first Instances r f h = ap (λ s. s >>= f) h
 fails_first (LineFull line) r f h = ap (λ s. s >>= f) h
@@ -68,14 +68,14 @@ length-names names (p ∷ participants) =
     omega (arith, length-names (names ++ name ∷ []) participants, length-append names (name ∷ []))
 
 -- a diagram's chart, step by step
-pub draw_steps : (d : DiagramView) (names : List (List ℕ)) (c : CollectedView) (stay : List Message × List LeftOut)
+pub build_steps : (d : DiagramView) (names : List (List ℕ)) (c : CollectedView) (stay : List Message × List LeftOut)
     → has_no_chart (length d.participants) ≡ false → names ≡ names_from [] d.participants → c ≡ collected names d.items d.left_out
     → staying c.fault c.messages c.left_out ≡ Ok stay → built d ≡ Ok (chart_built d.participants d.items names stay)
 unfolding built built_by
-draw_steps d names c stay several e f g = rw (several, sym e, sym f, g) refl
+build_steps d names c stay several e f g = rw (several, sym e, sym f, g) refl
 
-pub draw_refused : (error : DrawError) (d : DiagramView) (names : List (List ℕ)) (c : CollectedView)
+pub build_refused : (error : BuildError) (d : DiagramView) (names : List (List ℕ)) (c : CollectedView)
     → has_no_chart (length d.participants) ≡ false → names ≡ names_from [] d.participants → c ≡ collected names d.items d.left_out
     → Fails error (staying c.fault c.messages c.left_out) → Fails error (built d)
 unfolding built built_by
-draw_refused error d names c several e f g = rw (several, sym e, sym f) (fails_first error (staying c.fault c.messages c.left_out) _ g)
+build_refused error d names c several e f g = rw (several, sym e, sym f) (fails_first error (staying c.fault c.messages c.left_out) _ g)

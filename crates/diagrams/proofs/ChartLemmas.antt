@@ -4,13 +4,13 @@ use Rattle.diagram_labels.specs.Labels.{none}
 use Rattle.diagrams.specs.Collecting.{CollectedView, nothing, collected}
 use Rattle.diagrams.specs.Crossing.{fault_from}
 use Rattle.diagrams.specs.Diagrams.{ItemView}
-use Rattle.diagrams.specs.Drawing.{◌>>=◌, possible, within, staying}
+use Rattle.diagrams.specs.Building.{◌>>=◌, possible, within, staying}
 use Rattle.diagrams.specs.Full.{full_from}
 use Rattle.diagrams.specs.Losing.{kept, with_lost}
 use Rattle.diagrams.specs.Naming.{named_from}
 use Rattle.diagrams.specs.Placing.{first_misplaced}
 use Rattle.diagrams.specs.Messages.Following.{AreBuildable}
-use Rattle.diagrams.specs.declared.built.DrawError.{DrawError}
+use Rattle.diagrams.specs.declared.built.BuildError.{BuildError}
 use Rattle.diagrams.specs.declared.left_out.LeftOut.{LeftOut}
 use Rattle.diagrams.specs.declared.message.Message.{Message}
 use Rattle.diagrams.proofs.PlacedLemmas.{AreCollected, items_collected, items_fault}
@@ -26,7 +26,7 @@ stay_so : (fault : Option ℕ) (messages : List Message) (left_out : List LeftOu
 unfolding staying
 stay_so fault messages left_out stay is = go (fault_from fault [] messages) refl (full_from [] (kept messages)) refl is
   where
-    messages_or : Result (List Message × List LeftOut) DrawError → List Message
+    messages_or : Result (List Message × List LeftOut) BuildError → List Message
     messages_or (Ok s) = s.0
     messages_or (Err e) = []
 

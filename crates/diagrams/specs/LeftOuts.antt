@@ -1,5 +1,5 @@
 -- The skipped constructs of a diagram: for each kind their count, and the first place.
-use Rattle.std.specs.Prelude.{ℕ, ◌+◌, Bool, ◌==◌, List, [], ◌∷◌, ◌++◌, Option, None, Some, position, slice_set, slice_index_or}
+use Rattle.std.specs.Prelude.{ℕ, ◌+◌, ◌-◌, ◌^◌, min, Bool, ◌==◌, List, [], ◌∷◌, ◌++◌, Option, None, Some, position, slice_set, slice_index_or}
 use Rattle.diagrams.specs.declared.left_out.Kind.{Kind}
 use Rattle.diagrams.specs.declared.left_out.Kind.TheVariants as kinds
 use Rattle.diagrams.specs.declared.left_out.LeftOut.{LeftOut}
@@ -34,9 +34,9 @@ is_kind kind l = number_of kind == number_of l.kind
 abbrev pub one : Kind → Place → LeftOut
 one kind place = record { kind = kind; count = 1; first = place }
 
--- one more construct of its kind
+-- one more construct of its kind: the count stops at u64::MAX
 abbrev pub and_one : LeftOut → Place → LeftOut
-and_one l place = record { kind = l.kind; count = l.count + 1; first = earlier l.first place }
+and_one l place = record { kind = l.kind; count = min (l.count + 1) (2 ^ 64 - 1); first = earlier l.first place }
 
 -- one more construct, given the place of its kind in the list, if it has one
 abbrev pub with_one_at : List LeftOut → Kind → Place → Option ℕ → List LeftOut

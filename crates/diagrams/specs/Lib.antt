@@ -1,7 +1,7 @@
 pub mod Collecting
 pub mod Crossing
 pub mod Diagrams
-pub mod Drawing
+pub mod Building
 pub mod Ends
 pub mod Full
 pub mod Lanes

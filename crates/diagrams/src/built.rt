@@ -2,9 +2,9 @@
 ghost use Rattle.std.specs.Prelude.{◌≡◌, ◌≤◌, length, map, IfOk};
 ghost use Rattle.chart.specs.Charts.{chart_lines, IsPossible};
 ghost use Rattle.diagrams.specs.Diagrams.{diagram_view, participant_view, item_view};
-ghost use Rattle.diagrams.specs.Drawing.{Gives, staying, diagram_chart_view, has_no_chart, chart_built, built};
+ghost use Rattle.diagrams.specs.Building.{Gives, staying, diagram_chart_view, has_no_chart, chart_built, built};
 ghost use Rattle.diagrams.specs.Naming.{named_from};
-ghost use Rattle.diagrams.specs.declared.built.DrawError.TheVariants.{Memory};
+ghost use Rattle.diagrams.specs.declared.built.BuildError.TheVariants.{Memory};
 ghost use Rattle.diagram_labels.specs.Labels.{none};
 ghost use Rattle.diagrams.specs.Messages.Following.{AreBuildable};
 
@@ -25,7 +25,7 @@ use thiserror::Error;
 
 /// Why a diagram has no chart.
 #[derive(Clone, Copy, Debug, PartialEq, Eq, Error)]
-pub enum DrawError {
+pub enum BuildError {
     /// F6: a growth was refused.
     #[error("there is no memory left")]
     Memory,
@@ -40,19 +40,19 @@ pub enum DrawError {
     NotPossible(u64),
 }
 
-impl From<AllocError> for DrawError {
+impl From<AllocError> for BuildError {
     ghost from_gives = { λ _ e. e ≡ Memory };
 
-    fn from(_e: AllocError) -> DrawError {
-        DrawError::Memory
+    fn from(_e: AllocError) -> BuildError {
+        BuildError::Memory
     }
 }
 
-impl<T: Drop> From<AllocFailed<T>> for DrawError {
+impl<T: Drop> From<AllocFailed<T>> for BuildError {
     ghost from_gives = { λ _ e. e ≡ Memory };
 
-    fn from(_e: AllocFailed<T>) -> DrawError {
-        DrawError::Memory
+    fn from(_e: AllocFailed<T>) -> BuildError {
+        BuildError::Memory
     }
 }
 
@@ -68,27 +68,27 @@ pub struct DiagramChart {
 }
 
 /// The collected messages that stay. The lost ones that don't stay are added to the skipped constructs.
-#[tactic(auto, unfolding(crate::specs::Drawing::staying))]
+#[tactic(auto, unfolding(crate::specs::Building::staying))]
 fn staying(
     alloc: Global,
     fault: Option<u64>,
     messages: &[Message],
     left_out: &mut Vec<LeftOut>,
-) -> Result<Vec<Message>, DrawError>
+) -> Result<Vec<Message>, BuildError>
     ensures { Gives (λ stay. (stay.items, left_out.new.items)) result (staying fault messages.now left_out.old.items) }
 {
     if let Some(line) = first_fault(alloc, fault, messages)? {
-        return Err(DrawError::NotPossible(line));
+        return Err(BuildError::NotPossible(line));
     }
     let stay = without_lost(alloc, messages, left_out)?;
     if let Some(line) = first_full(alloc, &stay)? {
-        return Err(DrawError::LineFull(line));
+        return Err(BuildError::LineFull(line));
     }
     Ok(stay)
 }
 
 /// The chart of the messages that stay, with the names to report.
-#[tactic(auto, unfolding(crate::specs::Drawing::chart_built))]
+#[tactic(auto, unfolding(crate::specs::Building::chart_built))]
 fn chart_built(
     alloc: Global,
     participants: &[Participant],
@@ -132,8 +132,8 @@ pub fn has_no_chart(count: usize) -> bool
 /// The rows decide the order along each line. In each row the sends of an instance come first, in the order of the
 /// text, and then its receives. Several receives are a coregion. A lost message is skipped if a later message of its
 /// lane is received. Different labels have different names.
-#[tactic(auto, unfolding(crate::specs::Drawing::built, crate::specs::Drawing::built_by))]
-pub fn draw(alloc: Global, diagram: Diagram) -> Result<DiagramChart, DrawError>
+#[tactic(auto, unfolding(crate::specs::Building::built, crate::specs::Building::built_by))]
+pub fn build(alloc: Global, diagram: Diagram) -> Result<DiagramChart, BuildError>
     ensures built { Gives diagram_chart_view result (built (diagram_view diagram)) }
     ensures possible { IfOk result (λ d. IsPossible (length d.chart) (chart_lines d.chart)) }
     ensures named { IfOk result (λ d. length d.names ≡ length d.chart) }
@@ -144,7 +144,7 @@ pub fn draw(alloc: Global, diagram: Diagram) -> Result<DiagramChart, DrawError>
         left_out,
     } = diagram;
     if has_no_chart(participants.len()) {
-        return Err(DrawError::Instances);
+        return Err(BuildError::Instances);
     }
     let names = names_of(alloc, &participants)?;
     let (messages, mut left_out, fault) = collect(alloc, &names, &items, left_out)?.into_parts();

@@ -92,23 +92,20 @@ fn place_of(left_out: &[LeftOut], kind: Kind) -> Option<usize>
         .position(|l| kind.number() == l.kind.number())
 }
 
-/// Counts one more construct of this kind. F6 if the count doesn't fit.
-fn and_one(left_out: LeftOut, place: Place) -> Result<LeftOut, AllocError>
-    ensures { IfOk result (λ more. more ≡ and_one left_out place) }
+/// Counts one more construct of this kind. The count stops at its type's greatest number.
+fn and_one(left_out: LeftOut, place: Place) -> LeftOut
+    ensures { result ≡ and_one left_out place }
 {
-    let Some(count) = left_out.count.checked_add(1) else {
-        return Err(AllocError);
-    };
     let first = if place.is_before(&left_out.first) {
         place
     } else {
         left_out.first
     };
-    Ok(LeftOut {
+    LeftOut {
         kind: left_out.kind,
-        count,
+        count: left_out.count.saturating_add(1),
         first,
-    })
+    }
 }
 
 /// Adds one more skipped construct. F6 leaves the list unchanged.
@@ -119,7 +116,7 @@ pub fn leave_out(left_out: &mut Vec<LeftOut>, kind: Kind, place: Place) -> Resul
 {
     match place_of(left_out.as_slice(), kind) {
         Some(at) => {
-            let more = and_one(left_out[at], place)?;
+            let more = and_one(left_out[at], place);
             left_out[at] = more;
         }
         None => {

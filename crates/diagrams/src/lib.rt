@@ -19,7 +19,7 @@ mod place;
 mod placing;
 mod renaming;
 
-pub use built::{DiagramChart, DrawError, draw, has_no_chart};
+pub use built::{BuildError, DiagramChart, build, has_no_chart};
 pub use collecting::{Collected, collect};
 pub use crossing::{crosses, first_fault, overtakes};
 pub use diagram::{Arrow, Diagram, Item, Note, Participant};

@@ -4,7 +4,7 @@ ghost use Rattle.diagram_labels.specs.Renaming.{renamed_view, renamed_from};
 
 use crate::diagram::Participant;
 use chart::{InstanceNo, MAX_INSTANCES, Name, Names};
-use diagram_labels::{LabelNames, Renamed, add_renamed_labels, tell_label};
+use diagram_labels::{LabelNames, Renamed, add_if_renamed, add_renamed_labels};
 use std::alloc::{AllocError, Global};
 
 /// The name at this place, from 0.
@@ -31,7 +31,7 @@ fn add_renamed_participants(
         let Some(name) = name_at(names, place) else {
             return Ok(());
         };
-        tell_label(alloc, renames, participant.label.as_slice(), name)?;
+        add_if_renamed(alloc, renames, participant.label.as_slice(), name)?;
     }
     Ok(())
 }

@@ -1,2 +1,2 @@
-pub mod Drawn
+pub mod RandomActs
 pub mod Filling

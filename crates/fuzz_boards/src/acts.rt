@@ -1,6 +1,6 @@
 //! A queue of acts.
 ghost use Rattle.std.specs.Prelude.{◌≡◌, drop};
-ghost use Rattle.fuzz_boards.specs.Drawn.{first_act};
+ghost use Rattle.fuzz_boards.specs.RandomActs.{first_act};
 
 use behaviour::Act;
 use std::collections::VecDeque;

@@ -9,13 +9,13 @@
 #![tactic(auto)]
 
 mod acts;
-mod drawing;
 mod fillers;
 mod full_lines;
 mod gates;
 mod lanes;
 mod ledger;
 mod passing;
+mod random_acts;
 mod running;
 mod wild;
 

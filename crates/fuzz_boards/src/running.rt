@@ -1,9 +1,9 @@
 //! Runs of boards whose instances do random acts.
-use crate::drawing::{TURNS, drawn_acts};
 use crate::gates::Together;
 use crate::lanes::are_whole;
 use crate::ledger::Ledger;
 use crate::passing::{Passed, run_board};
+use crate::random_acts::{TURNS, acts_of_seed};
 use crate::wild::Wild;
 use anyhow::{Context, bail};
 use behaviour::Behaviour;
@@ -22,13 +22,13 @@ pub struct Runs {
 }
 
 /// The instance at the next place in the run with this seed. Its ledger is kept.
-fn drawn_instance(
+fn random_instance(
     alloc: Global,
     ledgers: &mut Vec<Arc<Ledger>>,
     seed: u64,
     instances: usize,
 ) -> anyhow::Result<Wild> {
-    let acts = drawn_acts(alloc, seed, ledgers.len(), instances)?;
+    let acts = acts_of_seed(alloc, seed, ledgers.len(), instances)?;
     let ledger = Arc::new(alloc, Ledger::new(alloc)?)?;
     ledgers.push(Arc::try_clone(&ledger)?)?;
     Ok(Wild { acts, ledger })
@@ -44,7 +44,7 @@ fn wild_run<R: Threads + Sync>(
     let mut ledgers = Vec::new(alloc);
     let mut behaviours: Vec<Box<dyn Behaviour + Send>> = Vec::new(alloc);
     for _ in 0..runs.instances.min(MAX_INSTANCES) {
-        let wild = drawn_instance(alloc, &mut ledgers, seed, runs.instances)?;
+        let wild = random_instance(alloc, &mut ledgers, seed, runs.instances)?;
         behaviours.push(Box::new(alloc, wild)?)?;
     }
     let gate = Together::new(behaviours.len());

@@ -14,7 +14,7 @@ pub struct Wild {
 
 impl Behaviour for Wild {
     ghost use Rattle.std.specs.Prelude.{drop};
-    ghost use Rattle.fuzz_boards.specs.Drawn.{first_act};
+    ghost use Rattle.fuzz_boards.specs.RandomActs.{first_act};
 
     ghost act = { λ wild last. first_act wild.acts };
 

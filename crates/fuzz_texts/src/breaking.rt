@@ -23,7 +23,7 @@ pub fn below(generator: &mut Lcg64Xsh32, bound: usize) -> usize
     generator.next_word() as usize % bound
 }
 
-fn drawn_unit(generator: &mut Lcg64Xsh32) -> Unit {
+fn random_unit(generator: &mut Lcg64Xsh32) -> Unit {
     match below(generator, 3) {
         0 => Unit::Bytes,
         1 => Unit::Words,
@@ -84,7 +84,7 @@ fn broken_once(
     text: &[u8],
 ) -> Result<Vec<u8>, AllocError> {
     let strange = [below(generator, 256) as u8];
-    let unit = drawn_unit(generator);
+    let unit = random_unit(generator);
     let mut pieces = pieces_of(alloc, text, unit)?;
     break_pieces(generator, &mut pieces, &strange)?;
     joined(alloc, pieces.as_slice())

@@ -1,7 +1,7 @@
 //! Breaks worked texts and prints the program's answer to each, to be compared with the answers of a plain model.
 //!
 //! The words are `MODE COUNT SEED FILE..`. The files are charts or schedules. `COUNT` texts are made from them, by a
-//! generator that begins with the seed. In the mode `tell` it prints each text with its answer. In both modes it then
+//! generator that begins with the seed. In the mode `report` it prints each text with its answer. In both modes it then
 //! prints how many texts were read, how many each refusal refused, and a digest of all texts and answers (`tally`).
 #![tactic(auto)]
 
@@ -32,8 +32,8 @@ struct Asked {
 fn prints(mode: &str) -> anyhow::Result<bool> {
     match mode {
         "count" => Ok(false),
-        "tell" => Ok(true),
-        _ => bail!("the mode is count or tell"),
+        "report" => Ok(true),
+        _ => bail!("the mode is count or report"),
     }
 }
 

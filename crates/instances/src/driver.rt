@@ -8,7 +8,7 @@ use crate::gate::Gate;
 use crate::trace::{Trace, add_turn};
 use behaviour::{Answer, Behaviour};
 use mailbox::Mailbox;
-use std::alloc::Global;
+use std::alloc::{AllocError, Global};
 
 /// Lets a behaviour drive the instance of a mailbox for at most `turns` turns, each of which is one call of
 /// [`Behaviour::next`]. It returns the mailbox, the trace of all turns, and why they ended.
@@ -30,7 +30,7 @@ pub fn drive<'a, G: Gate>(
     let mut stretches = Vec::new(alloc);
     let mut last = Answer::Start;
     for turn in 0..turns {
-        if stretches.reserve(1).is_err() {
+        if let Err(AllocError) = stretches.reserve(1) {
             return (mailbox, Trace::of(stretches), End::Memory);
         }
         let act = behaviour.next(&last);

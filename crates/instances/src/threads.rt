@@ -121,6 +121,6 @@ pub fn run<'a, R: Threads + Sync, G: Gate + Sync>(
     }
     match run_fit(rt, posts, behaviours, turns, gate) {
         Ok(run) => Ok(run),
-        Err(_) => Err(RunError::Memory),
+        Err(AllocError) => Err(RunError::Memory),
     }
 }

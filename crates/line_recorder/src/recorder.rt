@@ -227,10 +227,13 @@ impl Recorder {
         let next = self.line.len() as u32 + 1;
         let before = self.knowledge.entry(own);
         self.knowledge.stamp(own, next);
-        let Ok(()) = self.knowledge.diff_over(base, diff) else {
-            set_back(&mut self.knowledge, own, before);
-            return Err(AllocError);
-        };
+        match self.knowledge.diff_over(base, diff) {
+            Ok(()) => {}
+            Err(AllocError) => {
+                set_back(&mut self.knowledge, own, before);
+                return Err(AllocError);
+            }
+        }
         self.room = self.room.max(1);
         Ok(())
     }

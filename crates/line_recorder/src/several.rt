@@ -38,9 +38,10 @@ impl Recorder {
         self.knowledge.stamp(own, next);
         let made = self.knowledge.diff_into(base, diff);
         self.knowledge.stamp(own, last);
-        let Ok(()) = made else {
-            return Err(AllocError);
-        };
+        match made {
+            Ok(()) => {}
+            Err(AllocError) => return Err(AllocError),
+        }
         self.room = self.room.max(sends);
         Ok(())
     }

@@ -1,4 +1,4 @@
 pub mod ChartLines
 pub mod ChartOrder
-pub mod Drawing
+pub mod Building
 pub mod Listing

@@ -11,31 +11,31 @@
 //!   there is none, it is at the head of the line.
 //! - On each lane the n-th message that is received is the n-th one that is sent ([`lane_law`]).
 //!
-//! [`cycles`] frees receives until no line comes before itself, [`charts`] draws the chart, and [`named`] makes entries
-//! of lines with names.
+//! [`cycles`] frees receives until no line comes before itself, [`charts`] builds the chart, and [`named`] makes
+//! entries of lines with names.
 #![tactic(auto)]
 
 mod begun;
 mod chains;
 pub mod charts;
 pub mod cycles;
-mod drawing;
 mod entry;
 mod fate;
 mod host_line;
 mod item;
 mod lane_sends;
 mod laws;
+mod line_building;
 mod losing;
 mod matching;
 mod name_order;
 pub mod named;
 
 pub use begun::Begun;
-pub use drawing::{HostLine, HostLines, host_lines, kept_lines};
 pub use entry::{Entry, Kind, Place};
 pub use fate::Fate;
 pub use item::{Item, MessageNo, message_of};
 pub use lane_sends::LaneTable;
 pub use laws::lane_law;
+pub use line_building::{HostLine, HostLines, host_lines, kept_lines};
 pub use matching::{LogLine, is_send};

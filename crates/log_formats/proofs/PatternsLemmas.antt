@@ -1,3 +1,4 @@
 pub mod GroupLemmas
 pub mod MatchLemmas
 pub mod ObservingLemmas
+pub mod UnreadLemmas

@@ -5,3 +5,4 @@ pub mod Groups
 pub mod Missing
 pub mod Observing
 pub mod PatternReading
+pub mod Unread

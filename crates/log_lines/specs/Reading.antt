@@ -1,5 +1,5 @@
 -- The result of reading a log: its events, in the order of the lines, and how many lines aren't read.
-use Rattle.std.specs.Prelude.{ℕ, ◌+◌, ◌&&◌, Bool, nat_le, List, [], ◌∷◌, ◌++◌, Option, None, Some, map, if◌then◌else◌}
+use Rattle.std.specs.Prelude.{ℕ, ◌+◌, ◌-◌, ◌^◌, min, ◌&&◌, Bool, nat_le, List, [], ◌∷◌, ◌++◌, Option, None, Some, map, if◌then◌else◌}
 use Rattle.texts.specs.Lines.{lines_of, end_of}
 use Rattle.log_lines.specs.Events.{LoggedEventView, logged_event_view, ClockedAtView, clocked_at_view, LineView, AnEvent, AClocked, AMessage, Nothing, Other, received}
 use Rattle.log_lines.specs.Places.{earlier}
@@ -19,10 +19,10 @@ read_view r = record { logged = map logged_event_view r.logged.items; clocked = 
 abbrev pub nothing_read : ReadView
 nothing_read = record { logged = []; clocked = []; others = None }
 
--- with one more line that isn't read; the earlier place is kept
+-- with one more line that isn't read: the earlier place is kept, and the count stops at u64::MAX
 abbrev pub with_other : Place → Option Others → Others
 with_other place None = record { count = 1; first = place }
-with_other place (Some o) = record { count = o.count + 1; first = earlier o.first place }
+with_other place (Some o) = record { count = min (o.count + 1) (2 ^ 64 - 1); first = earlier o.first place }
 
 -- the result, with the meaning of the line at this place added
 abbrev pub with_line : Place → LineView → ReadView → ReadView

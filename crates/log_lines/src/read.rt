@@ -1,5 +1,5 @@
 //! The result of reading a log.
-ghost use Rattle.std.specs.Prelude.{◌≡◌, IfOk, OnOk};
+ghost use Rattle.std.specs.Prelude.{◌≡◌, OnOk};
 ghost use Rattle.log_lines.specs.Events.{event_view, line_view, received};
 ghost use Rattle.log_lines.specs.Places.{earlier};
 ghost use Rattle.log_lines.specs.Reading.{nothing_read, read_view, with_other, with_line};
@@ -34,21 +34,18 @@ fn earlier(first: Place, place: Place) -> Place
     }
 }
 
-/// Adds a line that isn't read. The earlier place is kept. It fails if the count would overflow.
-pub fn one_more(others: Option<Others>, place: Place) -> Result<Others, AllocError>
-    ensures { IfOk result (λ more. more ≡ with_other place others) }
+/// Adds a line that isn't read. The earlier place is kept. The count stops at its type's greatest number.
+pub fn one_more(others: Option<Others>, place: Place) -> Others
+    ensures { result ≡ with_other place others }
 {
     match others {
-        None => Ok(Others {
+        None => Others {
             count: 1,
             first: place,
-        }),
-        Some(others) => match others.count.checked_add(1) {
-            Some(count) => Ok(Others {
-                count,
-                first: earlier(others.first, place),
-            }),
-            None => Err(AllocError),
+        },
+        Some(others) => Others {
+            count: others.count.saturating_add(1),
+            first: earlier(others.first, place),
         },
     }
 }
@@ -91,7 +88,7 @@ impl<'a> Read<'a> {
                 self.logged.push(LoggedEvent { event, place })?;
             }
             LineSays::Nothing => {}
-            LineSays::Other => self.others = Some(one_more(self.others, place)?),
+            LineSays::Other => self.others = Some(one_more(self.others, place)),
         }
         Ok(())
     }

@@ -1,5 +1,5 @@
 pub mod Answers
 pub mod Performing
-pub mod Viewing
+pub mod CommandLines
 pub mod Several
 pub mod Version

@@ -1,5 +1,5 @@
 //! The export that does what `mscview` does for a command line whose files are in memory.
-ghost use Rattle.msc.specs.Viewing.{ViewsTexts};
+ghost use Rattle.msc.specs.CommandLines.{ViewsTexts};
 
 use crate::performing::{MscLengths, performed_code};
 use c_commands::{Bytes, view_into};

@@ -7,7 +7,7 @@ ghost use Rattle.std.specs.Prelude.{◌≡◌};
 use cli::{CommandLineError, Request, requested};
 use cmd_base::{ProgramError, number_in, refused};
 use cmd_run::{Task, perform, perform_on_threads, turns_in};
-use std::alloc::Global;
+use std::alloc::{AllocError, Global};
 use std::convert::AsStr;
 use std::process::ExitCode;
 use std::rt::{Env, Files};
@@ -68,7 +68,9 @@ fn asked_in<'a, S: AsStr>(alloc: Global, words: &'a [S]) -> Result<(Asked, &'a s
 
 fn words_of<R: Env + AllocGlobal>(rt: &R) -> Result<Vec<String>, ProgramError> {
     let words = env::args(rt).map_err(|error| cause(&error, ProgramError::Usage))?;
-    words.collect(rt.alloc()).map_err(|_| ProgramError::Memory)
+    words
+        .collect(rt.alloc())
+        .map_err(|_: AllocError| ProgramError::Memory)
 }
 
 fn bytes_of<R: Files + AllocGlobal>(rt: &R, file: &str) -> Result<Vec<u8>, ProgramError> {

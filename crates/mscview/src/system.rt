@@ -1,13 +1,21 @@
 //! The words of the command line, and the files and the standard input of the system.
+ghost use Rattle.std.specs.Prelude.{◌≡◌, ◌≢◌};
+ghost use Rattle.std.specs.IoError.{error_kind};
+ghost use Rattle.std.specs.declared.io.ErrorKind.TheVariants.{OutOfMemory};
+ghost use Rattle.cmd_base.specs.declared.error.ProgramError.TheVariants.{Memory};
+
 use cmd_base::ProgramError;
 use mscview_requests::{FileBytes, Giver};
-use std::alloc::Global;
+use std::alloc::{AllocError, Global};
 use std::io::Read;
 use std::rt::{Env, Files};
 use std::{env, fs, io};
 
 /// The refusal for an error of the system: F6 if memory ran out, and otherwise `other`.
-fn cause(error: &io::Error, other: ProgramError) -> ProgramError {
+fn cause(error: &io::Error, other: ProgramError) -> ProgramError
+    ensures memory { error_kind error.now ≡ OutOfMemory → result ≡ Memory }
+    ensures other { error_kind error.now ≢ OutOfMemory → result ≡ other }
+{
     match error.kind() {
         io::ErrorKind::OutOfMemory => ProgramError::Memory,
         _ => other,
@@ -17,7 +25,9 @@ fn cause(error: &io::Error, other: ProgramError) -> ProgramError {
 /// The words of the command line.
 pub fn words_of<R: Env + AllocGlobal>(rt: &R) -> Result<Vec<String>, ProgramError> {
     let words = env::args(rt).map_err(|error| cause(&error, ProgramError::Usage))?;
-    words.collect(rt.alloc()).map_err(|_| ProgramError::Memory)
+    words
+        .collect(rt.alloc())
+        .map_err(|_: AllocError| ProgramError::Memory)
 }
 
 /// Provides the bytes of the system's files.

@@ -8,4 +8,4 @@ use Rattle.texts.specs.Writing.{Puts}
 -- a chart's text was put into empty memory
 pub puts_into_memory : (text : List ℕ) (names called : List (List ℕ)) (lines chart : List LineView) → text ≡ chart_text names lines → names ≡ called → lines ≡ chart
     → Puts memory none (record { bytes = text; failures = 0 }) (chart_text called chart)
-puts_into_memory text names called lines chart is named drawn = record { appends = subst₂ (λ ns ls. text ≡ chart_text ns ls) named drawn is; none_failed = refl }
+puts_into_memory text names called lines chart is named charted = record { appends = subst₂ (λ ns ls. text ≡ chart_text ns ls) named charted is; none_failed = refl }

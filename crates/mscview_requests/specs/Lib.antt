@@ -1,10 +1,10 @@
 pub mod FileBytes
-pub mod Files
+pub mod FileCounts
 pub mod Given
 pub mod Lines
 pub mod Opening
 pub mod Questions
 pub mod Readings
-pub mod Views
+pub mod Effects
 pub mod Wanted
 pub mod Words

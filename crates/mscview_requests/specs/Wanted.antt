@@ -10,7 +10,7 @@ use Rattle.cmd_draw.specs.Targets.{tool_named}
 use Rattle.cmd_draw.specs.Titles.{IsFileName}
 use Rattle.cmd_draw.specs.declared.drawing.Wanted as pictures
 use Rattle.cmd_draw.specs.declared.events.Events.{Events}
-use Rattle.cmd_draw.specs.declared.windows.Rows as drawn_rows
+use Rattle.cmd_draw.specs.declared.windows.Rows as picture_rows
 use Rattle.cmd_draw.specs.declared.windows.Rows.TheVariants as row_kinds
 use Rattle.cmd_import_log.specs.Options as logs
 use Rattle.cmd_import_log.specs.Options.FormView.{Plain, Pattern, ShiViz}
@@ -18,6 +18,7 @@ use Rattle.log_lines.specs.declared.range.LineRange.{LineRange}
 use Rattle.cmd_mend.specs.declared.showing.Detail as mend_detail
 use Rattle.cmd_mend.specs.declared.showing.Detail.TheVariants as mend_details
 use Rattle.cmd_mend.specs.declared.showing.Wanted as mends
+use Rattle.cmd_mend.specs.declared.showing_all.WantedAll as all_mends
 use Rattle.mscview_requests.specs.Words.Hosts.{AreFirst, IsPeer}
 use Rattle.mscview_requests.specs.Words.Joins.{IsJoin}
 use Rattle.mscview_requests.specs.Words.Words.{AreRead}
@@ -31,6 +32,7 @@ use Rattle.cli.specs.declared.view.request.DrawWitness.{DrawWitness}
 use Rattle.cli.specs.declared.view.request.ImportLog.{ImportLog}
 use Rattle.cli.specs.declared.view.request.LogForm.{LogForm}
 use Rattle.cli.specs.declared.view.request.LogForm.TheVariants as forms
+use Rattle.cli.specs.declared.view.request.MendLuck.{MendLuck}
 use Rattle.cli.specs.declared.view.request.Reading.{Reading}
 use Rattle.cli.specs.declared.view.request.Rows as lines
 use Rattle.cli.specs.declared.view.request.Rows.TheVariants as row_words
@@ -65,16 +67,22 @@ abbrev pub IsLimit : Option (List ℕ) → Option ℕ → Type 0
 IsLimit None limit = limit ≡ None
 IsLimit (Some word) limit = (number : ℕ) × IsNumberIn word number × (limit ≡ Some number)
 
+-- the options of `mend --all`: which races are mended and counted, and the number of race pairs to try
+pub record IsMendAll (receives completed : Bool) (limit : Option (List ℕ)) (wanted : all_mends.WantedAll) : Type 0 where
+  pub receives_so : wanted.showing.receives ≡ receives
+  pub completed_so : wanted.showing.run_to_completion ≡ completed
+  pub limit_so : IsLimit limit wanted.limit
+
 -- the events, or the rows, to draw: those in a word, or all
-abbrev pub AreDrawn : Option (List ℕ) → Events → Type 0
-AreDrawn None events = events ≡ record { first = 1; last = 4294967295 }
-AreDrawn (Some word) events = AreEvents word events
+abbrev pub AreChosen : Option (List ℕ) → Events → Type 0
+AreChosen None events = events ≡ record { first = 1; last = 4294967295 }
+AreChosen (Some word) events = AreEvents word events
 
 -- the rows to draw: all, those in a word, or those around an event
-abbrev pub AreRows : lines.Rows → drawn_rows.Rows → Type 0
-AreRows row_words.All (row_kinds.Between rows) = AreDrawn None rows
+abbrev pub AreRows : lines.Rows → picture_rows.Rows → Type 0
+AreRows row_words.All (row_kinds.Between rows) = AreChosen None rows
 AreRows row_words.All (row_kinds.Around around) = ⊥
-AreRows (row_words.Between word) (row_kinds.Between rows) = AreDrawn (Some word.now) rows
+AreRows (row_words.Between word) (row_kinds.Between rows) = AreChosen (Some word.now) rows
 AreRows (row_words.Between word) (row_kinds.Around around) = ⊥
 AreRows (row_words.Around instance event) (row_kinds.Between rows) = ⊥
 AreRows (row_words.Around instance event) (row_kinds.Around around) =
@@ -106,7 +114,7 @@ pub record IsPicture (draw : Draw) (wanted : pictures.Wanted) : Type 0 where
   pub title : TitleBy (option_map (λ word. word.now) draw.title) (titled_path (option_map (λ word. word.now) draw.file))
       wanted.title.now
   pub only : option_map (λ bytes. bytes.now) wanted.only ≡ option_map (λ word. word.now) draw.only
-  pub events : AreDrawn (option_map (λ word. word.now) draw.events) wanted.events
+  pub events : AreChosen (option_map (λ word. word.now) draw.events) wanted.events
   pub rows : AreRows draw.rows wanted.rows
   pub numbers : wanted.numbers ≡ draw.numbers
 
@@ -182,6 +190,11 @@ pub record IsLog (log : ImportLog) (options : logs.OptionsView) : Type 0 where
   pub range : AreLines (option_map (λ word. word.now) log.from_line) (option_map (λ word. word.now) log.to_line) options.range
   pub hosts : AreFirst (option_map (λ word. word.now) log.hosts) options.hosts
   pub peers : AreRead IsPeer (map (λ word. word.now) log.peers.items) options.peers
+
+-- the options of `mend --all --luck`, and how the log is read
+abbrev pub IsMendLuck : MendLuck → all_mends.WantedAll × logs.OptionsView → Type 0
+IsMendLuck wanted asked = IsMendAll wanted.receives wanted.run_to_completion (option_map (λ word. word.now) wanted.limit) asked.0
+    × IsLog wanted.log asked.1
 
 -- the options of a picture of another tool's text, and how the text is read
 abbrev pub IsPictureOf : Draw → Reading → pictures.Wanted × (Option Tool × diagrams.OptionsView) → Type 0

@@ -1,7 +1,7 @@
 //! Questions about files: about a pair of events, and about the differences of two files.
 ghost use Rattle.std.specs.Prelude.{◌≡◌};
 ghost use Rattle.mscview_requests.specs.Words.Words.{Says};
-ghost use Rattle.mscview_requests.specs.Views.{DoesPair, DoesStrictly, ViewsPair, ViewsComparison};
+ghost use Rattle.mscview_requests.specs.Effects.{DoesPair, DoesStrictly, ViewsPair, ViewsComparison};
 ghost use Rattle.mscview_requests.specs.Wanted.{IsNumberIn, IsAsked, comparison_form};
 
 use crate::giving::{Giver, first_in};

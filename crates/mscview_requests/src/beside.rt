@@ -1,7 +1,7 @@
 //! Draws a chart beside its witness.
 ghost use Rattle.std.specs.Prelude.{◌≡◌};
 ghost use Rattle.mscview_requests.specs.Words.Words.{Says};
-ghost use Rattle.mscview_requests.specs.Views.{ViewsWitnessPicture};
+ghost use Rattle.mscview_requests.specs.Effects.{ViewsWitnessPicture};
 ghost use Rattle.mscview_requests.specs.Wanted.{IsBeside};
 
 use crate::asking::asked_by;

@@ -1,6 +1,6 @@
 //! The number of files that a command line reads.
 ghost use Rattle.std.specs.Prelude.{◌≡◌, length};
-ghost use Rattle.mscview_requests.specs.Files.{at_least_one, files_read};
+ghost use Rattle.mscview_requests.specs.FileCounts.{at_least_one, files_read};
 
 use cli::view::{ImportLog, Request};
 
@@ -20,6 +20,7 @@ pub fn many_files(request: &Request<'_>) -> usize
         Request::ImportLog(log) | Request::LogPage(log) => many_logs(log),
         Request::LogRaces(asked) => many_logs(&asked.log),
         Request::LogQuestion(wanted) => many_logs(&wanted.log),
+        Request::MendLuck(wanted) => many_logs(&wanted.log),
         Request::Pair(_)
         | Request::Draw(_)
         | Request::DrawWitness(_)

@@ -2,8 +2,8 @@
 ghost use Rattle.std.specs.Prelude.{◌≡◌, Some, option_map};
 ghost use Rattle.cmd_draw.specs.Targets.{target_named};
 ghost use Rattle.mscview_requests.specs.Words.Words.{Says};
-ghost use Rattle.mscview_requests.specs.Views.{DoesStrictly, DoesPicture, ViewsPicture, ViewsFilePicture, ViewsExport};
-ghost use Rattle.mscview_requests.specs.Wanted.{IsPicture, TitleBy, IsNameOf, AreDrawn, AreRows, titled_path};
+ghost use Rattle.mscview_requests.specs.Effects.{DoesStrictly, DoesPicture, ViewsPicture, ViewsFilePicture, ViewsExport};
+ghost use Rattle.mscview_requests.specs.Wanted.{IsPicture, TitleBy, IsNameOf, AreChosen, AreRows, titled_path};
 
 use crate::asking::number_by;
 use crate::giving::{Giver, first_in};
@@ -18,7 +18,7 @@ use texts::Out;
 
 /// The range of numbers in a word. Without a word it has all numbers. G1: the word isn't such a range.
 fn numbers_by(word: Option<&str>) -> Result<Events, ProgramError>
-    ensures { Says (AreDrawn (option_map (λ w. w.now) word.entry)) result }
+    ensures { Says (AreChosen (option_map (λ w. w.now) word.entry)) result }
 {
     match word {
         None => Ok(Events::ALL),

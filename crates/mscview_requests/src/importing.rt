@@ -5,7 +5,7 @@ ghost use Rattle.diagram_join.specs.Joins.{join_view};
 ghost use Rattle.diagram_import.specs.Importing.{options_view};
 ghost use Rattle.mscview_requests.specs.Readings.{read_view, skips_of};
 ghost use Rattle.mscview_requests.specs.Words.Words.{AreRead, Says, Reads};
-ghost use Rattle.mscview_requests.specs.Views.{ViewsImport, ViewsPictureOf, ViewsRacesOf, ViewsToolPage, ViewsToolQuestion};
+ghost use Rattle.mscview_requests.specs.Effects.{ViewsImport, ViewsPictureOf, ViewsRacesOf, ViewsToolPage, ViewsToolQuestion};
 ghost use Rattle.mscview_requests.specs.Wanted.{IsTool, IsSkip, IsReading};
 
 use crate::drawing::{file_title, picture_by};
@@ -18,12 +18,12 @@ use cmd_base::ProgramError;
 use cmd_draw::imports::draw_of;
 use cmd_draw::{events_in, tool_in};
 use cmd_import_diagram::import;
-use cmd_page::imports::page_of_drawing;
+use cmd_page::imports::page_of_diagram;
 use cmd_races::imports::races_of;
 use diagram_import::{Options, Skip};
 use diagram_join::Join;
 use diagram_tool::Tool;
-use std::alloc::Global;
+use std::alloc::{AllocError, AllocFailed, Global};
 use texts::Out;
 
 /// How a text is read, by the words of a command line.
@@ -68,9 +68,10 @@ fn skips_by(alloc: Global, words: &[&str]) -> Result<Vec<Skip>, ProgramError>
     let mut skips = Vec::new(alloc);
     for word in words {
         let skip = skip_by(*word)?;
-        let Ok(()) = skips.push(skip) else {
-            return Err(ProgramError::Memory);
-        };
+        match skips.push(skip) {
+            Ok(()) => {}
+            Err(AllocFailed { .. }) => return Err(ProgramError::Memory),
+        }
     }
     Ok(skips)
 }
@@ -93,7 +94,7 @@ fn joins_by<'a>(alloc: Global, read: &'a Read) -> Result<Vec<Join<'a>>, ProgramE
 {
     match joins_of(alloc, &read.joined) {
         Ok(joins) => Ok(joins),
-        Err(_) => Err(ProgramError::Memory),
+        Err(AllocError) => Err(ProgramError::Memory),
     }
 }
 
@@ -169,7 +170,7 @@ pub(crate) fn view_tool_page<G: Giver, W: Out, V: Out>(
     let bytes = first_in(alloc, giver, wanted.file)?;
     let options = options_of(&read, &joins);
     let title = file_title(wanted.file);
-    Ok(page_of_drawing(alloc, read.tool, bytes.as_slice(), options, title, out, err))
+    Ok(page_of_diagram(alloc, read.tool, bytes.as_slice(), options, title, out, err))
 }
 
 /// Imports another tool's text, and answers a question about its chart.

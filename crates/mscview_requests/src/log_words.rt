@@ -14,7 +14,7 @@ use cmd_base::ProgramError;
 use cmd_import_log::{Form, Options};
 use log_lines::LineRange;
 use log_lines::names::Peer;
-use std::alloc::Global;
+use std::alloc::{AllocError, Global};
 
 /// How a log is read, by the words of a command line.
 #[derive(Drop)]
@@ -88,7 +88,7 @@ pub(crate) fn peers_by<'a>(
 {
     match peers_of(alloc, &words.peers) {
         Ok(peers) => Ok(peers),
-        Err(_) => Err(ProgramError::Memory),
+        Err(AllocError) => Err(ProgramError::Memory),
     }
 }
 

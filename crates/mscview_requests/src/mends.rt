@@ -1,14 +1,15 @@
 //! Messages that remove races.
 ghost use Rattle.std.specs.Prelude.{◌≡◌, option_map};
 ghost use Rattle.mscview_requests.specs.Words.Words.{Says};
-ghost use Rattle.mscview_requests.specs.Views.{ViewsMend};
-ghost use Rattle.mscview_requests.specs.Wanted.{IsMend, IsLimit, detail_of};
+ghost use Rattle.mscview_requests.specs.Effects.{ViewsMend};
+ghost use Rattle.mscview_requests.specs.Wanted.{IsMend, IsMendAll, IsLimit, detail_of};
 
 use crate::asking::{asked_by, number_by};
 use crate::giving::{Giver, first_in};
 use cli::view::Mend;
 use cmd_base::ProgramError;
-use cmd_mend::{Detail, Wanted, mend, mend_all};
+use cmd_mend::{Detail, Wanted, WantedAll, mend, mend_all};
+use shown_races::Showing;
 use std::alloc::Global;
 use texts::Out;
 
@@ -19,7 +20,7 @@ fn detail_of(verbose: bool) -> Detail
 }
 
 /// The number of race pairs to try, if a word gives it. G1: the word isn't a number.
-pub(crate) fn limit_by(word: Option<&str>) -> Result<Option<u64>, ProgramError>
+fn limit_by(word: Option<&str>) -> Result<Option<u64>, ProgramError>
     ensures { Says (IsLimit (option_map (λ w. w.now) word.entry)) result }
 {
     match word {
@@ -29,6 +30,24 @@ pub(crate) fn limit_by(word: Option<&str>) -> Result<Option<u64>, ProgramError>
             Ok(Some(number))
         }
     }
+}
+
+/// The races to remove, and the number of race pairs to try. G1: a word isn't a number.
+pub(crate) fn all_wanted_by(
+    receives: bool,
+    run_to_completion: bool,
+    limit: Option<&str>,
+) -> Result<WantedAll, ProgramError>
+    ensures { Says (IsMendAll receives run_to_completion (option_map (λ w. w.now) limit.entry)) result }
+{
+    let limit = limit_by(limit)?;
+    Ok(WantedAll {
+        showing: Showing {
+            receives,
+            run_to_completion,
+        },
+        limit,
+    })
 }
 
 /// The race to remove, the name of the message that removes it, and the detail of the output. G1: a word isn't a
@@ -72,10 +91,15 @@ pub(crate) fn view_mend<G: Giver, W: Out, V: Out>(
             let bytes = first_in(alloc, giver, Some(*file))?;
             Ok(mend(alloc, bytes.as_slice(), &wanted, out, err))
         }
-        Mend::All { limit, file } => {
-            let limit = limit_by(*limit)?;
+        Mend::All {
+            receives,
+            run_to_completion,
+            limit,
+            file,
+        } => {
+            let wanted = all_wanted_by(*receives, *run_to_completion, *limit)?;
             let bytes = first_in(alloc, giver, *file)?;
-            Ok(mend_all(alloc, bytes.as_slice(), limit, out, err))
+            Ok(mend_all(alloc, bytes.as_slice(), &wanted, out, err))
         }
     }
 }

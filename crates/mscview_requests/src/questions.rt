@@ -7,19 +7,19 @@ ghost use Rattle.cmd_import_log.specs.Options.{options_view as log_options_view}
 ghost use Rattle.diagram_import.specs.Importing.{options_view};
 ghost use Rattle.msc_text.specs.ChartText.{chart_text};
 ghost use Rattle.mscview_requests.specs.Questions.{IsPairQuestion, IsMendQuestion, IsQuestion};
-ghost use Rattle.mscview_requests.specs.Views.{DoesQuestion, DoesOverDiagram, DoesOverLog};
+ghost use Rattle.mscview_requests.specs.Effects.{DoesQuestion, DoesOverDiagram, DoesOverLog};
 ghost use Rattle.mscview_requests.specs.Words.Words.{Says};
 
 use crate::asking::{answer_pair, asked_by};
-use crate::mends::{limit_by, wanted_by};
+use crate::mends::{all_wanted_by, wanted_by};
 use chart::{Chart, Names};
 use cli::view::{Mend, Pair, Question, RaceQuestion};
 use cmd_base::pairs::Asked;
 use cmd_base::{Answer, ProgramError};
-use cmd_import_diagram::refused_drawing;
+use cmd_import_diagram::refused_diagram;
 use cmd_import_log::answers::{Diagnostics, write_diagnostics};
 use cmd_import_log::{LogImportError, refused_log, refused_one_end};
-use cmd_mend::{Wanted, mend, mend_all};
+use cmd_mend::{Wanted, WantedAll, mend, mend_all};
 use diagram_import::{ImportError, Options};
 use diagram_tool::Tool;
 use std::alloc::{AllocError, Global};
@@ -32,8 +32,8 @@ pub(crate) enum ReadQuestion<'a> {
     Pair(Question, Asked<'a>),
     /// The question of `mend` about one race.
     Mend(Wanted<'a>),
-    /// The question of `mend --all`, with the number of race pairs to try, if the words give it.
-    MendAll(Option<u64>),
+    /// The question of `mend --all`.
+    MendAll(WantedAll),
 }
 
 /// The question of `why` or `witness`. G1: a word isn't a number.
@@ -60,9 +60,14 @@ fn mend_by<'a>(mend: &Mend<'a>) -> Result<ReadQuestion<'a>, ProgramError>
             let wanted = wanted_by(*name, *verbose, *instance, *earlier, *receive)?;
             Ok(ReadQuestion::Mend(wanted))
         }
-        Mend::All { limit, file: _ } => {
-            let limit = limit_by(*limit)?;
-            Ok(ReadQuestion::MendAll(limit))
+        Mend::All {
+            receives,
+            run_to_completion,
+            limit,
+            file: _,
+        } => {
+            let wanted = all_wanted_by(*receives, *run_to_completion, *limit)?;
+            Ok(ReadQuestion::MendAll(wanted))
         }
     }
 }
@@ -90,7 +95,7 @@ fn answer<W: Out, V: Out>(
     match question {
         ReadQuestion::Pair(question, asked) => answer_pair(alloc, *question, text, asked, out, err),
         ReadQuestion::Mend(wanted) => mend(alloc, text, wanted, out, err),
-        ReadQuestion::MendAll(limit) => mend_all(alloc, text, *limit, out, err),
+        ReadQuestion::MendAll(wanted) => mend_all(alloc, text, wanted, out, err),
     }
 }
 
@@ -119,23 +124,24 @@ pub(crate) fn answer_of_diagram<W: Out, V: Out>(
     ensures { DoesOverDiagram W.sink out.old out.new V.sink err.old err.new
         (question.now, (tool, options_view options.entry)) bytes.now result }
 {
-    let drawing = match cmd_import_diagram::drawing_in(alloc, tool, bytes, options) {
-        Ok(drawing) => drawing,
-        Err(error) => return refused_drawing(&error, err),
+    let imported = match cmd_import_diagram::imported_diagram(alloc, tool, bytes, options) {
+        Ok(imported) => imported,
+        Err(error) => return refused_diagram(&error, err),
     };
-    let Ok(text) = text_of(alloc, &drawing.names, &drawing.chart) else {
-        return refused_drawing(&ImportError::Memory, err);
+    let text = match text_of(alloc, &imported.names, &imported.chart) {
+        Ok(text) => text,
+        Err(AllocError) => return refused_diagram(&ImportError::Memory, err),
     };
-    drawing.diagnostics.print_diagnostics(err);
+    imported.diagnostics.print_diagnostics(err);
     answer(alloc, question, &text, out, err)
 }
 
 /// Prints the warnings of the import of a log.
-fn print_log_diagnostics<V: Out>(files: &[&[u8]], told: &Diagnostics, err: &mut V)
-    requires { All (λ e. e.instance ≤ length told.now.names) told.now.invented.items }
-    ensures { Tried V.sink err.old err.new (diagnostics_text (map (λ file. file.now) files.now) told.now) }
+fn print_log_diagnostics<V: Out>(files: &[&[u8]], diagnostics: &Diagnostics, err: &mut V)
+    requires { All (λ e. e.instance ≤ length diagnostics.now.names) diagnostics.now.invented.items }
+    ensures { Tried V.sink err.old err.new (diagnostics_text (map (λ file. file.now) files.now) diagnostics.now) }
 {
-    let _ = write_diagnostics(files, told, err);
+    let _ = write_diagnostics(files, diagnostics, err);
 }
 
 /// Answers a question about the chart of a log, after the import has printed its warnings. F52: the log has one end of
@@ -152,16 +158,17 @@ pub(crate) fn answer_of_log<W: Out, V: Out>(
     ensures { DoesOverLog W.sink out.old out.new V.sink err.old err.new (map (λ file. file.now) files.now)
         (question.now, log_options_view options.entry) (map (λ text. text.now) texts.now) result }
 {
-    let drawing = match cmd_import_log::drawing_in(alloc, options, texts) {
-        Ok(drawing) => drawing,
+    let imported = match cmd_import_log::imported_log(alloc, options, texts) {
+        Ok(imported) => imported,
         Err(error) => return refused_log(files, &error, err),
     };
-    if drawing.diagnostics.is_one_ended {
-        return refused_one_end(&drawing.diagnostics, err);
+    if imported.diagnostics.is_one_ended {
+        return refused_one_end(&imported.diagnostics, err);
     }
-    let Ok(text) = text_of(alloc, &drawing.diagnostics.names, &drawing.chart) else {
-        return refused_log(files, &LogImportError::Memory, err);
+    let text = match text_of(alloc, &imported.diagnostics.names, &imported.chart) {
+        Ok(text) => text,
+        Err(AllocError) => return refused_log(files, &LogImportError::Memory, err),
     };
-    print_log_diagnostics(files, &drawing.diagnostics, err);
+    print_log_diagnostics(files, &imported.diagnostics, err);
     answer(alloc, question, &text, out, err)
 }

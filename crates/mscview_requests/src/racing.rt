@@ -1,6 +1,6 @@
 //! Races by name.
 ghost use Rattle.std.specs.Prelude.{◌≡◌, option_map};
-ghost use Rattle.mscview_requests.specs.Views.{DoesRaces, DoesStrictly, ViewsRaces, ViewsFileRaces};
+ghost use Rattle.mscview_requests.specs.Effects.{DoesRaces, DoesStrictly, ViewsRaces, ViewsFileRaces};
 ghost use Rattle.mscview_requests.specs.Wanted.{races_form, AreRaces};
 
 use crate::giving::{Giver, first_in};
@@ -31,8 +31,8 @@ pub(crate) fn wanted_by<'a>(showing: &Showing<'a>) -> Wanted<'a>
     }
 }
 
-/// Shows the races of a chart or of a schedule, or only those that were luck if the words ask for these. G1: the words
-/// ask for the luck of a chart's races, which its text doesn't show.
+/// Shows the races of a chart or of a schedule. If the words ask for luck, it shows only those of a schedule by `any`.
+/// G1: the words ask for the luck of a chart's races, which its text doesn't show.
 fn answer_races<W: Out, V: Out>(
     alloc: Global,
     luck: bool,

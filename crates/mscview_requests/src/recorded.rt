@@ -3,22 +3,24 @@ ghost use Rattle.std.specs.Prelude.{◌≡◌, ◌∷◌, [], map, option_map, I
 ghost use Rattle.mscview_requests.specs.FileBytes.{bytes_of};
 ghost use Rattle.mscview_requests.specs.Given.{file_named, files_named, diagnostic_files, AreAnswered};
 ghost use Rattle.mscview_requests.specs.Opening.{OpensLog};
-ghost use Rattle.mscview_requests.specs.Views.{ViewsLog, ViewsLogPage, ViewsLogQuestion, ViewsLogRaces};
+ghost use Rattle.mscview_requests.specs.Effects.{ViewsLog, ViewsLogPage, ViewsLogQuestion, ViewsLogRaces, ViewsMendLuck};
 ghost use Rattle.mscview_requests.specs.Wanted.{AreJudged, IsNameOf, first_path, titled_path};
 
 use crate::drawing::file_title;
 use crate::file_bytes::FileBytes;
 use crate::giving::{Giver, first_in};
 use crate::log_words::{LogWords, log_words, options_of, peers_by};
+use crate::mends::all_wanted_by;
 use crate::questions::{answer_of_log, question_by};
 use crate::racing::wanted_by;
-use cli::view::{ImportLog, LogQuestion, LogRaces, Showing};
+use cli::view::{ImportLog, LogQuestion, LogRaces, MendLuck, Showing};
 use cmd_base::ProgramError;
 use cmd_import_log::import;
+use cmd_mend::logs::mend_luck_of_log;
 use cmd_page::logs::page_of_log;
 use cmd_races::LuckWanted;
 use cmd_races::logs::races_of_log;
-use std::alloc::{AllocError, Global};
+use std::alloc::{AllocError, AllocFailed, Global};
 use texts::Out;
 
 /// The bytes of several files, in order.
@@ -32,9 +34,10 @@ fn all_in<'a, G: Giver>(
     let mut texts = Vec::new(alloc);
     for place in 0..files.len() {
         let text = giver.bytes_in(alloc, place, Some(files[place]))?;
-        let Ok(()) = texts.push(text) else {
-            return Err(ProgramError::Memory);
-        };
+        match texts.push(text) {
+            Ok(()) => {}
+            Err(AllocFailed { .. }) => return Err(ProgramError::Memory),
+        }
     }
     Ok(texts)
 }
@@ -49,9 +52,10 @@ fn one_in<'a, G: Giver>(
 {
     let mut texts = Vec::new(alloc);
     let text = first_in(alloc, giver, file)?;
-    let Ok(()) = texts.push(text) else {
-        return Err(ProgramError::Memory);
-    };
+    match texts.push(text) {
+        Ok(()) => {}
+        Err(AllocFailed { .. }) => return Err(ProgramError::Memory),
+    }
     Ok(texts)
 }
 
@@ -119,8 +123,9 @@ fn open_log<'a, G: Giver>(
 {
     let words = log_words(alloc, log)?;
     let texts = texts_in(alloc, giver, &log.files)?;
-    let Ok(names) = diagnostic_files(alloc, &log.files) else {
-        return Err(ProgramError::Memory);
+    let names = match diagnostic_files(alloc, &log.files) {
+        Ok(names) => names,
+        Err(AllocError) => return Err(ProgramError::Memory),
     };
     Ok(OpenLog {
         words,
@@ -141,8 +146,9 @@ pub(crate) fn view_log<G: Giver, W: Out, V: Out>(
 {
     let log = open_log(alloc, imported, giver)?;
     let peers = peers_by(alloc, &log.words)?;
-    let Ok(slices) = slices_of(alloc, &log.texts) else {
-        return Err(ProgramError::Memory);
+    let slices = match slices_of(alloc, &log.texts) {
+        Ok(slices) => slices,
+        Err(AllocError) => return Err(ProgramError::Memory),
     };
     let options = options_of(&log.words, &peers);
     Ok(import(alloc, options, &slices, &log.names, out, err))
@@ -170,8 +176,9 @@ pub(crate) fn view_log_page<G: Giver, W: Out, V: Out>(
 {
     let log = open_log(alloc, wanted, giver)?;
     let peers = peers_by(alloc, &log.words)?;
-    let Ok(slices) = slices_of(alloc, &log.texts) else {
-        return Err(ProgramError::Memory);
+    let slices = match slices_of(alloc, &log.texts) {
+        Ok(slices) => slices,
+        Err(AllocError) => return Err(ProgramError::Memory),
     };
     let options = options_of(&log.words, &peers);
     let title = log_title(&wanted.files);
@@ -200,8 +207,9 @@ pub(crate) fn view_log_races<G: Giver, W: Out, V: Out>(
 {
     let log = open_log(alloc, &asked.log, giver)?;
     let peers = peers_by(alloc, &log.words)?;
-    let Ok(slices) = slices_of(alloc, &log.texts) else {
-        return Err(ProgramError::Memory);
+    let slices = match slices_of(alloc, &log.texts) {
+        Ok(slices) => slices,
+        Err(AllocError) => return Err(ProgramError::Memory),
     };
     let options = options_of(&log.words, &peers);
     let wanted = judged_by(&asked.showing);
@@ -221,9 +229,31 @@ pub(crate) fn view_log_question<G: Giver, W: Out, V: Out>(
     let question = question_by(&wanted.asked)?;
     let log = open_log(alloc, &wanted.log, giver)?;
     let peers = peers_by(alloc, &log.words)?;
-    let Ok(slices) = slices_of(alloc, &log.texts) else {
-        return Err(ProgramError::Memory);
+    let slices = match slices_of(alloc, &log.texts) {
+        Ok(slices) => slices,
+        Err(AllocError) => return Err(ProgramError::Memory),
     };
     let options = options_of(&log.words, &peers);
     Ok(answer_of_log(alloc, &question, options, &slices, &log.names, out, err))
+}
+
+/// Adds messages for those races of a log that were luck.
+pub(crate) fn view_mend_luck<G: Giver, W: Out, V: Out>(
+    alloc: Global,
+    wanted: &MendLuck<'_>,
+    giver: &G,
+    out: &mut W,
+    err: &mut V,
+) -> Result<u8, ProgramError>
+    ensures { ViewsMendLuck (G.gives giver.now) W.sink out.old out.new V.sink err.old err.new wanted.now result }
+{
+    let asked = all_wanted_by(wanted.receives, wanted.run_to_completion, wanted.limit)?;
+    let log = open_log(alloc, &wanted.log, giver)?;
+    let peers = peers_by(alloc, &log.words)?;
+    let slices = match slices_of(alloc, &log.texts) {
+        Ok(slices) => slices,
+        Err(AllocError) => return Err(ProgramError::Memory),
+    };
+    let options = options_of(&log.words, &peers);
+    Ok(mend_luck_of_log(alloc, options, &slices, &log.names, &asked, out, err))
 }

@@ -1,5 +1,5 @@
 //! Runs the command of a request.
-ghost use Rattle.mscview_requests.specs.Views.{Comes, Views, ViewsSome, stream};
+ghost use Rattle.mscview_requests.specs.Effects.{Comes, Views, ViewsSome, stream};
 
 use crate::asking::{view_comparison, view_pair};
 use crate::beside::view_beside;
@@ -8,7 +8,7 @@ use crate::giving::Giver;
 use crate::importing::{view_import, view_tool_page, view_tool_question};
 use crate::mends::view_mend;
 use crate::racing::view_races;
-use crate::recorded::{view_log, view_log_page, view_log_question, view_log_races};
+use crate::recorded::{view_log, view_log_page, view_log_question, view_log_races, view_mend_luck};
 use crate::refusing::refusal;
 use crate::writing::{view_explanation, view_page, view_tidy};
 use cli::view::{Request, requested};
@@ -43,6 +43,7 @@ fn come<G: Giver, W: Out, V: Out>(
         Request::Mend(wanted) => view_mend(alloc, wanted, giver, out, err),
         Request::ToolQuestion(wanted) => view_tool_question(alloc, wanted, giver, out, err),
         Request::LogQuestion(wanted) => view_log_question(alloc, wanted, giver, out, err),
+        Request::MendLuck(wanted) => view_mend_luck(alloc, wanted, giver, out, err),
         Request::Tidy(file) => view_tidy(alloc, *file, giver, out, err),
         Request::Explain(file) => view_explanation(alloc, *file, giver, out, err),
     }

@@ -1,7 +1,7 @@
 //! Commands for whole files: `explain`, `tidy` and `page`.
 ghost use Rattle.std.specs.Prelude.{option_map};
 ghost use Rattle.cmd_page.specs.Showing.{titled};
-ghost use Rattle.mscview_requests.specs.Views.{DoesStrictly, WritesPage, ViewsPage, ViewsTidy, ViewsExplanation};
+ghost use Rattle.mscview_requests.specs.Effects.{DoesStrictly, WritesPage, ViewsPage, ViewsTidy, ViewsExplanation};
 
 use crate::drawing::file_title;
 use crate::giving::{Giver, first_in};

@@ -40,15 +40,15 @@ life_end x life bottom =
     else (segment life.region x life.start (life.place * 24 + 96) ++ segment 0 x (life.place * 24 + 96) bottom)
 
 -- the number of rows that are drawn above an event, if the event is drawn
-abbrev pub place_drawn : PictureView → EventNo → Option ℕ
-place_drawn v e = option_map (λ cell. cell.place) (cell_of v e)
+abbrev pub rows_above : PictureView → EventNo → Option ℕ
+rows_above v e = option_map (λ cell. cell.place) (cell_of v e)
 
 -- the rest of p's lifeline at x, with these events, the first of which is the i-th
 abbrev pub life_text : PictureView → ℕ → ℕ → ℕ → Life → List Event → List ℕ
 life_text v p x i life [] = life_end x life (height v.count)
 life_text v p x i life (m ∷ line) =
-    part x life (place_drawn v (record { instance = p; index = i })) (region_of m)
-    ++ life_text v p x (i + 1) (next_life life (place_drawn v (record { instance = p; index = i })) (region_of m)) line
+    part x life (rows_above v (record { instance = p; index = i })) (region_of m)
+    ++ life_text v p x (i + 1) (next_life life (rows_above v (record { instance = p; index = i })) (region_of m)) line
 
 -- p's lifeline at x, with these events; it is dashed along a coregion
 abbrev pub lifeline : PictureView → ℕ → ℕ → List Event → List ℕ

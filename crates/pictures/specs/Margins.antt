@@ -10,7 +10,7 @@ use Rattle.chart_layout.specs.declared.row.Row.TheVariants as variants
 use Rattle.chart_layout.specs.declared.margin.MarginNote.{MarginNote}
 use Rattle.picture_parts.specs.declared.elements.spot.Spot.{Spot}
 use Rattle.texts.specs.Pieces.Pieces.{escaped}
-use Rattle.pictures.specs.ColumnText.{place_drawn}
+use Rattle.pictures.specs.ColumnText.{rows_above}
 use Rattle.pictures.specs.Pictures.{PictureView}
 
 abbrev pub is_send : Option Event → Bool
@@ -49,8 +49,8 @@ either (Some place) other = Some place
 
 -- the number of rows that are drawn above a row, if one of its events is drawn
 abbrev pub row_place : PictureView → Row → Option ℕ
-row_place v (variants.Message s r) = either (place_drawn v s) (place_drawn v r)
-row_place v (variants.Event e) = place_drawn v e
+row_place v (variants.Message s r) = either (rows_above v s) (rows_above v r)
+row_place v (variants.Event e) = rows_above v e
 
 abbrev pub below_place : PictureView → Option ℕ → Option ℕ
 below_place v None = None
@@ -77,23 +77,23 @@ note_at a words =
     ++ codes "</text>\n")))))
 
 -- the same with `place` rows above it
-abbrev pub note_drawn : ℕ → List ℕ → Option ℕ → List ℕ
-note_drawn x words None = []
-note_drawn x words (Some place) = note_at (record { x = x; y = place * 24 + 76 }) words
+abbrev pub note_in_picture : ℕ → List ℕ → Option ℕ → List ℕ
+note_in_picture x words None = []
+note_in_picture x words (Some place) = note_at (record { x = x; y = place * 24 + 76 }) words
 
 -- a text that begins at x, if it is drawn
 abbrev pub note_text : PictureView → ℕ → MarginNote → List ℕ
-note_text v x note = note_drawn x note.text.items (note_place v note)
+note_text v x note = note_in_picture x note.text.items (note_place v note)
 
 -- a line that divides the rows, up to this spot
 unfoldable pub line_at : Spot → List ℕ
 line_at end = codes "<path stroke-dasharray='2 4' d='M16 " ++ (decimal end.y ++ (codes "H" ++ (decimal end.x ++ codes "'/>\n")))
 
 -- the same with `place` rows above it, up to the margin
-abbrev pub line_drawn : ℕ → Option ℕ → List ℕ
-line_drawn x None = []
-line_drawn x (Some place) = line_at (record { x = x - 16; y = place * 24 + 72 })
+abbrev pub line_in_picture : ℕ → Option ℕ → List ℕ
+line_in_picture x None = []
+line_in_picture x (Some place) = line_at (record { x = x - 16; y = place * 24 + 72 })
 
 -- the dividing line of a text, if it has one that is drawn
 abbrev pub dividing_line : PictureView → ℕ → MarginNote → List ℕ
-dividing_line v x note = if note.divides then line_drawn x (note_place v note) else []
+dividing_line v x note = if note.divides then line_in_picture x (note_place v note) else []

@@ -82,11 +82,11 @@ bracket_between e r c upper lower =
 
 -- the first event of a range, or the first chosen event if that is later; and the last event of a range, or the last
 -- chosen event if that is earlier
-abbrev pub first_drawn : PictureView → EventRange → EventNo
-first_drawn v r = record { instance = r.first.instance; index = max r.first.index v.choice.first }
+abbrev pub first_in_picture : PictureView → EventRange → EventNo
+first_in_picture v r = record { instance = r.first.instance; index = max r.first.index v.choice.first }
 
-abbrev pub last_drawn : PictureView → EventRange → EventNo
-last_drawn v r = record { instance = r.first.instance; index = min (r.first.index + (r.count - 1)) v.choice.last }
+abbrev pub last_in_picture : PictureView → EventRange → EventNo
+last_in_picture v r = record { instance = r.first.instance; index = min (r.first.index + (r.count - 1)) v.choice.last }
 
 -- the same, if both numbers of rows are known
 abbrev pub bracket_places : EventNo → EventRange → Column → Option ℕ → Option ℕ → List ℕ
@@ -110,7 +110,7 @@ bracket_from v e r (Some c) (Some upper) (Some lower) =
 -- the bracket of the chosen part of a range of earlier events
 abbrev pub bracket_text : PictureView → EventNo → EventRange → List ℕ
 bracket_text v e r =
-    bracket_from v e r (column_of v r.first.instance) (row_at v (first_drawn v r)) (row_at v (last_drawn v r))
+    bracket_from v e r (column_of v r.first.instance) (row_at v (first_in_picture v r)) (row_at v (last_in_picture v r))
 
 -- the number of events, at most the greatest number of 64 bits
 abbrev pub counted : List EventNo → ℕ

@@ -26,7 +26,7 @@ pub record SourceView : Type 0 where
 -- the part of a chart that is drawn
 pub record PartView : Type 0 where
   -- the instances that have a column, from left to right
-  pub drawn : List ℕ
+  pub instances : List ℕ
   -- the numbers of the first and of the last event that are chosen on each line
   pub first : ℕ
   pub last : ℕ
@@ -40,11 +40,11 @@ pub record PartView : Type 0 where
 
 -- the values by which its columns are placed
 abbrev pub plan_of : List (List ℕ) → List LineView → List ReportView → List ℕ → Bool → PlanView
-plan_of names lines reports drawn numbers = record {
+plan_of names lines reports instances numbers = record {
   names = names;
   lines = lines;
   reports = reports;
-  drawn = drawn;
+  instances = instances;
   numbers = numbers;
 }
 
@@ -58,7 +58,7 @@ pub record IsPictureOf (source : SourceView) (part : PartView) (v : PictureView)
   pub choice_is : v.choice ≡ record {
     rows = source.rows;
     ends = source.ends;
-    columns = columns_of (plan_of source.names source.lines source.reports part.drawn part.numbers);
+    columns = columns_of (plan_of source.names source.lines source.reports part.instances part.numbers);
     first = part.first;
     last = part.last;
     top = part.top;
@@ -68,5 +68,5 @@ pub record IsPictureOf (source : SourceView) (part : PartView) (v : PictureView)
   pub count_is : v.count ≡ count_from v.choice 0 source.rows
   pub sends_are : v.sends ≡ filter (has_send source.lines) source.rows
   pub notes_are : v.notes ≡ part.notes
-  pub width_is : v.width ≡ with_margin (width_of (plan_of source.names source.lines source.reports part.drawn part.numbers)
+  pub width_is : v.width ≡ with_margin (width_of (plan_of source.names source.lines source.reports part.instances part.numbers)
       v.choice.columns (length source.title)) part.notes

@@ -123,12 +123,12 @@ sent v e to a None = sent_off v e to a (column_of v to)
 sent v e to a (Some r) = sent_to v e to a (cell_of v r)
 
 -- the other end is an event that is drawn
-abbrev pub is_drawn_end : PictureView → Option EventNo → Bool
-is_drawn_end v None = false
-is_drawn_end v (Some e) = is_some (cell_of v e)
+abbrev pub is_end_in_picture : PictureView → Option EventNo → Bool
+is_end_in_picture v None = false
+is_end_in_picture v (Some e) = is_some (cell_of v e)
 
 abbrev pub has_end : PictureView → EventNo → Bool
-has_end v e = is_drawn_end v (end_of v e)
+has_end v e = is_end_in_picture v (end_of v e)
 
 -- a receive that is alone in its row; its arrow, if it isn't cut, was drawn with its send
 abbrev pub received : PictureView → EventNo → ℕ → Cell → List ℕ

@@ -7,7 +7,7 @@ ghost use Rattle.chart.specs.declared.line.TheConstants.{MAX_EVENTS};
 ghost use Rattle.texts.specs.Instances.{name_at};
 ghost use Rattle.texts.specs.Writing.{Adds};
 ghost use Rattle.pictures.specs.ColumnText.{cut, part, next_life, life_end, life_text, name_height, head_of, head};
-ghost use Rattle.pictures.specs.ColumnText.{place_drawn, lifeline, column_text};
+ghost use Rattle.pictures.specs.ColumnText.{rows_above, lifeline, column_text};
 
 use crate::picture::Picture;
 use crate::spots::height;
@@ -95,8 +95,8 @@ fn add_life_end<W: Out>(
 }
 
 /// The number of rows that are drawn above an event, if the event is drawn.
-pub(crate) fn place_drawn(picture: &Picture<'_>, event: &EventNo) -> Option<u32>
-    ensures { result ≡ place_drawn picture.now event.now }
+pub(crate) fn rows_above(picture: &Picture<'_>, event: &EventNo) -> Option<u32>
+    ensures { result ≡ rows_above picture.now event.now }
 {
     match picture.cell_of(event) {
         Some(cell) => Some(cell.place),
@@ -122,7 +122,7 @@ fn add_lifeline<W: Out>(
     };
     let mut index = 1;
     for event in events {
-        let place = place_drawn(picture, &EventNo { instance, index });
+        let place = rows_above(picture, &EventNo { instance, index });
         add_part(text, x, life, place, event.region())?;
         life = next_life(life, place, event.region());
         index += 1;

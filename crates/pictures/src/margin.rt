@@ -5,7 +5,7 @@ ghost use Rattle.texts.specs.Writing.{Adds};
 ghost use Rattle.pictures.specs.Margins.{has_send, text_width, widest, margin_of, with_margin, margin_x};
 ghost use Rattle.pictures.specs.Margins.{row_place, note_place, note_at, note_text, line_at, dividing_line};
 
-use crate::columns::place_drawn;
+use crate::columns::rows_above;
 use crate::picture::Picture;
 use chart::{Event, Line};
 use chart_layout::margin::MarginNote;
@@ -85,11 +85,11 @@ fn row_place(picture: &Picture<'_>, row: &Row) -> Option<u32>
     ensures { result ≡ row_place picture.now row.now }
 {
     match row {
-        Row::Message { send, receive } => match place_drawn(picture, send) {
+        Row::Message { send, receive } => match rows_above(picture, send) {
             Some(place) => Some(place),
-            None => place_drawn(picture, receive),
+            None => rows_above(picture, receive),
         },
-        Row::Event(event) => place_drawn(picture, event),
+        Row::Event(event) => rows_above(picture, event),
     }
 }
 

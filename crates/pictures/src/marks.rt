@@ -5,7 +5,7 @@ ghost use Rattle.std.specs.List.{flat_map};
 ghost use Rattle.chart.specs.Ranges.{IsRange, ranges_of};
 ghost use Rattle.texts.specs.Writing.{Adds};
 ghost use Rattle.pictures.specs.MarkText.{from_left, dot_spot, dot, race_number, offset, bracket_x, inner_x, upper_y};
-ghost use Rattle.pictures.specs.MarkText.{bracket_between, first_drawn, last_drawn, bracket_places, bracket_rows};
+ghost use Rattle.pictures.specs.MarkText.{bracket_between, first_in_picture, last_in_picture, bracket_places, bracket_rows};
 ghost use Rattle.pictures.specs.MarkText.{bracket_text, marked, marks};
 ghost use Rattle.pictures.specs.Pictures.{cell_of};
 
@@ -173,8 +173,8 @@ fn add_bracket_between<W: Out>(
 }
 
 /// The first event of a range, or the first chosen event if that is later.
-fn first_drawn(picture: &Picture<'_>, range: &EventRange) -> EventNo
-    ensures { result ≡ first_drawn picture.now range.now }
+fn first_in_picture(picture: &Picture<'_>, range: &EventRange) -> EventNo
+    ensures { result ≡ first_in_picture picture.now range.now }
 {
     EventNo {
         instance: range.first.instance,
@@ -183,9 +183,9 @@ fn first_drawn(picture: &Picture<'_>, range: &EventRange) -> EventNo
 }
 
 /// The last event of a range, or the last chosen event if that is earlier.
-fn last_drawn(picture: &Picture<'_>, range: &EventRange) -> EventNo
+fn last_in_picture(picture: &Picture<'_>, range: &EventRange) -> EventNo
     requires { IsRange range.now }
-    ensures { result ≡ last_drawn picture.now range.now }
+    ensures { result ≡ last_in_picture picture.now range.now }
 {
     let last = range.event(range.count - 1);
     EventNo {
@@ -251,10 +251,10 @@ fn add_bracket<W: Out>(
     let Some(column) = picture.column_of(range.first.instance) else {
         return text.add(b"");
     };
-    let Some(upper) = picture.row_at(&first_drawn(picture, range)) else {
+    let Some(upper) = picture.row_at(&first_in_picture(picture, range)) else {
         return text.add(b"");
     };
-    let Some(lower) = picture.row_at(&last_drawn(picture, range)) else {
+    let Some(lower) = picture.row_at(&last_in_picture(picture, range)) else {
         return text.add(b"");
     };
     let upper = upper.max(picture.top());

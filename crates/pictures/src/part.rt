@@ -22,7 +22,7 @@ pub struct Source<'a> {
 #[derive(Clone, Copy)]
 pub struct Part<'a> {
     /// The instances that have a column, from left to right.
-    pub drawn: &'a [InstanceNo],
+    pub instances: &'a [InstanceNo],
     /// The numbers of the first and of the last event that are chosen on each line, from 1.
     pub first: u32,
     pub last: u32,

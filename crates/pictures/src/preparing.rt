@@ -10,13 +10,13 @@ use std::alloc::{AllocError, Global};
 
 /// The values by which the columns of a part are placed.
 fn plan_of<'a>(source: &Source<'a>, part: &Part<'a>) -> Plan<'a>
-    ensures { result ≡ plan_of source.now.names.now source.now.closure.now source.now.reports.now part.now.drawn.now part.now.numbers }
+    ensures { result ≡ plan_of source.now.names.now source.now.closure.now source.now.reports.now part.now.instances.now part.now.numbers }
 {
     Plan {
         names: source.names,
         lines: source.closure.lines(),
         reports: source.reports,
-        drawn: part.drawn,
+        instances: part.instances,
         numbers: part.numbers,
     }
 }
@@ -57,7 +57,7 @@ impl<'a> Picture<'a> {
           reports = source.entry.reports.now;
           ends = source.entry.ends.now;
         }) (record {
-          drawn = part.entry.drawn.now;
+          instances = part.entry.instances.now;
           first = part.entry.first;
           last = part.entry.last;
           top = part.entry.top;
@@ -69,8 +69,8 @@ impl<'a> Picture<'a> {
         let rows = source.layout.rows();
         let plan = plan_of(&source, &part);
         let columns = columns_of(alloc, &plan)?;
-        let drawn = width_of(&plan, columns.as_slice(), source.title.len());
-        let width = with_margin(drawn, part.notes);
+        let instances = width_of(&plan, columns.as_slice(), source.title.len());
+        let width = with_margin(instances, part.notes);
         let sends = sends_in(alloc, plan.lines, rows)?;
         let choice = choice_of(&source, &part, columns);
         let (places, count) = places_of(alloc, &choice, rows)?;

@@ -1,6 +1,7 @@
 //! Verdicts on the races of a recording.
 
-/// Whether a race of a recording was luck, and otherwise the first reason why it wasn't.
+/// Whether a race of a recording was luck, and otherwise the first reason why it wasn't. Of a schedule it may be
+/// undecided.
 #[derive(Clone, Copy, Debug, PartialEq, Eq)]
 pub enum Verdict {
     /// As far as is known, the earlier receive would have taken the later message if that had come first.
@@ -18,6 +19,9 @@ pub enum Verdict {
     PassedOver,
     /// The earlier receive would have taken another message first, which the same sender sent before.
     BehindAnother,
+    /// The earlier receive of a schedule was by the command `any`. Whether some run of its scripts has the other order
+    /// isn't decided. No race of a log has this verdict.
+    Any,
 }
 
 /// A verdict on a receive and each of some neighbouring events of its line.

@@ -15,9 +15,10 @@ mod stretches;
 mod words;
 
 pub use json::{add_message_and_sender, add_messages, add_number, add_range_front};
-pub use kept::{event_at, goes_on};
+pub use kept::goes_on;
 pub use listing::{Form, RaceQuery, either, is_among, passed_by, write_races};
 pub use plain::{add_line, add_race, add_range, last_of};
+pub use shown_races::event_at;
 pub use stretches::KeptEvents;
 pub(crate) use stretches::{behind, no_events};
 pub use words::{Word, add_event_at, add_name, add_word};

@@ -1,5 +1,5 @@
 -- The name that a new message gets is a name.
-use Rattle.std.proofs.Common.{◌≡◌, ℕ, List, [], ◌∷◌, Ok, refl}
+use Rattle.std.proofs.Common.{◌≡◌, [], ◌∷◌, Ok, refl}
 use Rattle.chart.specs.Names.{name_of}
 use Rattle.chart.specs.Keywords.{is_reserved, is_keyword, spelled}
 

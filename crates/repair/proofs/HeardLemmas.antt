@@ -55,7 +55,7 @@ heard_before c s p low high i other none up before =
 pub before_heard : (c : Chart) (s : Place) (p low high q : ℕ) → IsHeardFrom c s p low high q → (i : ℕ) × (i ≤ high) × Before c s (at p i)
 before_heard c s p low high q (i, t, above, up, on, b, informed) = (i, up, before_its_receive c s t (at p i) informed b)
 
--- what was asked of the last receive from q tells of all of them
+-- what was asked of the last receive from q holds for all of them
 pub informs_from : (c : Chart) (s : Place) (p low high q l : ℕ) (heard : Bool) → IsLastIn (is_receive_from q) (c p) low high l → InformsHeard c s (at p l) heard → IsTrue heard ↔ IsHeardFrom c s p low high q
 informs_from c s p low high q l heard last informs = (
   λ yes'. heard_last c s p low high q l last (informs.1.0 yes'),

@@ -1,4 +1,4 @@
--- The message that tells of a race's earlier event: its lines may have it, and the chart with it is as it should be.
+-- The message that informs of a race's earlier event: its lines may have it, and the chart with it is as it should be.
 use Rattle.std.proofs.Common.{◌≡◌, ◌≢◌, ℕ, zero, suc, ◌+◌, ◌-◌, ◌<◌, ◌≤◌, ◌==◌, inl, inr, true, false, cond, List, [], length, map, get_or, Some, refl, sym, ap, ap₂, ◌∙◌, subst, arith, eq-eqb, eqb-true}
 use Rattle.std.specs.Prelude.{slice_get}
 use Rattle.std.specs.List.{insert}
@@ -184,7 +184,7 @@ module _ (lines : List LineView) (possible : IsPossibleChart lines) (e r s : Pla
       let turn = (can_inform (length lines) (chart_lines lines) e r s k possible.possible asked.race asked.belongs asked.ends m d from to w new mine before).in_turn in
       omega (arith, turn, more)
 
-  -- and else it can be told of them
+  -- and else it can be informed of them
   pub can_be_informed : IsBeforeNone (chart_lines lines) s e.instance k → tally (is_send_to s.instance) (chart_lines lines e.instance) k ≤ tally (is_receive_from e.instance) (chart_lines lines s.instance) s.index → CanInform (chart_lines lines) e.instance k s
   can_be_informed uncrossed few = record {
     uncrossed = uncrossed;
@@ -194,7 +194,7 @@ module _ (lines : List LineView) (possible : IsPossibleChart lines) (e r s : Pla
     ];
   }
 
-  -- the chart with the message that tells is as it should be
+  -- the chart with the message that informs is as it should be
   module _ (name : List ℕ) (can : CanInform (chart_lines lines) e.instance k s) (d : Chart) (w : IsWith (informing e.instance k s name) (chart_lines lines) d) where
     pub faultless_informed : (x : Place) → IsFaulty d x → ⊥
     faultless_informed = no_fault_informed (length lines) (chart_lines lines) d e r s k name possible.possible asked.race asked.belongs asked.ends can w

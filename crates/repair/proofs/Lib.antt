@@ -14,3 +14,5 @@ pub mod PairLemmas
 pub mod RepairLemmas
 pub mod CountLemmas
 pub mod LimitLemmas
+pub mod CountedLemmas
+pub mod MarkLemmas

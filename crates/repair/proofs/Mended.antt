@@ -1,4 +1,4 @@
--- A message that tells of an event makes no fault and no cycle, and where there is no such message there is none.
+-- A message that informs of an event makes no fault and no cycle, and where there is no such message there is none.
 use Rattle.std.proofs.Common.{◌≡◌, ℕ, zero, suc, ◌+◌, ◌-◌, ◌<◌, ◌≤◌, ◌⊎◌, inl, inr, true, List, [], ◌∷◌, ◌++◌, length, take, Some, count_by, refl, sym, ap, ◌∙◌, subst, arith, add-one, length-take}
 use Rattle.std.specs.Prelude.{slice_get}
 use Rattle.std.specs.List.{insert}
@@ -177,7 +177,7 @@ module _ (n : ℕ) (c : Chart) (old : IsPossible n c) (m : NewMessage) (d : Char
   turn : IsInTurn m c d w
   turn = turn_of m c d w mine
 
-  -- what p tells of has the event
+  -- what p informs of has the event
   has_informed : IsInformed m c (at m.sender i) → i ≤ m.sent
   has_informed (a, low, high, inl same) = let e = ap (λ x. x.index) same in omega (arith, e, high)
   has_informed (a, low, high, inr before) = elim (cases_lt a i) [
@@ -222,7 +222,7 @@ module _ (n : ℕ) (c : Chart) (old : IsPossible n c) (m : NewMessage) (d : Char
         absurd (no_cut (c m.sender) m.sent i x.0 y.0 m.receiver m.name w.sent_within informed x.1 inside (subst (λ xs. MayHaveRegion (take (m.sent + 1) xs) (region_of y.0)) w.send may))
   ]
 
-  -- the send of the receive is before none of what p tells of
+  -- the send of the receive is before none of what p informs of
   not_crossed : k ≤ m.sent → m.received < j → (a : ℕ) → a ≤ k → Before c (at m.receiver j) (at m.sender a) → ⊥
   not_crossed informed heard a high before =
       let low = (before_events before).1.0 in
@@ -254,7 +254,7 @@ module _ (n : ℕ) (c : Chart) (old : IsPossible n c) (m : NewMessage) (d : Char
         }
   ]
 
--- so where a message more makes the pair enforced it can be told of
+-- so where a message more makes the pair enforced it can be informed of
 pub can_inform : (n : ℕ) (c : Chart) (e r s : Place) (k : ℕ) → IsPossible n c → IsRace c e r → BelongsTo c s r → EndsBehind (c e.instance) e.index k → (m : NewMessage) (d : Chart) → m.sender ≡ e.instance → m.receiver ≡ s.instance → IsWith m c d → IsPossible n d
     → BelongsTo d (new_send m) (new_receive m) → Before d (moved m c e) (moved m c r) → CanInform c e.instance k s
 can_inform n c e r s k old race b ends m d from to w new mine before =
@@ -279,7 +279,7 @@ up_to_send c p q s sends low =
       | inr more ↦ absurd (not_both c q p s sends (subst (λ i. Passes (is_receive_from p) (c s.instance) i) last more.0))
     ]
 
--- Of a race of a possible chart whose earlier event can be told of, and the chart with the message that tells.
+-- Of a race of a possible chart of whose earlier event a message can inform, and the chart with this message.
 module _ (n : ℕ) (c d : Chart) (e r s : Place) (k : ℕ) (name : List ℕ) (old : IsPossible n c) (race : IsRace c e r) (b : BelongsTo c s r) (ends : EndsBehind (c e.instance) e.index k) (can : CanInform c e.instance k s)
     (w : IsWith (informing e.instance k s name) c d) where
   low_send : 1 ≤ s.index
@@ -288,7 +288,7 @@ module _ (n : ℕ) (c d : Chart) (e r s : Place) (k : ℕ) (name : List ℕ) (ol
   pub informed_turn : IsInTurn (informing e.instance k s name) c d w
   informed_turn = can.in_turn ∙ up_to_send c e.instance r.instance s b.sent low_send
 
-  -- what s is up to isn't told of
+  -- what s is up to isn't informed of
   crosses_not : (x : Place) → IsInformed (informing e.instance k s name) c x → IsHeard (informing e.instance k s name) c x → ⊥
   crosses_not x (a, low, high, informed) (i, q, later, sends, heard) =
       let t = at s.instance i in

@@ -1,25 +1,27 @@
 -- Race pairs of a chart: each is a race, and how many there are is one number.
-use Rattle.std.proofs.Common.{◌≡◌, ℕ, zero, suc, ◌+◌, ◌<◌, ◌≤◌, false, List, [], ◌∷◌, ◌++◌, length, map, get_or, Some, refl, sym, ap, ◌∙◌, subst, arith, add-one, append_assoc, eq-eqb}
-use Rattle.std.specs.Prelude.{All, Contains, slice_get}
+use Rattle.std.proofs.Common.{◌≡◌, ℕ, suc, ◌+◌, ◌<◌, false, List, [], ◌∷◌, ◌++◌, length, map, get_or, Some, refl, sym, ap, ◌∙◌, subst, arith, add-one, append_assoc, eq-eqb}
+use Rattle.std.specs.Prelude.{All}
 use Rattle.std.specs.List.{flat_map}
 use Rattle.std.proofs.lemmas.List.{length-append, get_or-map, length-map}
 use Rattle.std.proofs.lemmas.List.Concat.{flat_map-cons}
-use Rattle.std.proofs.lemmas.List.Elements.{All-nil, All-cons, All-append, All-head, All-tail, All-map, All-contains, All-contains_itself, All-weaker, All-from_get_or}
+use Rattle.std.proofs.lemmas.List.Elements.{All-nil, All-cons, All-append, All-head, All-tail, All-map, All-weaker}
 use Rattle.std.proofs.lemmas.Option.{same_Some, slice_get-get_or}
 use Rattle.chart.specs.declared.event.Event.{Event}
 use Rattle.chart.specs.declared.event.Event.TheVariants.{Send, Receive}
 use Rattle.chart.specs.declared.instance.EventNo.{EventNo}
 use Rattle.chart.specs.Events.{ith, is_in}
-use Rattle.chart.specs.Charts.{Chart, Place, at, chart_event, LineView, IsNumbered, IsReceiveFrom, chart_lines}
+use Rattle.chart.specs.Charts.{Chart, at, chart_event, LineView, IsNumbered, IsReceiveFrom, chart_lines}
 use Rattle.chart.specs.Order.{Before, region_of_event}
-use Rattle.chart.specs.Reports.{ReportView, IsReportIn, AreReports, receives_from, receives_of}
+use Rattle.chart.specs.Reports.{ReportView, receives_from, receives_of}
 use Rattle.chart.proofs.Tally.{ith_within, ith-append_next}
-use Rattle.closure.proofs.OneList.{one_list}
 use Rattle.closure.specs.Faults.{place_of}
 use Rattle.repair.specs.Messages.{IsRace}
 use Rattle.repair.specs.declared.pairs.RacePair.{RacePair}
 use Rattle.repair.specs.Repairs.{pairs_of_report, pairs_of, ArePairs}
+use Rattle.repair.specs.Counted.{CountedView}
 use Rattle.repair.specs.Best.{HasPairs}
+use Rattle.shown_races.proofs.ShownLemmas.{IsRaceOf}
+use Rattle.repair.proofs.CountedLemmas.{counted_races, counted_receives, one_counted}
 
 -- what holds of each of several lists' elements holds of those of all
 all_flat : {X Y : Type 0} (P : Y → Type 0) (f : X → List Y) (xs : List X) → All (λ x. All P (f x)) xs → All P (flat_map f xs)
@@ -59,45 +61,42 @@ receives_are lines numbered = all_flat (HasReceive (chart_lines lines)) receives
         receives_on (chart_lines lines) l.instance [] l.events 1 its refl
 
 -- a race of a report
-race_in : (c : Chart) (report : ReportView) → IsReportIn c report → All (λ (e : EventNo). IsRace c (place_of e) (place_of report.receive)) report.earlier
-race_in c report is i d within =
-    let e = get_or report.earlier i d in
-    let r = report.receive in
-    let line : e.instance ≡ r.instance = is.line i d within in
-    let long = length-map report.earlier (λ (x : EventNo). x.index) in
-    let contains : Contains (map (λ (x : EventNo). x.index) report.earlier) e.index = (i, omega (arith, long, within), get_or-map (λ (x : EventNo). x.index) report.earlier i d e.index within) in
-    let w = (is.exact.exact e.index).0 contains in
-    let there : chart_event c (place_of e) ≡ Some w.1.0 = ap (λ p. ith (c p) e.index) line ∙ w.1.1 in
+race_in : (c : Chart) (r e : EventNo) → IsRaceOf c r e → IsRace c (place_of e) (place_of r)
+race_in c r e race =
+    let line = race.line in
+    let w = race.apart in
+    let there : chart_event c (place_of e) ≡ Some w.0 = ap (λ p. ith (c p) e.index) line ∙ w.1 in
     let same : at r.instance e.index ≡ place_of e = ap (λ p. at p e.index) (sym line) in
     record {
-      earlier = record { line = line; begun = (ith_within (c e.instance) e.index w.1.0 there).0; less = w.0 };
-      apart = λ m here. subst (λ x. is_in (region_of_event (chart_event c (place_of r))) x ≡ false) (same_Some w.1.0 m (sym there ∙ here)) w.1.2;
-      free = λ before. w.2 (subst (λ x. Before c x (place_of r)) (sym same) before);
+      earlier = record { line = line; begun = (ith_within (c e.instance) e.index w.0 there).0; less = race.less };
+      apart = λ m here. subst (λ x. is_in (region_of_event (chart_event c (place_of r))) x ≡ false) (same_Some w.0 m (sym there ∙ here)) w.2;
+      free = λ before. race.free (subst (λ x. Before c x (place_of r)) (sym same) before);
     }
 
 -- a race pair of a chart
 abbrev pub IsRacePair : Chart → RacePair → Type 0
 IsRacePair c pair = IsRace c (place_of pair.earlier) (place_of pair.receive) × HasReceive c pair.receive
 
-pub pairs_race : (lines : List LineView) (pairs : List RacePair) → IsNumbered lines → ArePairs lines pairs → All (IsRacePair (chart_lines lines)) pairs
-pairs_race lines pairs numbered (reports, are, is) = subst (All (IsRacePair (chart_lines lines))) (sym is) (all_flat (IsRacePair (chart_lines lines)) pairs_of_report reports each)
+pub pairs_race : (counted : CountedView) (lines : List LineView) (pairs : List RacePair) → IsNumbered lines → ArePairs counted lines pairs → All (IsRacePair (chart_lines lines)) pairs
+pairs_race counted lines pairs numbered (reports, are, is) = subst (All (IsRacePair (chart_lines lines))) (sym is) (all_flat (IsRacePair (chart_lines lines)) pairs_of_report reports each)
   where
     each : All (λ (report : ReportView). All (IsRacePair (chart_lines lines)) (pairs_of_report report)) reports
     each i d within =
         let report = get_or reports i d in
+        let receives = counted_receives counted lines reports are in
         let long = length-map reports (λ (r : ReportView). r.receive) in
         let there : get_or (map (λ (r : ReportView). r.receive) reports) i d.receive ≡ report.receive = get_or-map (λ (r : ReportView). r.receive) reports i d d.receive within in
-        let listed : get_or (flat_map receives_of lines) i d.receive ≡ report.receive = ap (λ es. get_or es i d.receive) (sym are.are.receives) ∙ there in
-        let inside : i < length (flat_map receives_of lines) = omega (arith, within, long, ap (λ (es : List EventNo). length es) are.are.receives) in
+        let listed : get_or (flat_map receives_of lines) i d.receive ≡ report.receive = ap (λ es. get_or es i d.receive) (sym receives) ∙ there in
+        let inside : i < length (flat_map receives_of lines) = omega (arith, within, long, ap (λ (es : List EventNo). length es) receives) in
         let receive : HasReceive (chart_lines lines) report.receive = subst (HasReceive (chart_lines lines)) listed (receives_are lines numbered i d.receive inside) in
         let paired : EventNo → RacePair = λ (e : EventNo). record { earlier = e; receive = report.receive } in
         All-map (IsRacePair (chart_lines lines)) paired report.earlier
-        (All-weaker (λ (e : EventNo). IsRace (chart_lines lines) (place_of e) (place_of report.receive)) (λ (e : EventNo). IsRacePair (chart_lines lines) (paired e)) (λ e race. (race, receive)) report.earlier (race_in (chart_lines lines) report (are.are.each i d within)))
+        (All-weaker (IsRaceOf (chart_lines lines) report.receive) (λ (e : EventNo). IsRacePair (chart_lines lines) (paired e)) (λ e race. (race_in (chart_lines lines) report.receive e race, receive)) report.earlier (counted_races counted lines reports are i d within))
 
 -- a chart has one list of race pairs
-pub one_pairs : (lines : List LineView) (xs ys : List RacePair) → ArePairs lines xs → ArePairs lines ys → xs ≡ ys
-one_pairs lines xs ys (a, are_a, is_a) (b, are_b, is_b) = is_a ∙ ap pairs_of (one_list lines a b are_a are_b) ∙ sym is_b
+pub one_pairs : (counted : CountedView) (lines : List LineView) (xs ys : List RacePair) → ArePairs counted lines xs → ArePairs counted lines ys → xs ≡ ys
+one_pairs counted lines xs ys (a, are_a, is_a) (b, are_b, is_b) = is_a ∙ ap pairs_of (one_counted counted lines a b are_a are_b) ∙ sym is_b
 
 -- and so many
-pub one_count : (lines : List LineView) (m n : ℕ) → HasPairs lines m → HasPairs lines n → m ≡ n
-one_count lines m n (xs, are_x, is_m) (ys, are_y, is_n) = is_m ∙ ap (λ (l : List RacePair). length l) (one_pairs lines xs ys are_x are_y) ∙ sym is_n
+pub one_count : (counted : CountedView) (lines : List LineView) (m n : ℕ) → HasPairs counted lines m → HasPairs counted lines n → m ≡ n
+one_count counted lines m n (xs, are_x, is_m) (ys, are_y, is_n) = is_m ∙ ap (λ (l : List RacePair). length l) (one_pairs counted lines xs ys are_x are_y) ∙ sym is_n

@@ -49,7 +49,7 @@ abbrev IsReached : NewMessage → Chart → Place → Place → Type 0
 IsReached m c x z = ((y : Place) × (z ≡ moved m c y) × (Before c x y ⊎ (IsInformed m c x × IsHeard m c y)))
     ⊎ ((z ≡ new_send m) × IsInformed m c x) ⊎ ((z ≡ new_receive m) × (IsInformed m c x ⊎ IsSooner m c x))
 
--- what is before one that was told, heard or received sooner
+-- what is before one that was informed of, heard or received sooner
 informed_before : (m : NewMessage) (c : Chart) (x y : Place) → Before c x y → IsInformed m c y → IsInformed m c x
 informed_before m c x y before (i, low, high, up) = (i, low, high, inr (before_up c y (at m.sender i) x up before))
 
@@ -190,7 +190,7 @@ module _ (m : NewMessage) (c d : Chart) (w : IsWith m c d) (turn : IsInTurn m c 
 
   -- each old receive has a send
   module _ (sent : (q : ℕ) (r : Place) → IsReceiveFrom c q r → (s : Place) × BelongsTo c s r) where
-    -- what was told is before an old receive of the lane after the new one
+    -- what was informed of is before an old receive of the lane after the new one
     informed_receives : (x t : Place) → IsInformed m c x → m.receiver ≡ t.instance → m.received < t.index → IsReceiveFrom c m.sender t → Before c x t
     informed_receives x t informed line later from =
         let s = sent m.sender t from in
@@ -251,7 +251,7 @@ module _ (m : NewMessage) (c d : Chart) (w : IsWith m c d) (turn : IsInTurn m c 
       | inr (inr v) ↦ absurd (moved_no_receive y v.0)
     ]
 
-    -- Where no event is told of and heard, and nothing was before itself, nothing is.
+    -- Where no event is informed of and heard, and nothing was before itself, nothing is.
     module _ (free : IsCyclic c → ⊥) (uncrossed : (x : Place) → IsInformed m c x → IsHeard m c x → ⊥) where
       no_old_cycle : (x z : Place) → z ≡ moved m c x → Before d z z → ⊥
       no_old_cycle x z is before = elim (was_before x x (subst (λ a. Before d a a) is before)) [

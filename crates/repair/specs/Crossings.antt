@@ -21,7 +21,7 @@ pub record IsLastIn (test : Event → Bool) (line : List Event) (low high index 
 abbrev pub IsHeardAt : Chart → Place → Place → Type 0
 IsHeardAt c s r = (t : Place) × BelongsTo c t r × IsUpTo c t s
 
--- the receive has a send, and this tells whether it is so
+-- the receive has a send, and this says whether it is so
 abbrev pub InformsHeard : Chart → Place → Place → Bool → Type 0
 InformsHeard c s r heard = ((t : Place) × BelongsTo c t r) × (IsTrue heard ↔ IsHeardAt c s r)
 

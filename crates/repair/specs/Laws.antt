@@ -4,6 +4,7 @@ use Rattle.chart.specs.Charts.{Chart, Place, LineView, BelongsTo, IsPossible}
 use Rattle.chart.specs.Order.{Before, IsCyclic}
 use Rattle.closure.specs.Faults.{IsFaulty}
 use Rattle.repair.specs.Messages.{NewMessage, IsWith, new_send, new_receive, moved, IsRace, EndsBehind, CanInform, informing, NoMessage}
+use Rattle.repair.specs.Counted.{CountedView}
 use Rattle.repair.specs.declared.best.Addition.{Addition}
 use Rattle.repair.specs.declared.pairs.RacePair.{RacePair}
 use Rattle.repair.specs.Repairs.{ArePairs, AreAdded, AreTried}
@@ -27,7 +28,7 @@ NoNewRaceLaw = (m : NewMessage) (c d : Chart) → IsWith m c d → BelongsTo d (
 
 -- Of a race of a possible chart, whose receive r has the send s, and whose earlier event's coregion ends behind k events:
 
--- the message that tells of them leaves no receive without its send, makes no cycle, and makes the pair enforced
+-- the message that informs of them leaves no receive without its send, makes no cycle, and makes the pair enforced
 abbrev pub InformingLaw : Type 0
 InformingLaw = (n : ℕ) (c d : Chart) (e r s : Place) (k : ℕ) (name : List ℕ) → IsPossible n c → IsRace c e r
     → BelongsTo c s r → EndsBehind (c e.instance) e.index k → CanInform c e.instance k s
@@ -36,7 +37,7 @@ InformingLaw = (n : ℕ) (c d : Chart) (e r s : Place) (k : ℕ) (name : List �
     × BelongsTo d (new_send (informing e.instance k s name)) (new_receive (informing e.instance k s name))
     × Before d (moved (informing e.instance k s name) c e) (moved (informing e.instance k s name) c r)
 
--- where it can't be told of them no message from e's line to s's makes the pair enforced
+-- where it can't be informed of them no message from e's line to s's makes the pair enforced
 abbrev pub NoMessageLaw : Type 0
 NoMessageLaw = (n : ℕ) (c : Chart) (e r s : Place) (k : ℕ) → IsPossible n c → IsRace c e r → BelongsTo c s r
     → EndsBehind (c e.instance) e.index k → (CanInform c e.instance k s → ⊥) → NoMessage n c e.instance s.instance e r
@@ -45,16 +46,17 @@ NoMessageLaw = (n : ℕ) (c : Chart) (e r s : Place) (k : ℕ) → IsPossible n 
 
 -- if it didn't stop they are those that are added with no limit
 abbrev pub NotStoppedLaw : Type 0
-NotStoppedLaw = (limit tried : ℕ) (lines end : List LineView) (additions : List Addition)
-    → AreTried limit lines additions end tried false → AreAdded lines additions end
+NotStoppedLaw = (counted at_end : CountedView) (limit tried : ℕ) (lines end : List LineView) (additions : List Addition)
+    → AreTried counted limit lines additions at_end end tried false → AreAdded counted lines additions at_end end
 
 -- those that are added with no limit need so many tries, and with any limit of at least so many it doesn't stop
 abbrev pub FarLimitLaw : Type 0
-FarLimitLaw = (lines end : List LineView) (additions : List Addition) → AreAdded lines additions end
-    → (tried : ℕ) × ((limit : ℕ) → tried ≤ limit → AreTried limit lines additions end tried false)
+FarLimitLaw = (counted at_end : CountedView) (lines end : List LineView) (additions : List Addition)
+    → AreAdded counted lines additions at_end end
+    → (tried : ℕ) × ((limit : ℕ) → tried ≤ limit → AreTried counted limit lines additions at_end end tried false)
 
 -- no more are tried than so many, and if it stopped the chart has more race pairs than are left of them
 abbrev pub StoppedLaw : Type 0
-StoppedLaw = (limit tried : ℕ) (lines end : List LineView) (additions : List Addition)
-    → AreTried limit lines additions end tried true
-    → (tried ≤ limit) × ((pairs : List RacePair) × ArePairs end pairs × (limit < tried + length pairs))
+StoppedLaw = (counted at_end : CountedView) (limit tried : ℕ) (lines end : List LineView) (additions : List Addition)
+    → AreTried counted limit lines additions at_end end tried true
+    → (tried ≤ limit) × ((pairs : List RacePair) × ArePairs at_end end pairs × (limit < tried + length pairs))

@@ -6,3 +6,6 @@ pub mod Messages
 pub mod Best
 pub mod Naming
 pub mod Repairs
+pub mod Counted
+pub mod Marks
+pub mod Moves

@@ -36,7 +36,7 @@ pub record IsAsked (c : Chart) (e r s : Place) (k : ℕ) : Type 0 where
   pub belongs : BelongsTo c s r
   pub ends : EndsBehind (c e.instance) e.index k
 
--- the send s is before this event first of their line, so that no message can tell of them
+-- the send s is before this event first of their line, so that no message can inform of them
 pub record Crosses (n : ℕ) (c : Chart) (e r x : Place) : Type 0 where
   pub send : Place
   pub many : ℕ
@@ -58,7 +58,7 @@ pub record Waits (n : ℕ) (c : Chart) (e r x : Place) : Type 0 where
   pub among : x.index ≤ many
   pub none : NoMessage n c e.instance send.instance e r
 
--- the chart with the message of this name that tells of them
+-- the chart with the message of this name that informs of them
 pub record Informs (n : ℕ) (c : Chart) (e r : Place) (name : List ℕ) (m : Message) (lines : List LineView) : Type 0 where
   pub send : Place
   pub many : ℕ

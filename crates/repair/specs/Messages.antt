@@ -59,13 +59,13 @@ pub record EndsBehind (line : List Event) (index k : ℕ) : Type 0 where
       → is_in (region_of_event (ith line index)) m ≡ true
   pub ends : (m : Event) → ith line (k + 1) ≡ Some m → is_in (region_of_event (ith line index)) m ≡ false
 
--- p can tell of its first k events before the send s: s is before none of them, and as many messages were sent to s's
+-- p can inform of its first k events before the send s: s is before none of them, and as many messages were sent to s's
 -- line among them as were received there before s
 pub record CanInform (c : Chart) (p k : ℕ) (s : Place) : Type 0 where
   pub uncrossed : (i : ℕ) → i ≤ k → Before c s (at p i) → ⊥
   pub in_turn : tally (is_send_to s.instance) (c p) k ≡ tally (is_receive_from p) (c s.instance) s.index
 
--- the message that tells of them: sent behind them, and received directly before s
+-- the message that informs of them: sent behind them, and received directly before s
 abbrev pub informing : ℕ → ℕ → Place → List ℕ → NewMessage
 informing p k s name = record {
   sender = p;

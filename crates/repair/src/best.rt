@@ -1,18 +1,21 @@
 //! The race pair whose mending leaves the fewest.
 ghost use Rattle.std.specs.Prelude.{◌≡◌, ℕ, length, IfOk, MatchOption};
-ghost use Rattle.chart.specs.Charts.{chart_lines, IsReceiveFrom, IsPossible};
+ghost use Rattle.chart.specs.Charts.{chart_lines, IsReceiveFrom};
 ghost use Rattle.closure.specs.Closures.{IsPossibleChart};
 ghost use Rattle.closure.specs.Faults.{place_of};
+ghost use Rattle.repair.specs.Counted.{ArePlaced};
 ghost use Rattle.repair.specs.Messages.{IsRace};
 ghost use Rattle.repair.specs.Repairs.{ArePairs, Leaves};
 ghost use Rattle.repair.specs.Best.{IsTried, IsBestSo, better};
 
+use crate::counted::{Counted, count_counted};
 use crate::error::MendError;
 use crate::mending::{Mending, mend_race};
 use crate::message::Message;
-use crate::pairs::{RacePair, count_pairs};
+use crate::moves::moved_counted;
+use crate::pairs::RacePair;
 use chart::{Chart, Name};
-use closure::{ChartError, Closure};
+use closure::Closure;
 use std::alloc::{AllocError, Global};
 
 /// A message that is to be added, and the race pair that it mends.
@@ -22,45 +25,37 @@ pub struct Addition {
     pub message: Message,
 }
 
-/// A pair that was mended: the chart with the message, and how many race pairs it has.
+/// A pair that was mended: the chart with the message, which of its race pairs count, and how many these are.
 #[derive(Debug, Drop)]
 pub(crate) struct Tried {
     pub addition: Addition,
     pub chart: Chart,
+    pub counted: Counted,
     pub left: usize,
-}
-
-/// The closure of a chart that is known to be possible.
-pub(crate) fn possible_closure(alloc: Global, chart: &Chart) -> Result<Closure<'_>, AllocError>
-    requires { IsPossible (length chart.now) (chart_lines chart.now) }
-    ensures { IfOk result (λ closure. closure ≡ chart.now) }
-{
-    match Closure::of(alloc, chart) {
-        Ok(closure) => Ok(closure),
-        Err(ChartError::Memory) => Err(AllocError),
-        Err(_) => unreachable!(),
-    }
 }
 
 /// Mends a race pair, where a message does and its lines have room.
 fn try_pair(
     alloc: Global,
     closure: &Closure<'_>,
+    counted: &Counted,
     pair: &RacePair,
     name: &Name,
 ) -> Result<Option<Tried>, AllocError>
     requires possible { IsPossibleChart closure.now }
+    requires placed { ArePlaced counted.now closure.now }
     requires race { IsRace (chart_lines closure.now) (place_of pair.now.earlier) (place_of pair.now.receive) }
     requires receive { (q : ℕ) × IsReceiveFrom (chart_lines closure.now) q (place_of pair.now.receive) }
     ensures { IfOk result (λ found. MatchOption found
-        ((k : ℕ) → Leaves closure.now name.now pair.now k → ⊥)
-        (IsTried closure.now name.now pair.now)) }
+        ((k : ℕ) → Leaves counted.now closure.now name.now pair.now k → ⊥)
+        (IsTried counted.now closure.now name.now pair.now)) }
 {
     match mend_race(alloc, closure, &pair.earlier, &pair.receive, name) {
         Ok(Mending::Mended(message, chart, reports)) => {
-            // (what each chart keeps is said by a call)
+            // (a call states what each chart keeps)
             let _ = chart.lines();
-            let left = count_pairs(reports.as_slice());
+            let counted = moved_counted(alloc, &message, counted)?;
+            let left = count_counted(alloc, &chart, &counted, reports)?;
             let addition = Addition {
                 pair: *pair,
                 message,
@@ -68,6 +63,7 @@ fn try_pair(
             Ok(Some(Tried {
                 addition,
                 chart,
+                counted,
                 left,
             }))
         }
@@ -91,20 +87,22 @@ fn better(best: Option<Tried>, next: Option<Tried>, most: usize) -> Option<Tried
     }
 }
 
-/// Of these race pairs the first whose mending leaves the fewest, if it leaves fewer than they are.
+/// Of the race pairs that count the first whose mending leaves the fewest, if it leaves fewer than they are.
 pub(crate) fn best_among(
     alloc: Global,
     closure: &Closure<'_>,
+    counted: &Counted,
     pairs: &[RacePair],
     name: &Name,
 ) -> Result<Option<Tried>, AllocError>
     requires possible { IsPossibleChart closure.now }
-    requires pairs { ArePairs closure.now pairs.now }
-    ensures { IfOk result (λ best. IsBestSo closure.now name.now pairs.now (length pairs.now) best) }
+    requires placed { ArePlaced counted.now closure.now }
+    requires pairs { ArePairs counted.now closure.now pairs.now }
+    ensures { IfOk result (λ best. IsBestSo counted.now closure.now name.now pairs.now (length pairs.now) best) }
 {
     let mut best = None;
     for pair in pairs {
-        let next = try_pair(alloc, closure, pair, name)?;
+        let next = try_pair(alloc, closure, counted, pair, name)?;
         best = better(best, next, pairs.len());
     }
     Ok(best)

@@ -10,7 +10,7 @@ ghost use Rattle.repair.specs.Growing.{message_of, line_with, CanInsert, CanHave
 use crate::error::MendError;
 use crate::message::Message;
 use chart::{Chart, Event, Line, LineError};
-use std::alloc::Global;
+use std::alloc::{AllocFailed, Global};
 
 /// Adds an event for which the line has a place.
 fn add(line: &mut Line, event: Event) -> Result<(), MendError>
@@ -115,7 +115,7 @@ fn lines_with(alloc: Global, lines: &[Line], message: &Message) -> Result<Vec<Li
         match line_with(alloc, line, message) {
             Ok(line) => match longer.push(line) {
                 Ok(()) => {}
-                Err(_) => return Err(MendError::Memory),
+                Err(AllocFailed { .. }) => return Err(MendError::Memory),
             },
             Err(error) => return Err(error),
         }
@@ -154,7 +154,7 @@ fn copied_lines(alloc: Global, lines: &[Line]) -> Result<Vec<Line>, MendError>
         match copied_line(alloc, line) {
             Ok(copy) => match copies.push(copy) {
                 Ok(()) => {}
-                Err(_) => return Err(MendError::Memory),
+                Err(AllocFailed { .. }) => return Err(MendError::Memory),
             },
             Err(error) => return Err(error),
         }

@@ -10,8 +10,8 @@ pub fn message_law()
     ensures races { NoNewRaceLaw }
 {}
 
-/// A race goes where its earlier event can be told of, and else no message of its line to that of the receive's sender
-/// makes it go.
+/// A race goes where a message can inform of its earlier event, and else no message of its line to that of the
+/// receive's sender makes it go.
 pub fn informing_law()
     ensures informing { InformingLaw }
     ensures none { NoMessageLaw }

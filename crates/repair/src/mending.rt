@@ -21,7 +21,7 @@ use chart::line_events::events_of;
 use chart::{Chart, EventNo, MAX_EVENTS, Name, Report};
 use closure::chain::{Link, shortest_chain};
 use closure::{ChartError, Closure};
-use std::alloc::Global;
+use std::alloc::{AllocError, Global};
 
 /// What becomes of a pair of events.
 #[derive(Debug, Drop)]
@@ -61,7 +61,7 @@ fn reports_of(alloc: Global, chart: &Chart) -> Result<Vec<Report>, MendError>
     match Closure::of(alloc, chart) {
         Ok(closure) => match closure.races() {
             Ok(reports) => Ok(reports),
-            Err(_) => Err(MendError::Memory),
+            Err(AllocError) => Err(MendError::Memory),
         },
         Err(ChartError::Memory) => Err(MendError::Memory),
         Err(ChartError::ReceiveWithoutSend(_)) => unreachable!(),
@@ -70,7 +70,7 @@ fn reports_of(alloc: Global, chart: &Chart) -> Result<Vec<Report>, MendError>
     }
 }
 
-/// The chart with the message that tells of the earlier event, and its reports.
+/// The chart with the message that informs of the earlier event, and its reports.
 fn informed(
     alloc: Global,
     closure: &Closure<'_>,
@@ -130,7 +130,7 @@ pub fn mend_race(
     let sent = end_behind(events, earlier.index as usize);
     let crossed = match first_after(closure, &send, earlier.instance, sent) {
         Ok(crossed) => crossed,
-        Err(_) => return Err(MendError::Memory),
+        Err(AllocError) => return Err(MendError::Memory),
     };
     match crossed {
         None => {}
@@ -185,7 +185,7 @@ pub fn mend(
     match shortest_chain(alloc, closure, earlier, receive) {
         Ok(None) => {}
         Ok(Some(links)) => return Ok(Mending::Enforced(links)),
-        Err(_) => return Err(MendError::Memory),
+        Err(AllocError) => return Err(MendError::Memory),
     }
     if are_in_one_region(closure, earlier, receive) {
         return Ok(Mending::Hidden);

@@ -1,5 +1,7 @@
 //! The race pairs of a chart.
-ghost use Rattle.std.specs.Prelude.{◌≡◌, ◌++◌, length, IfOk, OnOk};
+ghost use Rattle.std.specs.Prelude.{◌≡◌, ◌*◌, ◌≤◌, ◌++◌, length, IfOk, OnOk};
+ghost use Rattle.chart.specs.declared.instance.TheConstants.{MAX_INSTANCES};
+ghost use Rattle.chart.specs.declared.line.TheConstants.{MAX_EVENTS};
 ghost use Rattle.repair.specs.Repairs.{pairs_of_report, pairs_of, AreFew};
 
 use chart::{EventNo, Report};
@@ -40,7 +42,8 @@ pub(crate) fn race_pairs(alloc: Global, reports: &[Report]) -> Result<Vec<RacePa
 /// How many race pairs these reports have, which are no more than those of a chart. It takes no memory.
 pub fn count_pairs(reports: &[Report]) -> usize
     requires { AreFew reports.now }
-    ensures { result ≡ length (pairs_of reports.now) }
+    ensures value { result ≡ length (pairs_of reports.now) }
+    ensures few { result ≤ MAX_INSTANCES * MAX_EVENTS * MAX_EVENTS }
 {
     let mut count = 0;
     for report in reports {

@@ -33,14 +33,16 @@ fn word_of(answer: &BareAnswer) -> Option<Word>
     }
 }
 
-/// Whether the answer is F6.
-fn is_memory(answer: &BareAnswer) -> bool
-    ensures { result ≡ is_memory answer.now }
+/// Hands on F6, if that is the answer.
+fn refused_memory(answer: &BareAnswer) -> Result<(), AllocError>
+    ensures { OnOk result (is_memory answer.now ≡ false) }
 {
-    matches!(
-        answer,
-        BareAnswer::Unsent(SendError::Memory) | BareAnswer::Unreceived(TakeError::Memory)
-    )
+    match answer {
+        BareAnswer::Unsent(SendError::Memory) | BareAnswer::Unreceived(TakeError::Memory) => {
+            Err(AllocError)
+        }
+        _ => Ok(()),
+    }
 }
 
 /// The line of the command at a place, if there is one.
@@ -74,9 +76,7 @@ fn add_turn(
     let Some(answer) = &turn.answer else {
         return Ok(place);
     };
-    if is_memory(answer) {
-        return Err(AllocError);
-    }
+    refused_memory(answer)?;
     if let Some(note) = note_of(line_at(lines, place), answer) {
         notes.push(note)?;
     }

@@ -56,6 +56,6 @@ pub fn run_scripts<R: Threads + Sync>(
     }
     match run_own_scripts(rt, alloc, schedule, turns) {
         Ok(run) => Ok(run),
-        Err(_) => Err(RunError::Memory),
+        Err(AllocError) => Err(RunError::Memory),
     }
 }

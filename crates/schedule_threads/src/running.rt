@@ -65,11 +65,13 @@ pub fn run_schedule<R: Threads + Sync>(
     if behaviours.len() != schedule.names().len() || turns == 0 || MAX_TURNS < turns {
         return Err(RunError::InvalidInput((), behaviours));
     }
-    let Ok(mut board) = board_for(alloc, schedule) else {
-        return Err(RunError::Memory);
+    let mut board = match board_for(alloc, schedule) {
+        Ok(board) => board,
+        Err(AllocError) => return Err(RunError::Memory),
     };
-    let Ok(posts) = posts_of(&mut board) else {
-        return Err(RunError::Memory);
+    let posts = match posts_of(&mut board) {
+        Ok(posts) => posts,
+        Err(AllocError) => return Err(RunError::Memory),
     };
     match run(rt, posts, behaviours, turns, &Open) {
         Ok(run) => Ok(run),

@@ -7,7 +7,7 @@ use crate::calls::{are, every_growth_was_refused, holds, instance, is_got, is_le
 use crate::gathered::{gathers, sends};
 use crate::tables::{Missed, why_nothing};
 use board::{BoardError, Gathered, Parked, Post, SharedTable, open_parked, park_all, wake_all};
-use std::alloc::Global;
+use std::alloc::{AllocError, Global};
 use std::process::Abort;
 use std::test::Fail;
 
@@ -41,7 +41,7 @@ fn woken<'a>(
 {
     match wake_all(alloc, words, parked) {
         Ok(posts) => posts,
-        Err(parked) => match wake_all(alloc, words, parked) {
+        Err((parked, AllocError)) => match wake_all(alloc, words, parked) {
             Ok(posts) => posts,
             Err(_) => panic!(rt; "posts that are awake"),
         },

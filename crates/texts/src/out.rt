@@ -4,7 +4,7 @@ ghost use Rattle.std.specs.Io.KnownBytes.{Appends};
 ghost use Rattle.texts.specs.Outs.{Sink, Stored, Streamed, one_more};
 
 use crate::retrying::write_some;
-use std::alloc::Global;
+use std::alloc::{AllocError, Global};
 use std::io::Write;
 use std::marker::Model;
 use thiserror::Error;
@@ -82,7 +82,7 @@ impl Out for MemoryOut {
     fn put(&mut self, bytes: &[u8]) -> Result<usize, OutFault> {
         match self.bytes.extend_from_slice(bytes) {
             Ok(()) => Ok(bytes.len()),
-            Err(_) => {
+            Err(AllocError) => {
                 self.failures = self.failures.saturating_add(1);
                 Err(OutFault::Memory)
             }

@@ -1,4 +1,4 @@
-%% Three servers: two clients order, a shop asks the stock, and tells the bank. Whose order is served first is up to the
+%% Three servers: two clients order, a shop asks the stock and the bank. Whose order is served first is up to the
 %% order of arrival.
 -module(shop).
 -behaviour(gen_server).

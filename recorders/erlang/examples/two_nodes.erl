@@ -39,16 +39,16 @@ prepare(pg, Other) ->
     {ok, _} = rpc:call(Other, pg, start, [friends]),
     ok.
 
-%% One process on each node does its part, and tells this one.
+%% One process on each node does its part, and informs this one.
 -spec run(atom(), node()) -> ok.
 run(Program, Other) ->
     Part = maps:get(Program, #{mnesia => add, global => claim, pg => join}),
     register(first, self()),
     Parts = [spawn(Node, ?MODULE, Part, [self()]) || Node <- [node(), Other]],
-    Told = [receive {done, What} -> What end || _ <- [1, 2]],
+    Reported = [receive {done, What} -> What end || _ <- [1, 2]],
     Program =/= global orelse [Claimer ! stop || Claimer <- Parts],
     unregister(first),
-    check(Program, lists:sort(Told)).
+    check(Program, lists:sort(Reported)).
 
 -spec check(atom(), [term()]) -> ok.
 check(mnesia, _) ->
@@ -82,7 +82,7 @@ join(First) ->
         hello -> First ! {done, hello}
     end.
 
-%% `pg` tells other nodes later.
+%% `pg` informs other nodes later.
 -spec both_are_there() -> ok.
 both_are_there() ->
     case pg:get_members(friends, all) of

@@ -1,5 +1,5 @@
 /*
- * Rank 1 sends five messages, and kills itself once rank 0 has told it that all of them are received. Whoever started the
+ * Rank 1 sends five messages, and kills itself once rank 0 has informed it that all of them are received. Whoever started the
  * ranks may then kill rank 0 too.
  */
 #include <mpi.h>

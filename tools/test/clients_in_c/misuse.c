@@ -191,7 +191,7 @@ static void several(void) {
     is("to none", msc_send_all(&posts[0], 3, "a12bbccc3", 9, three, 3, &event), MSC_NO_SUCH_INSTANCE);
     is("to itself", msc_send_all(&posts[0], 1, "a12bbccc3", 9, three, 3, &event), MSC_TO_ITSELF);
     is("nothing was sent", msc_receive(&posts[1], 1, &came), MSC_NOTHING);
-    is("no event is told", (int)event, 9);
+    is("no event is reported", (int)event, 9);
     is("no message", msc_send_all(&posts[0], 2, NULL, 0, NULL, 0, &event), MSC_DONE);
     is("no event", (int)event, 0);
     is("a send", msc_send(&posts[0], 2, "before", NULL, 0, NULL), MSC_DONE);
@@ -342,7 +342,7 @@ static void boards_in_a_row(void) {
     swapped = next[2], next[2] = others[2], others[2] = swapped;
     is("a send", msc_send(&others[0], 2, "m", NULL, 0, NULL), MSC_DONE);
     is("carrying to a board in use", msc_carry_over(&board, others, 3, carried), MSC_MISUSE);
-    is("no count is told", (int)carried[0], 9);
+    is("no count is reported", (int)carried[0], 9);
     is("what was left stays", msc_board_left(&board, 1, 2, 2, &left, name, 32, body, 8), MSC_DONE);
     is_text("the second of it", name, left.name_length, "second");
     swapped = next[0], next[0] = next[1], next[1] = swapped;
@@ -375,7 +375,7 @@ static void performed(void) {
     char out[512] = {0}, err[64] = {0};
     size_t out_length = 9, err_length = 9;
     is("a task that is none", msc_perform(3, 0, chart, strlen(chart), out, 512, &out_length, err, 64, &err_length), MSC_MISUSE);
-    is("nothing is told of it", (int)(out_length + err_length), 18);
+    is("nothing is reported of it", (int)(out_length + err_length), 18);
     is("a chart with a race", msc_perform(MSC_CHECK, 0, chart, strlen(chart), out, 512, &out_length, err, 64, &err_length), 1);
     is_text("its race", out, out_length, "race server 1 2\n");
     is("nothing on standard error", (int)err_length, 0);

@@ -122,7 +122,7 @@ int main(void) {
         went_on = 0;
         round_trip();
         if (met != !went_on) {
-            printf("the %ld. request was refused, and %d calls said so\n", n, met);
+            printf("the %ld. request was refused, and %d calls reported it\n", n, met);
             failures++;
         }
         if (live != 0) {

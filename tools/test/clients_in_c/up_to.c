@@ -60,7 +60,7 @@ static void in_parts(void) {
     is("none are wanted", msc_receive_up_to(&posts[2], 1, came, 0, &count), MSC_MISUSE);
     is("none waits", msc_receive_up_to(&posts[2], 1, came, 4, &count), MSC_NOTHING);
     is("none came", (int)count, 0);
-    is("nothing is told", (int)came[0].from, 9);
+    is("nothing is reported", (int)came[0].from, 9);
     is("no message yet", msc_name_of(&posts[2], 0, text, 64, &length), MSC_MISUSE);
     is("another's send", msc_send(&posts[1], 3, "other", NULL, 0, NULL), MSC_DONE);
     is("a receive", msc_receive(&posts[2], 2, &one), MSC_DONE);
@@ -77,7 +77,7 @@ static void in_parts(void) {
     is("its body's length", (int)came[0].body_length, 2);
     is("its races", (int)came[0].races, 1);
     is("the second one's races", (int)came[1].races, 1);
-    is("no third is told", (int)came[2].from, 9);
+    is("no third is reported", (int)came[2].from, 9);
     is("the first name", msc_name_of(&posts[2], 0, text, 64, &length), MSC_DONE);
     is_text("the first name", text, length, "first");
     is("the second name", msc_name_of(&posts[2], 1, text, 64, &length), MSC_DONE);
@@ -100,7 +100,7 @@ static void in_parts(void) {
     is("the rest", msc_receive_up_to(&posts[2], 1, came, 4, &count), MSC_NOTHING);
     is("one came", (int)count, 1);
     is("its event", (int)came[0].event, 4);
-    is("what was told before stays behind it", (int)came[1].event, 3);
+    is("what was reported before stays behind it", (int)came[1].event, 3);
     text[4] = '!';
     is("its name, cut", msc_name_of(&posts[2], 0, text, 4, &length), MSC_DONE);
     is("the whole length", (int)length, 5);

@@ -47,7 +47,7 @@ static void is(const char *what, long answer, long wanted) {
 static char *out, *err;
 static size_t out_length, err_length;
 
-/* Whether what was told is a beginning of one of the refusals for want of memory. */
+/* Whether what was reported is a beginning of one of the refusals for want of memory. */
 static int is_for_want_of_memory(void) {
     static const char *const all[] = {"refused: F6 Memory\n", "refused: F24 Write\n"};
     size_t i;
@@ -67,7 +67,7 @@ static int refuse_each(int count, char **words, size_t texts, const char *const 
         asked = 0;
         refused = n;
         answer = view(count, words, texts, text, length);
-        /* (what tells on standard error may lack a part, where the memory for it was refused) */
+        /* (what reports on standard error may lack a part, where the memory for it was refused) */
         if (answer != status && (answer != 2 || !is_for_want_of_memory())) {
             printf("the %ld. request was refused: %d %.*s\n", n, answer, (int)err_length, err);
             failures++;
@@ -98,7 +98,7 @@ static int misuse(void) {
     is("a text too few", msc_view(2, races, 0, NULL, NULL, out, ROOM, &out_length, err, ROOM, &err_length), MSC_MISUSE);
     is("a text too many", msc_view(2, races, 2, text, length, out, ROOM, &out_length, err, ROOM, &err_length), MSC_MISUSE);
     is("one text to compare", msc_view(3, compare, 1, text, length, out, ROOM, &out_length, err, ROOM, &err_length), MSC_MISUSE);
-    is("nothing is told of these", (long)(out_length + err_length), 18);
+    is("nothing is reported of these", (long)(out_length + err_length), 18);
     is("two texts to compare", msc_view(3, compare, 2, text, length, out, ROOM, &out_length, err, ROOM, &err_length), 0);
     is("no races", msc_view(2, races, 1, text, length, out, ROOM, &out_length, err, ROOM, &err_length), 0);
     is("another command", msc_view(1, wrong, 0, NULL, NULL, out, ROOM, &out_length, err, ROOM, &err_length), 2);

@@ -75,7 +75,7 @@ static void *play(void *arg) {
 
 enum { TEXT = 1 << 20, OWN_RACES = 8 << 20, RACES = MOST * OWN_RACES };
 
-/* The chart of the run, each post's line as it tells it. */
+/* The chart of the run, each post's line as it reports it. */
 static size_t own_lines(char *text, msc_post *posts) {
     msc_event event;
     char name[33];
@@ -115,7 +115,7 @@ static void same(const char *what, const char *one, size_t one_length, const cha
     if (one_length != other_length || memcmp(one, other, one_length) != 0) fails(what, (int)one_length);
 }
 
-/* Gathers the board, and compares what it came to with what the posts and their threads told. */
+/* Gathers the board, and compares what it came to with what the posts and their threads reported. */
 static void audit(msc_post *posts, const char *races, size_t races_length, unsigned seed, const char *folder) {
     static const char *const names[MOST] = {"p1", "p2", "p3", "p4", "p5", "p6", "p7", "p8"};
     static char lines[TEXT], text[TEXT], found[RACES], err[256];

@@ -63,7 +63,7 @@ int main() {
         asked = met = 0;
         round_trip();
         if (met == 1 && live == 0) continue;
-        std::cout << "request " << refused << ": " << met << " calls said so, " << live << " blocks are left\n";
+        std::cout << "request " << refused << ": " << met << " calls reported it, " << live << " blocks are left\n";
         failures++;
     }
     std::cout << all << " requests\n";

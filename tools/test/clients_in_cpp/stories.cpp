@@ -1,4 +1,4 @@
-/* The stories that the bindings of all languages tell, in C++: each answer by its value, and each mistake by its number. */
+/* The stories of the bindings of all languages, in C++: each answer by its value, and each mistake by its number. */
 #include <msc.hpp>
 
 #include <atomic>
@@ -28,7 +28,7 @@ template <typename Call> int refused(Call call) {
 
 using races = std::vector<std::uint32_t>;
 
-void a_race_is_told() {
+void a_race_is_reported() {
     msc::board board(3, 4);
     msc::message message;
     is("a send", board[1].send(3, "order", "tea").value_or(0), 1u);
@@ -232,7 +232,7 @@ void two_threads() {
 } // namespace
 
 int main() {
-    a_race_is_told();
+    a_race_is_reported();
     messages_cross();
     several_at_once();
     a_full_lane();

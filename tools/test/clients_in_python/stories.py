@@ -1,4 +1,4 @@
-"""The stories that the bindings of all languages tell, in Python: each answer by its value, and each mistake by its
+"""The stories of the bindings of all languages, in Python: each answer by its value, and each mistake by its
 number.
 
     stories.py HEADER     the words of refusals are those of this msc.h
@@ -42,11 +42,11 @@ def whole_board() -> msc.Board:
 
 class Stories(unittest.TestCase):
     def refused(self, answer, call, *words):
-        with self.assertRaises(msc.Refused) as told:
+        with self.assertRaises(msc.Refused) as reported:
             call(*words)
-        self.assertEqual(told.exception.answer, answer)
+        self.assertEqual(reported.exception.answer, answer)
 
-    def test_a_race_is_told(self):
+    def test_a_race_is_reported(self):
         board = msc.Board(3, 4)
         one, two, server = board.posts
         self.assertEqual(one.send(3, "order", b"tea"), 1)
@@ -161,9 +161,9 @@ class Stories(unittest.TestCase):
         answer = msc.check(CHART)
         self.assertEqual((answer.has_races, answer.text), (True, "race server 1 2\n"))
         for call in (msc.check, msc.replay, lambda text: msc.random(text, 7)):
-            with self.assertRaises(msc.BadText) as told:
+            with self.assertRaises(msc.BadText) as reported:
                 call(b"no text of these")
-            self.assertRegex(str(told.exception), r"^refused: F\d+ ")
+            self.assertRegex(str(reported.exception), r"^refused: F\d+ ")
         self.assertRaises(ValueError, msc.random, b"", -1)
 
     def test_views(self):

@@ -120,18 +120,24 @@ pub fn carry_over(
         });
     }
     let instances = posts[0].board_size();
-    let Ok(sends) = count_all_sends(alloc, left.as_slice(), instances) else {
-        return Err(CarryError {
-            left,
-            cause: CarryCause::Memory,
-        });
+    let sends = match count_all_sends(alloc, left.as_slice(), instances) {
+        Ok(sends) => sends,
+        Err(AllocError) => {
+            return Err(CarryError {
+                left,
+                cause: CarryCause::Memory,
+            });
+        }
     };
-    let Ok(()) = reserve_sends(posts, sends.as_slice()) else {
-        return Err(CarryError {
-            left,
-            cause: CarryCause::Memory,
-        });
-    };
+    match reserve_sends(posts, sends.as_slice()) {
+        Ok(()) => {}
+        Err(Memory) => {
+            return Err(CarryError {
+                left,
+                cause: CarryCause::Memory,
+            });
+        }
+    }
     meet(posts);
     send_left(posts, left);
     close_lanes(posts, closed);

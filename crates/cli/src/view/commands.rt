@@ -40,11 +40,14 @@ const DRAWING: &[Word] = &[
     Word::Flag("numbers"),
 ];
 
-/// The message that is added to a chart, and whether one is added for each race.
+/// The message that is added to a chart, and whether messages are added for all races, or for some of them.
 const MENDING: &[Word] = &[
     Word::Option("name", 1),
     Word::Flag("verbose"),
     Word::Flag("all"),
+    Word::Flag("receives"),
+    Word::Flag("run-to-completion"),
+    Word::Flag("luck"),
     Word::Option("limit", 1),
 ];
 

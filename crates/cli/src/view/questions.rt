@@ -3,7 +3,8 @@
 use crate::CommandLineError;
 use crate::view::reading::{log_form, log_of, one_file, other_reading, words_of};
 use crate::view::request::{
-    Import, LogQuestion, Mend, Pair, Question, RaceQuestion, Request, ToolQuestion,
+    Import, ImportLog, LogQuestion, Mend, MendLuck, Pair, Question, RaceQuestion, Request,
+    ToolQuestion,
 };
 use clap::ArgMatches;
 use std::alloc::Global;
@@ -82,12 +83,22 @@ fn all_asked<'a>(words: &ArgMatches<'a>, file: Option<&'a str>) -> Option<RaceQu
         return None;
     }
     Some(RaceQuestion::Mend(Mend::All {
+        receives: words.get_flag("receives"),
+        run_to_completion: words.get_flag("run-to-completion"),
         limit: words.get_str("limit"),
         file,
     }))
 }
 
-/// The question of `why`, `witness` or `mend`. With `--all` all words are files. A limit is only allowed with `--all`.
+/// Whether an option is given that is only allowed with `--all`.
+fn limits_all(words: &ArgMatches<'_>) -> bool {
+    words.get_str("limit").is_some()
+        || words.get_flag("receives")
+        || words.get_flag("run-to-completion")
+        || words.get_flag("luck")
+}
+
+/// The question of `why`, `witness` or `mend`. With `--all` all words are files.
 fn asked_of<'a>(
     alloc: Global,
     command: &str,
@@ -99,7 +110,7 @@ fn asked_of<'a>(
         let asked = all_asked(words, file).ok_or(CommandLineError::Usage)?;
         return Ok(Asked { asked, files });
     }
-    if words.get_str("limit").is_some() {
+    if limits_all(words) {
         return Err(CommandLineError::Usage);
     }
     let pair = pair_words(&mut files).ok_or(CommandLineError::Usage)?;
@@ -147,7 +158,24 @@ fn file_question<'a>(
     }
 }
 
-/// The request of `why`, `witness` or `mend`.
+/// The question about the races of a log, or with `--luck` about those of them that were luck.
+fn log_question<'a>(
+    words: &ArgMatches<'a>,
+    asked: RaceQuestion<'a>,
+    log: ImportLog<'a>,
+) -> Request<'a> {
+    if words.get_flag("luck") {
+        return Request::MendLuck(MendLuck {
+            receives: words.get_flag("receives"),
+            run_to_completion: words.get_flag("run-to-completion"),
+            limit: words.get_str("limit"),
+            log,
+        });
+    }
+    Request::LogQuestion(LogQuestion { asked, log })
+}
+
+/// The request of `why`, `witness` or `mend`. Only a log shows luck.
 pub(crate) fn race_question<'a>(
     alloc: Global,
     command: &str,
@@ -157,11 +185,10 @@ pub(crate) fn race_question<'a>(
     match log_form(words) {
         Some(form) => {
             let Asked { asked, files } = asked;
-            Ok(Request::LogQuestion(LogQuestion {
-                asked,
-                log: log_of(alloc, form, words, files)?,
-            }))
+            let log = log_of(alloc, form, words, files)?;
+            Ok(log_question(words, asked, log))
         }
+        None if words.get_flag("luck") => Err(CommandLineError::Usage),
         None => file_question(alloc, &asked, words),
     }
 }

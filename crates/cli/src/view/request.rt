@@ -179,11 +179,27 @@ pub enum Mend<'a> {
     },
     /// All races, with `--all`.
     All {
+        /// Whether `--receives` is given.
+        receives: bool,
+        /// Whether `--run-to-completion` is given.
+        run_to_completion: bool,
         /// The number after `--limit`.
         limit: Option<&'a str>,
         /// If it is missing or `-`, standard input is read.
         file: Option<&'a str>,
     },
+}
+
+/// The races of a log to mend that were luck. The number is still a word.
+#[derive(Debug, Drop)]
+pub struct MendLuck<'a> {
+    /// Whether `--receives` is given.
+    pub receives: bool,
+    /// Whether `--run-to-completion` is given.
+    pub run_to_completion: bool,
+    /// The number after `--limit`.
+    pub limit: Option<&'a str>,
+    pub log: ImportLog<'a>,
 }
 
 /// A question about the races of a chart. If the chart is imported first, the import has the files, and the file here
@@ -240,7 +256,8 @@ pub enum Request<'a> {
     Races(Races<'a>),
     /// `races --from log|shiviz` with the options of `races` and of `import`, and `[FILE..]`.
     LogRaces(LogRaces<'a>),
-    /// `mend [--name NAME] [--verbose] FILE INSTANCE EARLIER RECEIVE`, or `mend --all [--limit N] [FILE]`.
+    /// `mend [--name NAME] [--verbose] FILE INSTANCE EARLIER RECEIVE`, or `mend --all [--receives]
+    /// [--run-to-completion] [--limit N] [FILE]`.
     Mend(Mend<'a>),
     /// `why`, `witness` or `mend` with `--from TOOL` and the options of `import`, and `[FILE]` before the words of a
     /// `race` line.
@@ -248,6 +265,9 @@ pub enum Request<'a> {
     /// `why`, `witness` or `mend` with `--from log|shiviz` and the options of `import`, and `[FILE..]` before the words
     /// of a `race` line.
     LogQuestion(LogQuestion<'a>),
+    /// `mend --all --luck --from log|shiviz` with the other options of `mend --all` and those of `import`, and
+    /// `[FILE..]`.
+    MendLuck(MendLuck<'a>),
     /// `tidy [FILE]`: if the file is missing or `-`, standard input is read.
     Tidy(Option<&'a str>),
     /// `explain [FILE]`: if the file is missing or `-`, standard input is read.

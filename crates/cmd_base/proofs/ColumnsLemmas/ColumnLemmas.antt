@@ -11,8 +11,8 @@ use Rattle.texts.specs.Lines.{name_or_cause}
 use Rattle.texts.specs.declared.fault.Cause.{Cause}
 use Rattle.texts.proofs.Lookups.{instance_is}
 use Rattle.cmd_base.specs.declared.error.ProgramError.TheVariants.{Usage, File, Memory, Text, ReceiveWithoutSend, NameMismatch, Cyclic, Write}
-use Rattle.cmd_base.specs.declared.columns.error.FormatError.{FormatError}
-use Rattle.cmd_base.specs.declared.columns.error.FormatError.TheVariants.{Program, NoSuchName}
+use Rattle.cmd_base.specs.declared.columns.error.ColumnError.{ColumnError}
+use Rattle.cmd_base.specs.declared.columns.error.ColumnError.TheVariants.{Program, NoSuchName}
 use Rattle.cmd_base.specs.Columns.Columns.{AreNamed, IsNext, IsNone, RefusesNext, RefusesNamed}
 use Rattle.cmd_base.specs.Named.Asked.{named_so, instance_named}
 
@@ -36,7 +36,7 @@ one_more names all word rest old new so_far next = record {
   are = so_far.are ∙ sym (append_assoc so_far.passed (word ∷ []) rest);
   so_far = record {
     each = map-append (instance_named names) so_far.passed (word ∷ []) ∙ ap (λ l. l ++ instance_named names word ∷ []) so_far.so_far.each
-        ∙ ap (λ o. map Some old ++ o ∷ []) next.said ∙ sym (map-append (λ (p : ℕ). Some p) old (next.instance ∷ [])) ∙ ap (map Some) (sym next.is);
+        ∙ ap (λ o. map Some old ++ o ∷ []) next.named_is ∙ sym (map-append (λ (p : ℕ). Some p) old (next.instance ∷ [])) ∙ ap (map Some) (sym next.is);
     once = subst (IsDistinct nat_eq) (sym next.is) (IsDistinct-push nat_eq_equiv old next.instance so_far.so_far.once next.once);
   };
 }
@@ -45,11 +45,11 @@ pub all_passed : (names all : List (List ℕ)) (columns : List ℕ) → AreSoFar
 all_passed names all columns so_far = subst (λ ws. AreNamed names ws columns) (sym (so_far.are ∙ append-nil so_far.passed)) so_far.so_far
 
 -- the columns after those so far: the next word's instance, and others
-record Onward (said : Option ℕ) (old columns : List ℕ) : Type 0 where
+record Onward (named : Option ℕ) (old columns : List ℕ) : Type 0 where
   pub instance : ℕ
   pub others : List ℕ
   pub are : columns ≡ old ++ instance ∷ others
-  pub is : said ≡ Some instance
+  pub is : named ≡ Some instance
 
 consed : (x y : ℕ) (xs ys : List ℕ) → x ≡ y → xs ≡ ys → x ∷ xs ≡ y ∷ ys
 consed x y xs ys head tail = cc
@@ -86,7 +86,7 @@ twice p (o ∷ old) others there once =
     (λ same. false≢true (sym (in_middle (λ y. nat_eq o y ≡ false) old p others (IsDistinct-head nat_eq o (old ++ p ∷ others) once)) ∙ eq-eqb o p (sym (equal p o same))))
     (λ later. twice p old others later (IsDistinct-tail nat_eq o (old ++ p ∷ others) once))
 
-refused : (said : Option ℕ) (old columns : List ℕ) → Onward said old columns → IsNone said old → IsDistinct nat_eq columns → ⊥
+refused : (named : Option ℕ) (old columns : List ℕ) → Onward named old columns → IsNone named old → IsDistinct nat_eq columns → ⊥
 refused None old columns on none once = let is = on.is in cc
 refused (Some p) old columns on none once =
     let is = on.is in
@@ -100,7 +100,7 @@ none_else names all word rest old columns so_far none are =
     none are.once
 
 -- so the refusal of the next word refuses all words
-pub refuses : (names all : List (List ℕ)) (word : List ℕ) (rest : List (List ℕ)) (old : List ℕ) → AreSoFar names all (word ∷ rest) old → (error : FormatError) → RefusesNext names word old error → RefusesNamed names all error
+pub refuses : (names all : List (List ℕ)) (word : List ℕ) (rest : List (List ℕ)) (old : List ℕ) → AreSoFar names all (word ∷ rest) old → (error : ColumnError) → RefusesNext names word old error → RefusesNamed names all error
 refuses names all word rest old so_far NoSuchName none = λ columns are. none_else names all word rest old columns so_far none are
 refuses names all word rest old so_far (Program Memory) none = tt
 refuses names all word rest old so_far (Program Usage) none = absurd none
@@ -131,19 +131,19 @@ within : (names words : List (List ℕ)) (columns : List ℕ) → map (instance_
 within names words [] each q there = absurd (false≢true there)
 within names [] (p ∷ columns) each q there = cc
 within names (word ∷ words) (p ∷ columns) each q there =
-    let said : instance_named names word ≡ Some p = cc in
+    let named_is : instance_named names word ≡ Some p = cc in
     let others : map (instance_named names) words ≡ map Some columns = cc in
     either (q ≤ length names) (nat_eq q p) (list_any (nat_eq q) columns) there
-    (λ same. let is = equal q p same in let last = (exits_so names (name_or_cause word) p said).1 in omega arith)
+    (λ same. let is = equal q p same in let last = (exits_so names (name_or_cause word) p named_is).1 in omega arith)
     (λ later. within names words columns others q later)
 
 none_is_zero : (names words : List (List ℕ)) (columns : List ℕ) → map (instance_named names) words ≡ map Some columns → AllByRecursion (λ y. nat_eq 0 y ≡ false) columns
 none_is_zero names words [] each = tt
 none_is_zero names [] (p ∷ columns) each = cc
 none_is_zero names (word ∷ words) (p ∷ columns) each =
-    let said : instance_named names word ≡ Some p = cc in
+    let named_is : instance_named names word ≡ Some p = cc in
     let others : map (instance_named names) words ≡ map Some columns = cc in
-    let first = (exits_so names (name_or_cause word) p said).0 in
+    let first = (exits_so names (name_or_cause word) p named_is).0 in
     (ne_eqb 0 p (λ e. omega arith), none_is_zero names words columns others)
 
 -- there are at most as many columns as names

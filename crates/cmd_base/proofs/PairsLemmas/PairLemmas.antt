@@ -7,8 +7,8 @@ use Rattle.chart.specs.declared.event.Event.TheVariants.{Send, Receive}
 use Rattle.chart.specs.Events.{ith}
 use Rattle.chart.specs.Charts.{Chart, Place, at, chart_event, LineView, IsReceiveFrom, chart_lines}
 use Rattle.cmd_base.specs.Named.NamedRefusals.{missing_on}
-use Rattle.cmd_base.specs.declared.pairs.error.ViewError.{ViewError}
-use Rattle.cmd_base.specs.declared.pairs.error.ViewError.TheVariants.{NoSuchEvent, NotEarlier, NotAReceive}
+use Rattle.cmd_base.specs.declared.pairs.error.PairError.{PairError}
+use Rattle.cmd_base.specs.declared.pairs.error.PairError.TheVariants.{NoSuchEvent, NotEarlier, NotAReceive}
 use Rattle.cmd_base.specs.declared.pairs.pair.Asked.{Asked}
 use Rattle.cmd_base.specs.declared.pairs.pair.Pair.{Pair}
 use Rattle.cmd_base.specs.Pairs.Pairs.{pair_on, pair_at, pair_of, IsPair}
@@ -16,7 +16,7 @@ use Rattle.cmd_base.specs.Named.Asked.{instance_named, has_event}
 use Rattle.schedule_replay.specs.ReorderedRuns.Reorderings.{receives}
 
 -- if the result is Ok, the test passed
-passed : (b : Bool) (x : Result Pair ViewError) (error : ViewError) (pair : Pair) → cond b x (Err error) ≡ Ok pair → (b ≡ true) × (x ≡ Ok pair)
+passed : (b : Bool) (x : Result Pair PairError) (error : PairError) (pair : Pair) → cond b x (Err error) ≡ Ok pair → (b ≡ true) × (x ≡ Ok pair)
 passed true x error pair is = (refl, is)
 passed false x error pair is = cc
 

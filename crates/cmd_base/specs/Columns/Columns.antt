@@ -5,8 +5,8 @@ use Rattle.std.specs.List.{list_any, IsDistinct, range_with_len}
 use Rattle.texts.specs.Lines.{parts}
 use Rattle.cmd_base.specs.declared.error.ProgramError.TheVariants as errors
 use Rattle.cmd_base.specs.Named.Asked.{instance_named}
-use Rattle.cmd_base.specs.declared.columns.error.FormatError.{FormatError}
-use Rattle.cmd_base.specs.declared.columns.error.FormatError.TheVariants.{Program, NoSuchName}
+use Rattle.cmd_base.specs.declared.columns.error.ColumnError.{ColumnError}
+use Rattle.cmd_base.specs.declared.columns.error.ColumnError.TheVariants.{Program, NoSuchName}
 
 -- the words name these instances, in this order, and none twice
 pub record AreNamed (names words : List (List ℕ)) (columns : List ℕ) : Type 0 where
@@ -25,7 +25,7 @@ AreColumns names (Some bytes) columns = AreNamed names (parts 44 bytes) columns
 -- the word names an instance that has no column yet, and its column is appended to the others
 pub record IsNext (names : List (List ℕ)) (word : List ℕ) (old new : List ℕ) : Type 0 where
   pub instance : ℕ
-  pub said : instance_named names word ≡ Some instance
+  pub named_is : instance_named names word ≡ Some instance
   pub once : list_any (nat_eq instance) old ≡ false
   pub is : new ≡ old ++ instance ∷ []
 
@@ -35,19 +35,19 @@ IsNone None old = Unit {0}
 IsNone (Some instance) old = list_any (nat_eq instance) old ≡ true
 
 -- the refusals of the next column
-abbrev pub RefusesNext : List (List ℕ) → List ℕ → List ℕ → FormatError → Type 0
+abbrev pub RefusesNext : List (List ℕ) → List ℕ → List ℕ → ColumnError → Type 0
 RefusesNext names word old NoSuchName = IsNone (instance_named names word) old
 RefusesNext names word old (Program errors.Memory) = Unit {0}
 RefusesNext names word old (Program _) = ⊥
 
 -- the refusals of the words: there are no such columns, or memory ran out
-abbrev pub RefusesNamed : List (List ℕ) → List (List ℕ) → FormatError → Type 0
+abbrev pub RefusesNamed : List (List ℕ) → List (List ℕ) → ColumnError → Type 0
 RefusesNamed names words NoSuchName = (columns : List ℕ) → AreNamed names words columns → ⊥
 RefusesNamed names words (Program errors.Memory) = Unit {0}
 RefusesNamed names words (Program _) = ⊥
 
 -- the refusals of the bytes: there are no such columns, or memory ran out
-abbrev pub RefusesColumns : List (List ℕ) → Option (List ℕ) → FormatError → Type 0
+abbrev pub RefusesColumns : List (List ℕ) → Option (List ℕ) → ColumnError → Type 0
 RefusesColumns names only NoSuchName = (columns : List ℕ) → AreColumns names only columns → ⊥
 RefusesColumns names only (Program errors.Memory) = Unit {0}
 RefusesColumns names only (Program _) = ⊥

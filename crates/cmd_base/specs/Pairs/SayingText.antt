@@ -34,8 +34,8 @@ unfoldable pub place_text : List (List ℕ) → ℕ → ℕ → List ℕ
 place_text names p n = name_at names p ++ behind_space n
 
 -- before NAME COUNT, or and NAME INDEX
-unfoldable pub told_text : List (List ℕ) → Piece → ℕ → ℕ → List ℕ
-told_text names start p n = piece_text start ++ (place_text names p n ++ piece_text pieces.End)
+unfoldable pub place_line : List (List ℕ) → Piece → ℕ → ℕ → List ℕ
+place_line names start p n = piece_text start ++ (place_text names p n ++ piece_text pieces.End)
 
 -- INDEX out MESSAGE to, or INDEX in MESSAGE from, and a space
 unfoldable pub message_text : ℕ → Keyword → List ℕ → Keyword → List ℕ
@@ -69,7 +69,7 @@ step_text names link =
 
 -- a line; `events` has the events of a row
 abbrev pub saying_text : List (List ℕ) → List Event → Saying → List ℕ
-saying_text names events (Before p count) = told_text names pieces.Before p count
-saying_text names events (Also p index) = told_text names pieces.And p index
+saying_text names events (Before p count) = place_line names pieces.Before p count
+saying_text names events (Also p index) = place_line names pieces.And p index
 saying_text names events (Row was may) = row_text names events was may
 saying_text names events (Step link) = step_text names link

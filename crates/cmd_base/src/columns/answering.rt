@@ -3,22 +3,22 @@ ghost use Rattle.std.specs.Prelude.{◌≡◌};
 ghost use Rattle.cmd_base.specs.Refusals.{Tried};
 ghost use Rattle.cmd_base.specs.Columns.Answers.{refusal_text, error_exit};
 
-use crate::columns::error::FormatError;
+use crate::columns::error::ColumnError;
 use crate::{Answer, refused_by};
 use texts::Out;
 
 /// Prints the line of a refusal. Returns the exit status, which is 2 even if the line could not be written.
-pub fn refused<V: Out>(error: &FormatError, err: &mut V) -> u8
+pub fn refused<V: Out>(error: &ColumnError, err: &mut V) -> u8
     ensures status { result ≡ 2 }
     ensures line { Tried V.sink err.old err.new (refusal_text error.now) }
 {
     match error {
-        FormatError::Program(cause) => crate::refused(cause, err),
-        FormatError::NoSuchName => refused_by(b"F34 NoSuchName", None, err),
+        ColumnError::Program(cause) => crate::refused(cause, err),
+        ColumnError::NoSuchName => refused_by(b"F34 NoSuchName", None, err),
     }
 }
 
-impl Answer for FormatError {
+impl Answer for ColumnError {
     ghost exit = { error_exit };
 
     fn status(&self) -> u8 {

@@ -8,10 +8,10 @@ ghost use Rattle.cmd_base.specs.Columns.Columns.{IsNext, RefusesNext, AreNamed, 
 ghost use Rattle.cmd_base.specs.Named.Asked.{instance_named};
 
 use crate::ProgramError;
-use crate::columns::error::FormatError;
+use crate::columns::error::ColumnError;
 use crate::named::instance_named;
 use chart::{InstanceNo, MAX_INSTANCES, Names};
-use std::alloc::{AllocError, Global};
+use std::alloc::{AllocError, AllocFailed, Global};
 
 /// The index of the first comma.
 fn comma_in(bytes: &[u8]) -> Option<usize>
@@ -41,24 +41,24 @@ fn has_column(columns: &[InstanceNo], instance: InstanceNo) -> bool
 
 /// Appends the column of the instance with this name. F34: no instance has this name, or the instance already has a
 /// column.
-fn add_column(columns: &mut Vec<InstanceNo>, names: &Names, name: &[u8]) -> Result<(), FormatError>
+fn add_column(columns: &mut Vec<InstanceNo>, names: &Names, name: &[u8]) -> Result<(), ColumnError>
     ensures ok { OnOk result (IsNext names.now name.now columns.old.items columns.new.items) }
     ensures err { IfErr result (RefusesNext names.now name.now columns.old.items) }
 {
     let Some(instance) = instance_named(names, name) else {
-        return Err(FormatError::NoSuchName);
+        return Err(ColumnError::NoSuchName);
     };
     if has_column(columns.as_slice(), instance) {
-        return Err(FormatError::NoSuchName);
+        return Err(ColumnError::NoSuchName);
     }
     match columns.push(instance) {
         Ok(()) => Ok(()),
-        Err(_) => Err(FormatError::Program(ProgramError::Memory)),
+        Err(AllocFailed { .. }) => Err(ColumnError::Program(ProgramError::Memory)),
     }
 }
 
 /// The named instances, in this order. F34: a name is none of the chart's, or an instance is named twice.
-fn named_columns(alloc: Global, names: &Names, only: &[u8]) -> Result<Vec<InstanceNo>, FormatError>
+fn named_columns(alloc: Global, names: &Names, only: &[u8]) -> Result<Vec<InstanceNo>, ColumnError>
     ensures ok { IfOk result (λ columns. AreNamed names.now (parts 44 only.now) columns.items) }
     ensures err { IfErr result (RefusesNamed names.now (parts 44 only.now)) }
     ensures limit { IfOk result (λ columns. length columns.items ≤ length names.now) }
@@ -95,7 +95,7 @@ pub fn columns_in(
     alloc: Global,
     names: &Names,
     only: Option<&[u8]>,
-) -> Result<Vec<InstanceNo>, FormatError>
+) -> Result<Vec<InstanceNo>, ColumnError>
     ensures ok { IfOk result (λ columns. AreColumns names.now (option_map (λ bytes. bytes.now) only.entry)
         columns.items) }
     ensures err { IfErr result (RefusesColumns names.now (option_map (λ bytes. bytes.now) only.entry)) }
@@ -106,7 +106,7 @@ pub fn columns_in(
         Some(only) => named_columns(alloc, names, only),
         None => match all_columns(alloc, names) {
             Ok(columns) => Ok(columns),
-            Err(_) => Err(FormatError::Program(ProgramError::Memory)),
+            Err(AllocError) => Err(ColumnError::Program(ProgramError::Memory)),
         },
     }
 }

@@ -5,7 +5,7 @@ use thiserror::Error;
 
 /// Why nothing was drawn, exported or shown: the first of these causes that applies.
 #[derive(Clone, Copy, Debug, PartialEq, Eq, Error)]
-pub enum FormatError {
+pub enum ColumnError {
     /// A refusal that `mscrun` has too: of the command line, the file, its text or chart, or a write.
     #[error(transparent)]
     Program(ProgramError),
@@ -14,13 +14,13 @@ pub enum FormatError {
     NoSuchName,
 }
 
-impl From<ProgramError> for FormatError {
+impl From<ProgramError> for ColumnError {
     ghost use Rattle.std.specs.Prelude.{◌≡◌};
-    ghost use Rattle.cmd_base.specs.declared.columns.error.FormatError.TheVariants.{Program};
+    ghost use Rattle.cmd_base.specs.declared.columns.error.ColumnError.TheVariants.{Program};
 
     ghost from_gives = { λ cause e. e ≡ Program cause };
 
-    fn from(cause: ProgramError) -> FormatError {
-        FormatError::Program(cause)
+    fn from(cause: ProgramError) -> ColumnError {
+        ColumnError::Program(cause)
     }
 }

@@ -6,7 +6,7 @@ use thiserror::Error;
 
 /// Why the program did not do what was asked: the first of these causes that applies.
 #[derive(Clone, Copy, Debug, PartialEq, Eq, Error)]
-pub enum ViewError {
+pub enum PairError {
     /// A refusal that `mscrun` has too: of the command line, the file, its text or chart, or a write.
     #[error(transparent)]
     Program(ProgramError),
@@ -24,13 +24,13 @@ pub enum ViewError {
     ManySlots(u64),
 }
 
-impl From<ProgramError> for ViewError {
+impl From<ProgramError> for PairError {
     ghost use Rattle.std.specs.Prelude.{◌≡◌};
-    ghost use Rattle.cmd_base.specs.declared.pairs.error.ViewError.TheVariants.{Program};
+    ghost use Rattle.cmd_base.specs.declared.pairs.error.PairError.TheVariants.{Program};
 
     ghost from_gives = { λ cause e. e ≡ Program cause };
 
-    fn from(cause: ProgramError) -> ViewError {
-        ViewError::Program(cause)
+    fn from(cause: ProgramError) -> PairError {
+        PairError::Program(cause)
     }
 }

@@ -6,7 +6,7 @@ ghost use Rattle.cmd_base.specs.Named.Asked.{instance_named, has_event};
 ghost use Rattle.chart.specs.Events.{is_receive};
 
 use crate::named::{Missing, has_event, instance_named, missing_on};
-use crate::pairs::error::ViewError;
+use crate::pairs::error::PairError;
 use chart::line_events::events_of;
 use chart::{Event, EventNo, InstanceNo, Line, Names};
 
@@ -42,22 +42,22 @@ fn pair_on(
     events: &[Event],
     earlier: u64,
     receive: u64,
-) -> Result<Pair, ViewError>
+) -> Result<Pair, PairError>
     requires instance { instance ≤ length names.now }
     requires short { length events.now ≤ MAX_EVENTS }
     ensures { result ≡ pair_on names.now instance events.now earlier receive }
 {
     if !has_event(events, earlier) {
-        return Err(ViewError::NoSuchEvent(missing_on(names, instance, events)));
+        return Err(PairError::NoSuchEvent(missing_on(names, instance, events)));
     }
     if !has_event(events, receive) {
-        return Err(ViewError::NoSuchEvent(missing_on(names, instance, events)));
+        return Err(PairError::NoSuchEvent(missing_on(names, instance, events)));
     }
     if earlier >= receive {
-        return Err(ViewError::NotEarlier);
+        return Err(PairError::NotEarlier);
     }
     if !is_receive(&events[receive as usize - 1]) {
-        return Err(ViewError::NotAReceive(receive));
+        return Err(PairError::NotAReceive(receive));
     }
     Ok(Pair {
         earlier: EventNo {
@@ -73,11 +73,11 @@ fn pair_on(
 
 /// The two events that the words name. F31: the chart has no such event. F32: the second event is a send, or the first
 /// isn't earlier.
-pub fn pair_in(names: &Names, lines: &[Line], asked: &Asked<'_>) -> Result<Pair, ViewError>
+pub fn pair_in(names: &Names, lines: &[Line], asked: &Asked<'_>) -> Result<Pair, PairError>
     ensures { result ≡ pair_of names.now lines.now asked.now }
 {
     match instance_named(names, asked.instance) {
-        None => Err(ViewError::NoSuchEvent(Missing::Instance)),
+        None => Err(PairError::NoSuchEvent(Missing::Instance)),
         Some(instance) => pair_on(
             names,
             instance,

@@ -5,7 +5,7 @@ ghost use Rattle.chart.specs.Events.{ith};
 ghost use Rattle.cmd_base.specs.Refusals.{behind_space};
 ghost use Rattle.texts.specs.Instances.{name_at};
 ghost use Rattle.texts.specs.Writing.{Wrote, Adds};
-ghost use Rattle.cmd_base.specs.Pairs.SayingText.{hidden_text, piece_text, place_text, told_text, message_text, half_text, half_at, row_text, step_text, saying_text};
+ghost use Rattle.cmd_base.specs.Pairs.SayingText.{hidden_text, piece_text, place_text, place_line, message_text, half_text, half_at, row_text, step_text, saying_text};
 
 use chart::{Event, InstanceNo, Keyword, Name, Names};
 use closure::chain::{Link, rule_of};
@@ -104,15 +104,15 @@ fn add_place<W: Out>(
 }
 
 /// `before NAME COUNT`, or `and NAME INDEX`.
-#[tactic(auto, using(texts::proofs::Writes::joining), unfolding(crate::specs::Pairs::SayingText::told_text))]
-fn add_told<W: Out>(
+#[tactic(auto, using(texts::proofs::Writes::joining), unfolding(crate::specs::Pairs::SayingText::place_line))]
+fn add_place_line<W: Out>(
     text: &mut TextBuffer<'_, W>,
     names: &Names,
     start: Piece,
     instance: InstanceNo,
     number: usize,
 ) -> Result<(), WriteError>
-    ensures { Adds W.sink text.old text.new result (told_text names.now start instance number) }
+    ensures { Adds W.sink text.old text.new result (place_line names.now start instance number) }
 {
     add_piece(text, start)?;
     add_place(text, names, instance, number)?;
@@ -232,9 +232,15 @@ fn add_saying<W: Out>(
 {
     match saying {
         Saying::Before { instance, count } => {
-            add_told(text, names, Piece::Before, *instance, *count)
+            add_place_line(text, names, Piece::Before, *instance, *count)
         }
-        Saying::Also { instance, index } => add_told(text, names, Piece::And, *instance, *index),
+        Saying::Also { instance, index } => add_place_line(
+            text,
+            names,
+            Piece::And,
+            *instance,
+            *index,
+        ),
         Saying::Row { was, may } => add_row(text, names, events, *was, *may),
         Saying::Step { link } => add_step(text, names, link),
     }

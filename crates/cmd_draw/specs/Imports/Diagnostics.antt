@@ -7,19 +7,19 @@ use Rattle.diagrams.specs.declared.left_out.LeftOut.{LeftOut}
 use Rattle.cmd_base.specs.Answers.{Exit}
 use Rattle.cmd_import_diagram.specs.Order.{in_order}
 use Rattle.cmd_import_diagram.specs.Diagnostics.{diagnostics_text}
-use Rattle.diagram_join.specs.declared.drawing.JoinedChart.{JoinedChart}
+use Rattle.diagram_join.specs.declared.building.JoinedChart.{JoinedChart}
 use Rattle.cmd_draw.specs.declared.imports.diagnostics.Diagnostics.{Diagnostics}
 
 -- a picture has these kinds of constructs, which a chart can't express: notes, dividers and delays
-abbrev pub is_drawn : Kind → Bool
-is_drawn Note = true
-is_drawn Divider = true
-is_drawn Delay = true
-is_drawn kind = false
+abbrev pub is_pictured : Kind → Bool
+is_pictured Note = true
+is_pictured Divider = true
+is_pictured Delay = true
+is_pictured kind = false
 
 -- the constructs that the chart leaves out and its picture lacks too
 abbrev pub picture_left_out : List LeftOut → List LeftOut
-picture_left_out left_out = filter (λ l. not (is_drawn l.kind)) left_out
+picture_left_out left_out = filter (λ l. not (is_pictured l.kind)) left_out
 
 -- the warnings about the picture of a chart: the constructs that it lacks, in their order, the messages that overtake,
 -- and the names

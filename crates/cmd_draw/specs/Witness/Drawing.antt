@@ -10,15 +10,15 @@ use Rattle.cmd_base.specs.Columns.Columns.{AreColumns, only_of}
 use Rattle.cmd_draw.specs.Drawing.{IsWanted}
 use Rattle.cmd_draw.specs.Preparing.{turns_in}
 use Rattle.cmd_draw.specs.declared.drawing.Wanted as whole
-use Rattle.cmd_base.specs.declared.columns.error.FormatError.TheVariants as names
+use Rattle.cmd_base.specs.declared.columns.error.ColumnError.TheVariants as names
 use Rattle.texts.specs.Outs.{Sink}
 use Rattle.texts.specs.Writing.{Puts, Breaks}
 use Rattle.pictures.specs.Pictures.{PictureView}
 use Rattle.pictures.specs.Preparing.{IsPictureOf}
 use Rattle.schedule_replay.specs.declared.reordered_runs.showing.Shown.{Shown}
 use Rattle.schedule_replay.specs.declared.reordered_runs.showing.Shown.TheVariants as founds
-use Rattle.cmd_base.specs.declared.pairs.error.ViewError.{ViewError}
-use Rattle.cmd_base.specs.declared.pairs.error.ViewError.TheVariants.{Program, ManySlots}
+use Rattle.cmd_base.specs.declared.pairs.error.PairError.{PairError}
+use Rattle.cmd_base.specs.declared.pairs.error.PairError.TheVariants.{Program, ManySlots}
 use Rattle.cmd_explain_race.specs.declared.finding.Found.{Found}
 use Rattle.cmd_base.specs.declared.pairs.pair.Asked.{Asked}
 use Rattle.cmd_base.specs.declared.pairs.pair.Pair as pairs
@@ -31,7 +31,7 @@ use Rattle.cmd_draw.specs.declared.witness.error.PictureError.TheVariants.{Colum
 use Rattle.cmd_draw.specs.declared.witness.stage.Stage.{Stage}
 use Rattle.cmd_draw.specs.Witness.Beside.{beside_text}
 use Rattle.cmd_draw.specs.Witness.Counterparts.{counterpart}
-use Rattle.cmd_draw.specs.Witness.Stages.{IsWhole, drawn_of, part_of}
+use Rattle.cmd_draw.specs.Witness.Stages.{IsWhole, pictured_source, part_of}
 
 -- the title above the witness's picture
 unfoldable pub other_title : List ℕ
@@ -41,11 +41,11 @@ other_title = codes "another run, with the two events the other way round"
 pub record IsPictured (title : List ℕ) (wanted : Wanted) (source : Source) (picture : PictureView) : Type 0 where
   pub all : whole.Wanted
   pub is_whole : IsWhole title (only_of wanted.only) wanted.numbers all
-  pub drawn : IsWanted all (turns_in source) [] (named_of source) picture
+  pub is_picture : IsWanted all (turns_in source) [] (named_of source) picture
 
 -- the text of two pictures side by side. In the source's chart the pair is marked, and in the other chart the events of
 -- the same lanes and turns
-pub record AreDrawn (asked : Asked) (wanted : Wanted) (source : Source) (pair : pairs.Pair) (other : Source) (text : List ℕ)
+pub record ArePictured (asked : Asked) (wanted : Wanted) (source : Source) (pair : pairs.Pair) (other : Source) (text : List ℕ)
     : Type 0 where
   pub here : PictureView
   pub there : PictureView
@@ -70,8 +70,8 @@ pub record AreStaged (subject : Subject) (one other : Stage) (text : List ℕ) :
   pub there : PictureView
   pub whole_here : IsWhole subject.wanted.now.title.now (only_of subject.wanted.now.only) subject.wanted.now.numbers wanted_here
   pub whole_there : IsWhole other_title (only_of subject.wanted.now.only) subject.wanted.now.numbers wanted_there
-  pub left : IsPictureOf (drawn_of wanted_here.title.now one) (part_of subject.columns.now wanted_here.numbers) here
-  pub right : IsPictureOf (drawn_of wanted_there.title.now other) (part_of subject.columns.now wanted_there.numbers) there
+  pub left : IsPictureOf (pictured_source wanted_here.title.now one) (part_of subject.columns.now wanted_here.numbers) here
+  pub right : IsPictureOf (pictured_source wanted_there.title.now other) (part_of subject.columns.now wanted_there.numbers) there
   pub is : text ≡ beside_text subject.wanted.now.title.now subject.asked.now.instance.now subject.pair here there (record {
     earlier = counterpart one.closure.now other.closure.now subject.pair.earlier;
     receive = counterpart one.closure.now other.closure.now subject.pair.receive;
@@ -89,7 +89,7 @@ module _ {S : Type 0} (sink : S → Sink) where
   -- otherwise nothing
   abbrev pub DrawsSo : S → S → Asked → Wanted → Source → pairs.Pair → Shown → Result (Unit {0}) ProgramError → Type 0
   DrawsSo old new asked wanted source pair (founds.Replay plan) result =
-      WritesOne (λ text. (other : Source) × IsSourceOf (Schedule plan) other × AreDrawn asked wanted source pair other text) old new result
+      WritesOne (λ text. (other : Source) × IsSourceOf (Schedule plan) other × ArePictured asked wanted source pair other text) old new result
   DrawsSo old new asked wanted source pair shown result = (result ≡ Ok tt) × (new ≡ old)
 
   abbrev pub DrawsShown : S → S → Asked → Wanted → Source → Found → Result (Unit {0}) ProgramError → Type 0
@@ -97,7 +97,7 @@ module _ {S : Type 0} (sink : S → Sink) where
 
   -- this was found for the given pair, the chart has these columns, and they were drawn so
   pub record DrawsFound (old new : S) (asked : Asked) (wanted : Wanted) (source : Source)
-      (judged : Result Witnessed ViewError) (done : Result (Unit {0}) ProgramError) : Type 0 where
+      (judged : Result Witnessed PairError) (done : Result (Unit {0}) ProgramError) : Type 0 where
     pub columns : List ℕ
     pub found : Found
     pub are : AreColumns (named_of source).0 (only_of wanted.only) columns

@@ -31,8 +31,8 @@ pub record IsStageOf (source : Source) (stage : Stage) : Type 0 where
   pub races : AreReports (named_of source).1 (reports_in stage.reports)
 
 -- what a picture of the stage's chart with this title is made from
-abbrev pub drawn_of : List ℕ → Stage → SourceView
-drawn_of title stage = record {
+abbrev pub pictured_source : List ℕ → Stage → SourceView
+pictured_source title stage = record {
   title = title;
   names = stage.names.now;
   lines = stage.closure.now;
@@ -44,7 +44,7 @@ drawn_of title stage = record {
 -- all of a chart is drawn, in these columns
 abbrev pub part_of : List ℕ → Bool → PartView
 part_of columns numbers = record {
-  drawn = columns;
+  instances = columns;
   first = 1;
   last = 4294967295;
   top = 0;

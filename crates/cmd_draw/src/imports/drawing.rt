@@ -2,14 +2,14 @@
 ghost use Rattle.std.specs.Prelude.{◌≡◌, IfOk};
 ghost use Rattle.cmd_base.specs.Answers.{Answers};
 ghost use Rattle.diagram_import.specs.Importing.{options_view};
-ghost use Rattle.cmd_draw.specs.Imports.Drawing.{DrawsDrawing, picture_error_exit, picture_exit};
+ghost use Rattle.cmd_draw.specs.Imports.Drawing.{DrawsDiagram, picture_error_exit, picture_exit};
 ghost use Rattle.cmd_draw.specs.Imports.Turns.{turns_of_text};
 
 use crate::imports::diagnostics::{Diagnostics, picture_left_out};
 use crate::{DrawError, Wanted, draw_chart};
 use chart::InstanceNo;
 use cmd_base::{Answer, answered};
-use cmd_import_diagram::refused_drawing;
+use cmd_import_diagram::refused_diagram;
 use diagram_import::margin::notes_of_text;
 use diagram_import::{ImportError, Options, diagram_of_text, import_text};
 use diagram_join::JoinedChart;
@@ -23,7 +23,7 @@ use texts::Out;
 #[derive(Debug, Drop)]
 pub enum PictureError {
     /// The text can't be read or has no chart, or memory ran out.
-    Drawing(ImportError),
+    Diagram(ImportError),
     /// The chart doesn't have a named instance or event, memory ran out, or a write failed.
     Picture(DrawError),
 }
@@ -55,27 +55,29 @@ fn draw_text<W: Out>(
     wanted: &Wanted<'_>,
     out: &mut W,
 ) -> Result<Diagnostics, PictureError>
-    ensures { DrawsDrawing W.sink out.old out.new tool text.now (options_view options.entry) wanted.now result }
+    ensures { DrawsDiagram W.sink out.old out.new tool text.now (options_view options.entry) wanted.now result }
 {
-    let imported = match import_text(alloc, tool, text, options) {
+    let JoinedChart { built, overtaking } = match import_text(alloc, tool, text, options) {
         Ok(imported) => imported,
-        Err(error) => return Err(PictureError::Drawing(error)),
+        Err(error) => return Err(PictureError::Diagram(error)),
     };
-    let Ok(turns) = turns_of_text(alloc, tool, text, &options) else {
-        return Err(PictureError::Drawing(ImportError::Memory));
+    let turns = match turns_of_text(alloc, tool, text, &options) {
+        Ok(turns) => turns,
+        Err(AllocError) => return Err(PictureError::Diagram(ImportError::Memory)),
     };
-    let Ok(notes) = notes_of_text(alloc, tool, text, &options) else {
-        return Err(PictureError::Drawing(ImportError::Memory));
+    let notes = match notes_of_text(alloc, tool, text, &options) {
+        Ok(notes) => notes,
+        Err(AllocError) => return Err(PictureError::Diagram(ImportError::Memory)),
     };
-    let JoinedChart { built, overtaking } = imported;
     let DiagramChart {
         names,
         chart,
         left_out,
         renamed,
     } = built;
-    let Ok(left_out) = picture_left_out(alloc, &left_out) else {
-        return Err(PictureError::Drawing(ImportError::Memory));
+    let left_out = match picture_left_out(alloc, &left_out) {
+        Ok(left_out) => left_out,
+        Err(AllocError) => return Err(PictureError::Diagram(ImportError::Memory)),
     };
     let diagnostics = Diagnostics {
         left_out,
@@ -106,8 +108,8 @@ impl Answer for PictureError {
 
     fn print_diagnostics<V: Out>(&self, err: &mut V) {
         match self {
-            PictureError::Drawing(error) => {
-                let _ = refused_drawing(error, err);
+            PictureError::Diagram(error) => {
+                let _ = refused_diagram(error, err);
             }
             PictureError::Picture(error) => error.print_diagnostics(err),
         }
@@ -129,7 +131,7 @@ pub fn draw_of<W: Out, V: Out>(
     out: &mut W,
     err: &mut V,
 ) -> u8
-    ensures { Answers (DrawsDrawing W.sink out.old out.new tool text.now (options_view options.entry) wanted.now)
+    ensures { Answers (DrawsDiagram W.sink out.old out.new tool text.now (options_view options.entry) wanted.now)
         picture_exit V.sink err.old err.new result }
 {
     answered(&draw_text(alloc, tool, text, options, wanted, out), err)

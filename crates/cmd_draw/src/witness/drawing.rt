@@ -7,7 +7,7 @@ ghost use Rattle.schedule_replay.specs.declared.reordered_runs.showing.Shown.The
 ghost use Rattle.cmd_explain_race.specs.Finding.{HasShown, origin_of};
 ghost use Rattle.cmd_explain_race.specs.Reordering.{IsWitness};
 ghost use Rattle.cmd_draw.specs.Witness.Answers.{picture_exit};
-ghost use Rattle.cmd_draw.specs.Witness.Drawing.{other_title, IsSubject, AreStaged, AreDrawn, WritesOne, DrawsSo};
+ghost use Rattle.cmd_draw.specs.Witness.Drawing.{other_title, IsSubject, AreStaged, ArePictured, WritesOne, DrawsSo};
 ghost use Rattle.cmd_draw.specs.Witness.Drawing.{DrawsWitness, DrawsWitnessText};
 
 use crate::witness::beside::{Marked, write_beside};
@@ -21,9 +21,10 @@ use cmd_base::pairs::{Asked, Pair};
 use cmd_base::{ProgramError, Source, Text, answered};
 use cmd_explain_race::{Witnessed, found_in, judged};
 use schedule::Schedule;
+use schedule::outcomes::ReplayError;
 use schedule_replay::reordered_runs::Shown;
 use schedule_replay::replay;
-use std::alloc::Global;
+use std::alloc::{AllocError, Global};
 use texts::Out;
 
 /// The options for both pictures.
@@ -70,11 +71,13 @@ fn draw_stages<'a, W: Out>(
     let chart = whole(wanted.title, wanted.only, wanted.numbers);
     let title = other_title(wanted);
     let witness = whole(title, wanted.only, wanted.numbers);
-    let Ok(left) = picture_of(alloc, here, subject.columns, &chart) else {
-        return Err(ProgramError::Memory);
+    let left = match picture_of(alloc, here, subject.columns, &chart) {
+        Ok(left) => left,
+        Err(AllocError) => return Err(ProgramError::Memory),
     };
-    let Ok(right) = picture_of(alloc, there, subject.columns, &witness) else {
-        return Err(ProgramError::Memory);
+    let right = match picture_of(alloc, there, subject.columns, &witness) {
+        Ok(right) => right,
+        Err(AllocError) => return Err(ProgramError::Memory),
     };
     let marked = Marked {
         earlier: counterpart(here.lines(), there.lines(), &pair.earlier),
@@ -93,9 +96,9 @@ fn closure_in<'a>(alloc: Global, chart: &'a Chart) -> Result<Closure<'a>, Progra
     ensures closure { IfOk result (λ closure. closure ≡ chart.now) }
     ensures memory { IfErr result (λ error. error ≡ ProgramError.Memory) }
 {
-    match Closure::of(alloc, chart) {
+    match Closure::of_possible(alloc, chart) {
         Ok(closure) => Ok(closure),
-        Err(_) => Err(ProgramError::Memory),
+        Err(AllocError) => Err(ProgramError::Memory),
     }
 }
 
@@ -110,16 +113,18 @@ fn draw_sources<W: Out>(
     requires comes { ComesFrom other.now }
     requires names { (named_of other.now).0 ≡ (named_of subject.now.source.now).0 }
     requires possible { IsPossible (length (named_of other.now).1) (chart_lines (named_of other.now).1) }
-    ensures { WritesOne W.sink (AreDrawn subject.now.asked.now subject.now.wanted.now subject.now.source.now
+    ensures { WritesOne W.sink (ArePictured subject.now.asked.now subject.now.wanted.now subject.now.source.now
         subject.now.pair other.now) out.old out.new result }
 {
     let closure = closure_in(alloc, subject.source.chart())?;
     let others = closure_in(alloc, other.chart())?;
-    let Ok(here) = stage_of(alloc, subject.source, &closure) else {
-        return Err(ProgramError::Memory);
+    let here = match stage_of(alloc, subject.source, &closure) {
+        Ok(here) => here,
+        Err(AllocError) => return Err(ProgramError::Memory),
     };
-    let Ok(there) = stage_of(alloc, other, &others) else {
-        return Err(ProgramError::Memory);
+    let there = match stage_of(alloc, other, &others) {
+        Ok(there) => there,
+        Err(AllocError) => return Err(ProgramError::Memory),
     };
     draw_stages(alloc, subject, &here, &there, out)
 }
@@ -137,8 +142,9 @@ fn draw_replay<W: Out>(
     ensures { DrawsSo W.sink out.old out.new subject.now.asked.now subject.now.wanted.now subject.now.source.now
         subject.now.pair (Replay schedule.now) result }
 {
-    let Ok(outcome) = replay(alloc, schedule) else {
-        return Err(ProgramError::Memory);
+    let outcome = match replay(alloc, schedule) {
+        Ok(outcome) => outcome,
+        Err(ReplayError::Memory) => return Err(ProgramError::Memory),
     };
     let other = Source::Run(schedule, outcome);
     draw_sources(alloc, subject, &other, out)

@@ -1,8 +1,8 @@
 //! Why nothing was drawn.
 ghost use Rattle.cmd_draw.specs.Witness.Answers.{picture_error_exit};
 
-use cmd_base::columns::FormatError;
-use cmd_base::pairs::ViewError;
+use cmd_base::columns::ColumnError;
+use cmd_base::pairs::PairError;
 use cmd_base::{Answer, ProgramError};
 use texts::Out;
 
@@ -10,30 +10,30 @@ use texts::Out;
 #[derive(Debug, Drop)]
 pub enum PictureError {
     /// The chart doesn't have a named instance, or one is named twice.
-    Columns(FormatError),
+    Columns(ColumnError),
     /// A refusal of a witness.
-    Pair(ViewError),
+    Pair(PairError),
 }
 
 impl From<ProgramError> for PictureError {
     ghost use Rattle.std.specs.Prelude.{◌≡◌};
-    ghost use Rattle.cmd_base.specs.declared.pairs.error.ViewError.TheVariants.{Program};
+    ghost use Rattle.cmd_base.specs.declared.pairs.error.PairError.TheVariants.{Program};
     ghost use Rattle.cmd_draw.specs.declared.witness.error.PictureError.TheVariants.{Pair};
 
     ghost from_gives = { λ cause e. e ≡ Pair (Program cause) };
 
     fn from(cause: ProgramError) -> PictureError {
-        PictureError::Pair(ViewError::Program(cause))
+        PictureError::Pair(PairError::Program(cause))
     }
 }
 
-impl From<ViewError> for PictureError {
+impl From<PairError> for PictureError {
     ghost use Rattle.std.specs.Prelude.{◌≡◌};
     ghost use Rattle.cmd_draw.specs.declared.witness.error.PictureError.TheVariants.{Pair};
 
     ghost from_gives = { λ cause e. e ≡ Pair cause };
 
-    fn from(cause: ViewError) -> PictureError {
+    fn from(cause: PairError) -> PictureError {
         PictureError::Pair(cause)
     }
 }

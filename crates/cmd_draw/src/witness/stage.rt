@@ -2,7 +2,7 @@
 ghost use Rattle.std.specs.Prelude.{◌≡◌, IfOk, option_map};
 ghost use Rattle.cmd_base.specs.Texts.{named_of, ComesFrom};
 ghost use Rattle.pictures.specs.Preparing.{IsPictureOf};
-ghost use Rattle.cmd_draw.specs.Witness.Stages.{IsStageOf, IsWhole, drawn_of, part_of};
+ghost use Rattle.cmd_draw.specs.Witness.Stages.{IsStageOf, IsWhole, pictured_source, part_of};
 
 use crate::{Events, Prepared, Reports, Rows, Wanted, prepare_by, turns_in};
 use chart::{InstanceNo, Line, Names};
@@ -70,10 +70,10 @@ pub(crate) fn picture_of<'a>(
     columns: &'a [InstanceNo],
     wanted: &Wanted<'a>,
 ) -> Result<Picture<'a>, AllocError>
-    ensures { IfOk result (IsPictureOf (drawn_of wanted.now.title.now stage.now)
+    ensures { IfOk result (IsPictureOf (pictured_source wanted.now.title.now stage.now)
         (part_of columns.now wanted.now.numbers)) }
 {
-    let drawn = pictures::Source {
+    let picture_source = pictures::Source {
         title: wanted.title,
         names: stage.names,
         closure: stage.closure,
@@ -82,7 +82,7 @@ pub(crate) fn picture_of<'a>(
         reports: stage.reports.as_slice(),
     };
     let part = Part {
-        drawn: columns,
+        instances: columns,
         first: Events::ALL.first,
         last: Events::ALL.last,
         top: 0,
@@ -90,5 +90,5 @@ pub(crate) fn picture_of<'a>(
         numbers: wanted.numbers,
         notes: &[],
     };
-    Picture::of(alloc, drawn, part)
+    Picture::of(alloc, picture_source, part)
 }

@@ -1,12 +1,13 @@
 -- The warnings about a chart that was made from a log.
-use Rattle.std.specs.Prelude.{ℕ, ◌==◌, List, [], ◌++◌, length, codes, if◌then◌else◌}
+use Rattle.std.specs.Prelude.{ℕ, ◌==◌, List, [], ◌++◌, length, codes, decimal, if◌then◌else◌}
 use Rattle.std.specs.List.{flat_map}
 use Rattle.chart.specs.declared.instance.EventNo.{EventNo}
 use Rattle.diagram_labels.specs.declared.renaming.Renamed.{Renamed}
-use Rattle.diagram_labels.specs.Renamed.Telling.{renamed_line}
+use Rattle.diagram_labels.specs.Renamed.Reporting.{renamed_line}
 use Rattle.log_lines.specs.declared.event.Place.{Place}
+use Rattle.log_text.specs.Counts.{others_text, others_of_text}
 use Rattle.cmd_import_log.specs.Answers.AlikeHosts.{alike_text}
-use Rattle.cmd_import_log.specs.Answers.DiagnosticLines.{others_text, others_of_text, lost_text, overtaking_text, freed_text, invented_text}
+use Rattle.cmd_import_log.specs.Answers.DiagnosticLines.{lost_text, overtaking_text, freed_text, invented_text}
 use Rattle.cmd_import_log.specs.Answers.EventsRead.{read_text}
 use Rattle.cmd_import_log.specs.declared.answers.overtaking.Overtaking.{Overtaking}
 use Rattle.cmd_import_log.specs.declared.answers.diagnostics.Diagnostics.{Diagnostics}
@@ -66,10 +67,22 @@ overtaking_note overtaking = if length overtaking == 0 then [] else enforced_not
 abbrev pub left_out_note : List Place → List Overtaking → List ℕ
 left_out_note lost overtaking = if length lost == 0 then overtaking_note overtaking else enforced_note
 
+unfoldable pub one_overtakes_note : List ℕ
+one_overtakes_note = codes "1 message overtakes another: it is skipped, and the message that it overtakes stays\n"
+
+unfoldable pub several_overtake_note : ℕ → List ℕ
+several_overtake_note count =
+    decimal count ++ codes " messages overtake others: each is skipped, and the first message that it overtakes stays\n"
+
+-- the number of messages that overtake, if there are some, and which of two messages is skipped
+abbrev pub overtakings_text : ℕ → List ℕ
+overtakings_text count = if count == 0 then [] else (if count == 1 then one_overtakes_note else several_overtake_note count)
+
 -- the skipped messages
 unfoldable pub left_out_text : List (List ℕ) → List Place → List Overtaking → List ℕ
 left_out_text files lost overtaking =
-    flat_map (lost_text files) lost ++ (flat_map (overtaking_text files) overtaking ++ left_out_note lost overtaking)
+    flat_map (lost_text files) lost
+    ++ (flat_map (overtaking_text files) overtaking ++ (overtakings_text (length overtaking) ++ left_out_note lost overtaking))
 
 unfoldable pub unclaimed_note : List ℕ
 unclaimed_note = codes "a race whose earlier event is invented, or whose receive comes behind an invented event, isn't claimed\n"

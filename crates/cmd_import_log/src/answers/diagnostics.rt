@@ -6,14 +6,15 @@ ghost use Rattle.cmd_import_log.specs.Answers.Diagnostics.{counts_text, left_out
 
 use crate::answers::alike::{Alike, add_all_alike};
 use crate::answers::diagnostic_lines::{
-    add_all_freed, add_all_invented, add_all_lost, add_all_overtaking, add_others, add_others_of,
+    add_all_freed, add_all_invented, add_all_lost, add_all_overtaking,
 };
 use crate::answers::events_read::add_read;
-use crate::answers::overtaking::Overtaking;
+use crate::answers::overtaking::{Overtaking, add_overtakings};
 use chart::{EventNo, Name, Names};
 use diagram_labels::Renamed;
 use diagram_labels::renamed::add_all_renamed;
 use log_lines::{Others, Place};
+use log_text::{add_others, add_others_of};
 use texts::{Out, TextBuffer, WriteError};
 
 /// The warnings about a chart that was made from a log.
@@ -284,6 +285,7 @@ fn add_left_out<V: Out>(
 {
     add_all_lost(text, files, lost)?;
     add_all_overtaking(text, files, overtaking)?;
+    add_overtakings(text, overtaking.len() as u64)?;
     add_left_out_note(text, lost, overtaking)
 }
 
@@ -318,7 +320,7 @@ fn add_names<V: Out>(
 }
 
 #[tactic(auto, using(texts::proofs::Writes::joining), unfolding(crate::specs::Answers::Diagnostics::diagnostics_text))]
-fn add_diagnostics<V: Out>(
+pub(crate) fn add_diagnostics<V: Out>(
     text: &mut TextBuffer<'_, V>,
     files: &[&[u8]],
     diagnostics: &Diagnostics,

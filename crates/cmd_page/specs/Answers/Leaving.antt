@@ -6,7 +6,7 @@ use Rattle.cmd_mend.specs.Showing.{ShowsText}
 use Rattle.cmd_mend.specs.declared.showing.Detail.TheVariants.{Full}
 use Rattle.texts.specs.Outs.{Sink, Stored}
 use Rattle.cmd_explain_race.specs.Answers.{why_exit, witness_exit}
-use Rattle.cmd_explain_race.specs.Views.{Whys}
+use Rattle.cmd_explain_race.specs.FilePairs.{Whys}
 use Rattle.cmd_explain_race.specs.Witnessing.{Witnesses}
 use Rattle.cmd_base.specs.declared.pairs.pair.Asked.{Asked}
 use Rattle.cmd_page.specs.declared.answers.left.Left.{Left}

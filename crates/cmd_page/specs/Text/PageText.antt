@@ -11,7 +11,7 @@ use Rattle.cmd_page.specs.Text.Words.{word_text}
 
 -- the page's policy: it may show itself, and run the script with this digest (a policy of CSP)
 unfoldable pub policy : List ℕ
-policy = codes "<meta http-equiv=\"Content-Security-Policy\" content=\"default-src 'none'; script-src 'sha256-vGViFwLYhTh9/zfDd5m7aEl8GEI5RD7IaToG0Vs21eM='; style-src 'unsafe-inline'; base-uri 'none'; form-action 'none'\">\n<meta name=\"viewport\" content=\"width=device-width,initial-scale=1\">\n<title>"
+policy = codes "<meta http-equiv=\"Content-Security-Policy\" content=\"default-src 'none'; script-src 'sha256-qxULv+J3AeQH3Ac92H2uYW8+ih093279s+SgqYKcClA='; style-src 'unsafe-inline'; base-uri 'none'; form-action 'none'\">\n<meta name=\"viewport\" content=\"width=device-width,initial-scale=1\">\n<title>"
 
 unfoldable pub style : List ℕ
 style = STYLE.now

@@ -2,7 +2,7 @@
 ghost use Rattle.std.specs.Prelude.{◌≡◌, ◌==◌, [], Some};
 ghost use Rattle.texts.specs.Outs.{Stored};
 
-use std::alloc::Global;
+use std::alloc::{AllocError, Global};
 use std::marker::Model;
 use texts::{Out, OutFault};
 
@@ -58,7 +58,7 @@ impl Out for Collected {
     fn put(&mut self, bytes: &[u8]) -> Result<usize, OutFault> {
         match self.bytes.extend_from_slice(bytes) {
             Ok(()) => Ok(bytes.len()),
-            Err(_) => {
+            Err(AllocError) => {
                 self.failures = self.failures.saturating_add(1);
                 Err(OutFault::Memory)
             }

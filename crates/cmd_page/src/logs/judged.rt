@@ -1,20 +1,21 @@
 //! The races of a log's recording by their verdicts.
 ghost use Rattle.std.specs.Prelude.{◌≡◌, ◌++◌, List, length, map, All, IfOk, OnOk};
-ghost use Rattle.chart.specs.Charts.{IsNumbered};
+ghost use Rattle.std.specs.List.{list_any};
+ghost use Rattle.chart.specs.Charts.{chart_lines, IsNumbered, IsPossible};
 ghost use Rattle.chart.specs.Ranges.{IsRange};
 ghost use Rattle.cmd_import_log.specs.Recording.{lent_of};
 ghost use Rattle.race_verdicts.specs.Luck.Recorded.{IsRecording};
 ghost use Rattle.races_text.specs.Judged.LogVerdicts.{verdict_in};
 ghost use Rattle.races_text.specs.Judged.Parts.{AreParts};
 ghost use Rattle.races_text.specs.declared.judged.part.Part.{Part};
-ghost use Rattle.cmd_page.specs.Marks.Judging.{judged_pair, AreJudged, AreJudgedRaces, IsOfLines};
+ghost use Rattle.cmd_page.specs.Marks.Judging.{judged_pair, AreJudged, AreJudgedRaces, IsOfLines, claims, claims_none};
 ghost use Rattle.cmd_page.specs.Marks.Pairing.{HasRange};
 
 use crate::marks::RaceRange;
 use chart::{EventNo, Report};
 use closure::Closure;
-use cmd_base::closure_of;
 use cmd_import_log::LogRecording;
+use race_verdicts::Verdict;
 use race_verdicts::luck::Judge;
 use races_text::judged::{LogVerdicts, Part, all_parts};
 use std::alloc::{AllocError, Global};
@@ -96,24 +97,48 @@ fn verdicts_of<'a>(
     }
 }
 
-/// The races of a recording by their verdicts. It fails only if there is no memory, since the chart of a log is
-/// possible.
+/// The races of a recording by their verdicts. F6: it fails only if there is no memory.
 pub(crate) fn judged_races(
     alloc: Global,
     recording: &LogRecording<'_>,
 ) -> Result<Vec<RaceRange>, AllocError>
-    requires named { length recording.now.drawing.diagnostics.names ≡ length recording.now.drawing.chart }
-    requires keeps { IsRecording recording.now.drawing.chart (lent_of recording.now) }
-    requires numbered { IsNumbered recording.now.drawing.chart }
-    ensures judged { IfOk result (λ races. AreJudgedRaces recording.now.drawing.chart (lent_of recording.now) races.items) }
+    requires possible { IsPossible (length recording.now.imported.chart) (chart_lines recording.now.imported.chart) }
+    requires keeps { IsRecording recording.now.imported.chart (lent_of recording.now) }
+    requires numbered { IsNumbered recording.now.imported.chart }
+    ensures judged { IfOk result (λ races. AreJudgedRaces recording.now.imported.chart (lent_of recording.now) races.items) }
     ensures have { IfOk result (λ races. All HasRange races.items) }
 {
-    let names = &recording.drawing.diagnostics.names;
-    let Ok(closure) = closure_of(alloc, names, &recording.drawing.chart) else {
-        return Err(AllocError);
-    };
+    let closure = Closure::of_possible(alloc, &recording.imported.chart)?;
     let verdicts = verdicts_of(alloc, recording, &closure)?;
     let reports = closure.races()?;
     let races = judged_pairs(alloc, &verdicts, reports.as_slice())?;
     Ok(races)
+}
+
+/// Whether a race with this verdict is claimed, if it is known. A race that is begun in the middle isn't.
+fn claims(verdict: Option<Verdict>) -> bool
+    ensures { result ≡ claims verdict }
+{
+    match verdict {
+        None => true,
+        Some(verdict) => !matches!(verdict, Verdict::BegunInTheMiddle),
+    }
+}
+
+/// Whether one of these races is claimed.
+fn claims_any(races: &[RaceRange]) -> bool
+    ensures { result ≡ list_any (λ race. claims race.verdict) races.now }
+{
+    races.iter().any(|race| claims(race.verdict))
+}
+
+/// Whether there are races, and none of them is claimed: each is begun in the middle.
+pub(crate) fn claims_none(races: &[RaceRange]) -> bool
+    ensures { result ≡ claims_none races.now }
+{
+    if races.is_empty() {
+        false
+    } else {
+        !claims_any(races)
+    }
 }

@@ -2,26 +2,34 @@
 ghost use Rattle.std.specs.Prelude.{◌≡◌, ◌≤◌, length, map, All, IfOk, IfSome};
 ghost use Rattle.cmd_base.specs.Answers.{Answers};
 ghost use Rattle.cmd_base.specs.Refusals.{Tried};
-ghost use Rattle.chart.specs.Charts.{IsNumbered};
-ghost use Rattle.cmd_import_log.specs.Answers.Diagnostics.{diagnostics_text};
+ghost use Rattle.chart.specs.Charts.{chart_lines, IsNumbered, IsPossible};
+ghost use Rattle.cmd_import_log.specs.Answers.Claims.{claims_text};
 ghost use Rattle.cmd_import_log.specs.Options.{options_view};
 ghost use Rattle.cmd_import_log.specs.Recording.{lent_of};
 ghost use Rattle.race_verdicts.specs.Luck.Recorded.{IsRecording};
-ghost use Rattle.msc_text.specs.ChartText.{chart_text};
-ghost use Rattle.cmd_page.specs.Logs.Showing.{ShowsJudged, ShowsRecording, ShowsLog, page_error_text, page_exit};
+ghost use Rattle.cmd_page.specs.Logs.Showing.{ShowsRaces, ShowsJudged, ShowsOther, ShowsRecording, ShowsLog, page_error_text, page_exit};
 ghost use Rattle.cmd_page.specs.Marks.Pairing.{HasRange};
-ghost use Rattle.cmd_page.specs.Showing.{ShowsText, heading_view, judged, titled};
+ghost use Rattle.cmd_page.specs.Showing.{heading_view, judged};
 
-use crate::logs::judged::judged_races;
+use crate::logs::judged::{claims_none, judged_races};
 use crate::marks::RaceRange;
-use crate::{Heading, show_drawn};
+use crate::{Heading, show_chart_text};
 use cmd_base::{ProgramError, refused};
-use cmd_import_log::answers::{Diagnostics, write_diagnostics};
+use cmd_import_log::answers::{Diagnostics, write_claims};
 use cmd_import_log::{
-    LogDrawing, LogImportError, LogRecording, Options, recording_in, refused_log, refused_one_end,
+    ImportedLog, LogImportError, LogRecording, Options, recording_in, refused_log, refused_one_end,
 };
-use std::alloc::Global;
+use std::alloc::{AllocError, Global};
 use texts::Out;
+
+/// The answer after a page was written.
+#[derive(Debug, Drop)]
+pub struct ShownPage {
+    /// The warnings of the import.
+    pub diagnostics: Diagnostics,
+    /// Whether there are races, and none is claimed: each is begun in the middle.
+    pub is_unclaimed: bool,
+}
 
 /// The reason why no page was written.
 #[derive(Debug, Drop)]
@@ -47,76 +55,99 @@ fn heading_of<'a>(title: &'a [u8], races: &'a [RaceRange]) -> Heading<'a>
     }
 }
 
+/// Writes the page of a chart with these races, and returns whether none of them is claimed.
+fn show_races<W: Out>(
+    alloc: Global,
+    imported: &ImportedLog,
+    title: &[u8],
+    races: &[RaceRange],
+    out: &mut W,
+) -> Result<bool, ProgramError>
+    requires named { length imported.now.diagnostics.names ≡ length imported.now.chart }
+    requires have { All HasRange races.now }
+    ensures { ShowsRaces W.sink out.old out.new title.now (imported.now.diagnostics.names, imported.now.chart) races.now result }
+{
+    let heading = heading_of(title, races);
+    match show_chart_text(
+        alloc,
+        &imported.diagnostics.names,
+        &imported.chart,
+        &heading,
+        out,
+    ) {
+        Ok(()) => Ok(claims_none(races)),
+        Err(error) => Err(error),
+    }
+}
+
 /// Writes the page of a recording for which luck is known, with the verdicts of its races. It allocates all memory
-/// before it writes the first byte.
+/// before it writes the first byte. Returns whether none of the races is claimed.
 fn show_judged<W: Out>(
     alloc: Global,
     recording: &LogRecording<'_>,
     title: &[u8],
     out: &mut W,
-) -> Result<(), ProgramError>
-    requires named { length recording.now.drawing.diagnostics.names ≡ length recording.now.drawing.chart }
-    requires keeps { IsRecording recording.now.drawing.chart (lent_of recording.now) }
-    requires numbered { IsNumbered recording.now.drawing.chart }
+) -> Result<bool, ProgramError>
+    requires named { length recording.now.imported.diagnostics.names ≡ length recording.now.imported.chart }
+    requires possible { IsPossible (length recording.now.imported.chart) (chart_lines recording.now.imported.chart) }
+    requires keeps { IsRecording recording.now.imported.chart (lent_of recording.now) }
+    requires numbered { IsNumbered recording.now.imported.chart }
     ensures { ShowsJudged W.sink out.old out.new title.now
-        (recording.now.drawing.diagnostics.names, recording.now.drawing.chart) (lent_of recording.now) result }
+        (recording.now.imported.diagnostics.names, recording.now.imported.chart) (lent_of recording.now) result }
 {
-    let Ok(races) = judged_races(alloc, recording) else {
-        return Err(ProgramError::Memory);
+    let races = match judged_races(alloc, recording) {
+        Ok(races) => races,
+        Err(AllocError) => return Err(ProgramError::Memory),
     };
     let list = races.as_slice();
-    let heading = heading_of(title, list);
-    let drawing = &recording.drawing;
-    show_drawn(
-        alloc,
-        &drawing.diagnostics.names,
-        &drawing.chart,
-        &heading,
-        out,
-    )
+    show_races(alloc, &recording.imported, title, list, out)
 }
 
-/// Writes the page of a log's chart without verdicts.
+/// Writes the page of a log's chart without verdicts. So it isn't known whether a race is claimed.
 fn show_other<W: Out>(
     alloc: Global,
-    drawing: &LogDrawing,
+    imported: &ImportedLog,
     title: &[u8],
     out: &mut W,
-) -> Result<(), ProgramError>
-    requires { length drawing.now.diagnostics.names ≡ length drawing.now.chart }
-    ensures { ShowsText W.sink out.old out.new (titled title.now)
-        (chart_text drawing.now.diagnostics.names drawing.now.chart) result }
+) -> Result<bool, ProgramError>
+    requires { length imported.now.diagnostics.names ≡ length imported.now.chart }
+    ensures { ShowsOther W.sink out.old out.new title.now (imported.now.diagnostics.names, imported.now.chart) result }
 {
     let heading = Heading {
         title,
         turns: None,
         races: None,
     };
-    show_drawn(
+    match show_chart_text(
         alloc,
-        &drawing.diagnostics.names,
-        &drawing.chart,
+        &imported.diagnostics.names,
+        &imported.chart,
         &heading,
         out,
-    )
+    ) {
+        Ok(()) => Ok(false),
+        Err(error) => Err(error),
+    }
 }
 
-/// Writes the page of a recording: with the verdicts of its races, if luck is known.
+/// Writes the page of a recording: with the verdicts of its races, if luck is known. Returns whether it is known that
+/// none of them is claimed.
 fn show_recording<W: Out>(
     alloc: Global,
     recording: &LogRecording<'_>,
     title: &[u8],
     out: &mut W,
-) -> Result<(), ProgramError>
-    requires named { length recording.now.drawing.diagnostics.names ≡ length recording.now.drawing.chart }
-    requires keeps { IsRecording recording.now.drawing.chart (lent_of recording.now) }
-    requires numbered { IsNumbered recording.now.drawing.chart }
+) -> Result<bool, ProgramError>
+    requires named { length recording.now.imported.diagnostics.names ≡ length recording.now.imported.chart }
+    requires possible { IsPossible (length recording.now.imported.chart) (chart_lines recording.now.imported.chart) }
+    requires keeps { IsRecording recording.now.imported.chart (lent_of recording.now) }
+    requires numbered { IsNumbered recording.now.imported.chart }
     ensures { ShowsRecording W.sink out.old out.new title.now recording.now result }
 {
     if recording.is_known {
         show_judged(alloc, recording, title, out)
     } else {
-        show_other(alloc, &recording.drawing, title, out)
+        show_other(alloc, &recording.imported, title, out)
     }
 }
 
@@ -128,19 +159,22 @@ fn show<W: Out>(
     texts: &[&[u8]],
     title: &[u8],
     out: &mut W,
-) -> Result<Diagnostics, PageError>
+) -> Result<ShownPage, PageError>
     ensures shows { ShowsLog W.sink out.old out.new (options_view options.entry) (map (λ text. text.now) texts.now) title.now result }
-    ensures invented { IfOk result (λ diagnostics. All (λ e. e.instance ≤ length diagnostics.names) diagnostics.invented.items) }
+    ensures invented { IfOk result (λ shown. All (λ e. e.instance ≤ length shown.diagnostics.names) shown.diagnostics.invented.items) }
 {
     let recording = match recording_in(alloc, options, texts) {
         Ok(recording) => recording,
         Err(error) => return Err(PageError::Log(error)),
     };
-    if recording.drawing.diagnostics.is_one_ended {
-        return Err(PageError::OneEnd(recording.drawing.diagnostics));
+    if recording.imported.diagnostics.is_one_ended {
+        return Err(PageError::OneEnd(recording.imported.diagnostics));
     }
     match show_recording(alloc, &recording, title, out) {
-        Ok(()) => Ok(recording.drawing.diagnostics),
+        Ok(is_unclaimed) => Ok(ShownPage {
+            diagnostics: recording.imported.diagnostics,
+            is_unclaimed,
+        }),
         Err(error) => Err(PageError::Page(error)),
     }
 }
@@ -157,22 +191,22 @@ fn refused_page<V: Out>(files: &[&[u8]], error: &PageError, err: &mut V) -> u8
     }
 }
 
-/// Prints the warnings of the import, and returns the exit status.
-fn print_diagnostics<V: Out>(files: &[&[u8]], diagnostics: &Diagnostics, err: &mut V) -> u8
-    requires { All (λ e. e.instance ≤ length diagnostics.now.names) diagnostics.now.invented.items }
+/// Prints the warnings of the import and whether no race is claimed, and returns the exit status.
+fn print_diagnostics<V: Out>(files: &[&[u8]], shown: &ShownPage, err: &mut V) -> u8
+    requires { All (λ e. e.instance ≤ length shown.now.diagnostics.names) shown.now.diagnostics.invented.items }
     ensures status { result ≡ 0 }
-    ensures line { Tried V.sink err.old err.new (diagnostics_text (map (λ file. file.now) files.now) diagnostics.now) }
+    ensures line { Tried V.sink err.old err.new (claims_text (map (λ file. file.now) files.now) shown.now.diagnostics shown.now.is_unclaimed) }
 {
-    let _ = write_diagnostics(files, diagnostics, err);
+    let _ = write_claims(files, &shown.diagnostics, shown.is_unclaimed, err);
     0
 }
 
 /// Writes the page of a log's chart to `out`: that of the text from `mscview import`. The log has these texts.
 /// `files` has their names if there are several, and is empty for one. If luck is known, its races have their
-/// verdicts. The warnings of an import and the line of a refusal go to `err`. The exit status is 0 if the page was
-/// written, and 2 after a refusal. The refusals are those of an import, and then a log with one end of each message
-/// (F52). Nothing is written to `out` before a refusal, unless writing to it failed (F24). A failed write to `err`
-/// changes nothing.
+/// verdicts. The warnings of an import go to `err`, then a line if each race is begun in the middle, so that none is
+/// claimed. So does the line of a refusal. The exit status is 0 if the page was written, and 2 after a refusal. The
+/// refusals are those of an import, and then a log with one end of each message (F52). Nothing is written to `out`
+/// before a refusal, unless writing to it failed (F24). A failed write to `err` changes nothing.
 pub fn page_of_log<W: Out, V: Out>(
     alloc: Global,
     options: Options<'_>,
@@ -186,7 +220,7 @@ pub fn page_of_log<W: Out, V: Out>(
         (page_exit (map (λ file. file.now) files.now)) V.sink err.old err.new result }
 {
     match show(alloc, options, texts, title, out) {
-        Ok(diagnostics) => print_diagnostics(files, &diagnostics, err),
+        Ok(shown) => print_diagnostics(files, &shown, err),
         Err(error) => refused_page(files, &error, err),
     }
 }

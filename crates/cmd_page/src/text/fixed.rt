@@ -2,7 +2,7 @@
 
 /// What the page may do: show itself, and run the script with this digest.
 pub(crate) const POLICY: &[u8] =
-    b"<meta http-equiv=\"Content-Security-Policy\" content=\"default-src 'none'; script-src 'sha256-vGViFwLYhTh9/zfDd5m7aEl8GEI5RD7IaToG0Vs21eM='; style-src 'unsafe-inline'; base-uri 'none'; form-action 'none'\">
+    b"<meta http-equiv=\"Content-Security-Policy\" content=\"default-src 'none'; script-src 'sha256-qxULv+J3AeQH3Ac92H2uYW8+ih093279s+SgqYKcClA='; style-src 'unsafe-inline'; base-uri 'none'; form-action 'none'\">
 <meta name=\"viewport\" content=\"width=device-width,initial-scale=1\">
 <title>";
 
@@ -55,7 +55,7 @@ mark.before{background:#035}
 
 /// What the script uses, which is hidden without it, and what the marks mean.
 pub(crate) const CONTROLS: &[u8] = b".</p>
-<p id='controls' hidden><button id='previous' type='button'>previous (p)</button> <button id='next' type='button'>next (n)</button> <output id='told'></output> <label>find (/) <input id='search' type='search'></label> <label>rows <input id='rows' type='range' min='0' max='1000' value='0'></label></p>
+<p id='controls' hidden><button id='previous' type='button'>previous (p)</button> <button id='next' type='button'>next (n)</button> <output id='position'></output> <label>find (/) <input id='search' type='search'></label> <label>rows <input id='rows' type='range' min='0' max='1000' value='0'></label></p>
 <p>A race is marked so: <mark class='receive'>its receive</mark>, <mark class='earlier'>the earlier events</mark> that it may come before, <mark class='before'>what has to come before it</mark>.</p>
 ";
 
@@ -69,12 +69,12 @@ pub(crate) const SCRIPT: &[u8] = b"'use strict';
 // the receive, and data-also the others of its own line that have to.
 class Races {
   // frame: the element that the picture scrolls in. picture: gives the element that has the picture. list: the element whose
-  // children are the races. search: the box for what is looked for. shown: is told the race that is shown now, or null, and
+  // children are the races. search: the box for what is looked for. shown: is called with the race that is shown now, or null, and
   // the one before.
   constructor({ frame, picture, list, search, shown }) {
     Object.assign(this, { frame, picture, list, search, shown, chosen: null, marked: [], hits: [], lastHit: -1 });
     list.addEventListener('click', (event) => this.chooseListed(event));
-    frame.addEventListener('click', (event) => this.chooseDrawn(event));
+    frame.addEventListener('click', (event) => this.chooseInPicture(event));
     search.addEventListener('input', () => this.find());
     search.addEventListener('keydown', (event) => {
       if (event.key === 'Enter') this.nextHit();
@@ -150,7 +150,7 @@ class Races {
     this.choose(this.chosen === race ? null : race);
   }
 
-  chooseDrawn(event) {
+  chooseInPicture(event) {
     const element = event.composedPath()[0].closest('g[id^=e], g[id^=r], path[id^=b]');
     if (!element) return;
     const [instance, number] = element.id.slice(1).split('-').map(Number);
@@ -210,7 +210,7 @@ class Races {
     event.preventDefault();
   }
 }
-// The page of `mscview page`: what it has besides the races, whose number is told.
+// The page of `mscview page`: what it has besides the races, whose number it shows.
 (() => {
   const byId = (id) => document.getElementById(id);
   const picture = byId('picture');
@@ -229,7 +229,7 @@ class Races {
     search: byId('search'),
     shown: (race, before) => {
       if (before) open(before, false);
-      byId('told').textContent = race ? races.all.indexOf(race) + 1 + ' of ' + races.all.length : '';
+      byId('position').textContent = race ? races.all.indexOf(race) + 1 + ' of ' + races.all.length : '';
       if (race) open(race, true);
     },
   });

@@ -107,7 +107,7 @@ fn word_of(word: &Word) -> &[u8]
         Word::OneRace => b" race",
         Word::Races => b" races",
         Word::ExplainedStart => b", ",
-        Word::ExplainedEnd => b" of them told in full",
+        Word::ExplainedEnd => b" of them described in full",
         Word::PictureStart => b"</header>\n<main id=\"picture\">\n",
         Word::RacesStart => b"</main>\n<section id=\"list\">\n<ol id=\"races\">\n",
         Word::ScriptStart => b"</ol>\n</section>\n<script>\n",

@@ -1,12 +1,12 @@
 -- The races of a log that are written, with their words.
 use Rattle.std.specs.Prelude.{◌≡◌, List, [], ◌++◌, ℕ, Bool, true, false, Some, Result, Ok, Err, codes, if◌then◌else◌}
 use Rattle.cmd_base.specs.Answers.{Exit, refusal, exit_of}
-use Rattle.cmd_base.specs.Files.{Named}
+use Rattle.cmd_base.specs.Contents.{Named}
 use Rattle.cmd_base.specs.Columns.Answers.{refusal_text}
-use Rattle.cmd_base.specs.declared.columns.error.FormatError.{FormatError}
+use Rattle.cmd_base.specs.declared.columns.error.ColumnError.{ColumnError}
 use Rattle.cmd_base.specs.Statuses.{code_of}
 use Rattle.cmd_import_log.specs.Answers.Diagnostics.{diagnostics_text}
-use Rattle.cmd_import_log.specs.Drawing.{IsRefusalOf}
+use Rattle.cmd_import_log.specs.Imported.{IsRefusalOf}
 use Rattle.cmd_import_log.specs.Options.{OptionsView}
 use Rattle.cmd_import_log.specs.Recording.{lent_of, IsRecordingOf}
 use Rattle.cmd_import_log.specs.Refusals.{log_refusal_text, one_end_text}
@@ -37,34 +37,34 @@ shown_of_summary summary = record { status = status_of_summary summary; is_uncla
 module _ {S : Type 0} (sink : S → Sink) where
   -- if luck is known: the races were written with the words of their verdicts, and the summary states whether none is
   -- claimed; or they are refused
-  abbrev pub ShowsKnown : S → S → Result ShownRaces FormatError → LuckWanted → Named → RecordingView → Type 0
+  abbrev pub ShowsKnown : S → S → Result ShownRaces ColumnError → LuckWanted → Named → RecordingView → Type 0
   ShowsKnown old new (Ok races) wanted named rec = (summary : RaceSummary) × ShowsJudged sink (verdict_in named.1 rec) old new (Ok summary) wanted named
       × (races ≡ shown_of_summary summary)
   ShowsKnown old new (Err error) wanted named rec = ShowsJudged sink (verdict_in named.1 rec) old new (Err error) wanted named
 
   -- if it isn't: they were written, and it isn't known whether one is claimed; or they are refused
-  abbrev pub ShowsOther : S → S → Result ShownRaces FormatError → LuckWanted → Named → Type 0
+  abbrev pub ShowsOther : S → S → Result ShownRaces ColumnError → LuckWanted → Named → Type 0
   ShowsOther old new (Ok races) wanted named = ShowsUnknown sink wanted.luck old new (Ok races.status) wanted named × (races.is_unclaimed ≡ false)
   ShowsOther old new (Err error) wanted named = ShowsUnknown sink wanted.luck old new (Err error) wanted named
 
-  abbrev pub ShowsBy : Bool → S → S → Result ShownRaces FormatError → LuckWanted → Named → RecordingView → Type 0
+  abbrev pub ShowsBy : Bool → S → S → Result ShownRaces ColumnError → LuckWanted → Named → RecordingView → Type 0
   ShowsBy true old new result wanted named rec = ShowsKnown old new result wanted named rec
   ShowsBy false old new result wanted named rec = ShowsOther old new result wanted named
 
   -- the races of a recording were written, or refused
-  abbrev pub ShowsRecording : S → S → Result ShownRaces FormatError → LuckWanted → LogRecording → Type 0
+  abbrev pub ShowsRecording : S → S → Result ShownRaces ColumnError → LuckWanted → LogRecording → Type 0
   ShowsRecording old new result wanted r =
-      ShowsBy r.is_known old new result wanted (r.drawing.diagnostics.names, r.drawing.chart) (lent_of r)
+      ShowsBy r.is_known old new result wanted (r.imported.diagnostics.names, r.imported.chart) (lent_of r)
 
   -- the races of the texts' recording were written, and the warnings are about its chart; or the races are refused.
   -- Nothing was written if the texts are refused, if the log has one end of each message, or if memory ran out
   abbrev pub ShowsLog : S → S → OptionsView → List (List ℕ) → LuckWanted → Result Shown RaceShowError → Type 0
-  ShowsLog old new o texts wanted (Ok shown) = (r : LogRecording) × IsRecordingOf o texts r × (r.drawing.diagnostics.is_one_ended ≡ false)
-      × (shown.diagnostics ≡ r.drawing.diagnostics) × ShowsRecording old new (Ok shown.races) wanted r
+  ShowsLog old new o texts wanted (Ok shown) = (r : LogRecording) × IsRecordingOf o texts r × (r.imported.diagnostics.is_one_ended ≡ false)
+      × (shown.diagnostics ≡ r.imported.diagnostics) × ShowsRecording old new (Ok shown.races) wanted r
   ShowsLog old new o texts wanted (Err (errors.Log error)) = IsRefusalOf o texts error × (new ≡ old)
-  ShowsLog old new o texts wanted (Err (errors.OneEnd diagnostics)) = (r : LogRecording) × IsRecordingOf o texts r × (r.drawing.diagnostics.is_one_ended ≡ true)
-      × (diagnostics ≡ r.drawing.diagnostics) × (new ≡ old)
-  ShowsLog old new o texts wanted (Err (errors.Races error)) = (r : LogRecording) × IsRecordingOf o texts r × (r.drawing.diagnostics.is_one_ended ≡ false)
+  ShowsLog old new o texts wanted (Err (errors.OneEnd diagnostics)) = (r : LogRecording) × IsRecordingOf o texts r × (r.imported.diagnostics.is_one_ended ≡ true)
+      × (diagnostics ≡ r.imported.diagnostics) × (new ≡ old)
+  ShowsLog old new o texts wanted (Err (errors.Races error)) = (r : LogRecording) × IsRecordingOf o texts r × (r.imported.diagnostics.is_one_ended ≡ false)
       × ShowsRecording old new (Err error) wanted r
 
 unfoldable pub unclaimed_note : List ℕ

@@ -1,12 +1,12 @@
 //! The races of another tool's text, by the names of their messages.
 ghost use Rattle.cmd_base.specs.Answers.{Answers};
 ghost use Rattle.diagram_import.specs.Importing.{options_view};
-ghost use Rattle.cmd_races.specs.Imports.Showing.{ShowsDrawing, shown_exit, race_show_error_exit, races_exit};
+ghost use Rattle.cmd_races.specs.Imports.Showing.{ShowsDiagram, shown_exit, race_show_error_exit, races_exit};
 
 use crate::{Wanted, show_chart};
-use cmd_base::columns::FormatError;
+use cmd_base::columns::ColumnError;
 use cmd_base::{Answer, Status, answered};
-use cmd_import_diagram::{Diagnostics, drawing_in, refused_drawing};
+use cmd_import_diagram::{Diagnostics, imported_diagram, refused_diagram};
 use diagram_import::{ImportError, Options};
 use diagram_tool::Tool;
 use std::alloc::Global;
@@ -23,9 +23,9 @@ pub struct Shown {
 #[derive(Debug, Drop)]
 pub enum RaceShowError {
     /// The text is refused, or memory ran out.
-    Drawing(ImportError),
+    Diagram(ImportError),
     /// A name isn't one of the chart's, memory ran out, or a write failed.
-    Races(FormatError),
+    Races(ColumnError),
 }
 
 /// Reads the text and writes the wanted races of its chart. It allocates all memory before it writes the first byte.
@@ -37,16 +37,16 @@ fn show<W: Out>(
     wanted: &Wanted<'_>,
     out: &mut W,
 ) -> Result<Shown, RaceShowError>
-    ensures { ShowsDrawing W.sink out.old out.new tool text.now (options_view options.entry) wanted.now result }
+    ensures { ShowsDiagram W.sink out.old out.new tool text.now (options_view options.entry) wanted.now result }
 {
-    let drawing = match drawing_in(alloc, tool, text, options) {
-        Ok(drawing) => drawing,
-        Err(error) => return Err(RaceShowError::Drawing(error)),
+    let diagram = match imported_diagram(alloc, tool, text, options) {
+        Ok(diagram) => diagram,
+        Err(error) => return Err(RaceShowError::Diagram(error)),
     };
-    match show_chart(alloc, &drawing.names, &drawing.chart, wanted, out) {
+    match show_chart(alloc, &diagram.names, &diagram.chart, wanted, out) {
         Ok(status) => Ok(Shown {
             status,
-            diagnostics: drawing.diagnostics,
+            diagnostics: diagram.diagnostics,
         }),
         Err(error) => Err(RaceShowError::Races(error)),
     }
@@ -75,8 +75,8 @@ impl Answer for RaceShowError {
 
     fn print_diagnostics<V: Out>(&self, err: &mut V) {
         match self {
-            RaceShowError::Drawing(error) => {
-                let _ = refused_drawing(error, err);
+            RaceShowError::Diagram(error) => {
+                let _ = refused_diagram(error, err);
             }
             RaceShowError::Races(error) => error.print_diagnostics(err),
         }
@@ -97,7 +97,7 @@ pub fn races_of<W: Out, V: Out>(
     out: &mut W,
     err: &mut V,
 ) -> u8
-    ensures { Answers (ShowsDrawing W.sink out.old out.new tool text.now (options_view options.entry) wanted.now)
+    ensures { Answers (ShowsDiagram W.sink out.old out.new tool text.now (options_view options.entry) wanted.now)
         races_exit V.sink err.old err.new result }
 {
     answered(&show(alloc, tool, text, options, wanted, out), err)

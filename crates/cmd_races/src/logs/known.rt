@@ -10,12 +10,12 @@ ghost use Rattle.cmd_races.specs.Logs.Showing.{ShowsKnown, ShowsOther, ShowsReco
 
 use crate::{LuckWanted, show_judged, show_unknown};
 use closure::Closure;
-use cmd_base::columns::{FormatError, columns_in};
+use cmd_base::columns::{ColumnError, columns_in};
 use cmd_base::{ProgramError, Status, closure_of};
-use cmd_import_log::{LogDrawing, LogRecording};
+use cmd_import_log::{ImportedLog, LogRecording};
 use race_verdicts::luck::Judge;
 use races_text::judged::{LogVerdicts, RaceSummary};
-use std::alloc::Global;
+use std::alloc::{AllocError, Global};
 use texts::Out;
 
 /// The answer after the races of a log were written.
@@ -32,15 +32,15 @@ fn verdicts_of<'a>(
     alloc: Global,
     recording: &'a LogRecording<'_>,
     closure: &'a Closure<'a>,
-) -> Result<LogVerdicts<'a>, FormatError>
+) -> Result<LogVerdicts<'a>, ColumnError>
     requires { IsRecording closure.now (lent_of recording.now) }
     ensures judge { IfOk result (λ verdicts. verdicts.judge
         ≡ record { lines = closure.now; recording = lent_of recording.now }) }
-    ensures memory { IfErr result (λ error. error ≡ FormatError.Program ProgramError.Memory) }
+    ensures memory { IfErr result (λ error. error ≡ ColumnError.Program ProgramError.Memory) }
 {
     match Judge::of(alloc, recording.recording(), closure) {
         Ok(judge) => Ok(LogVerdicts { judge }),
-        Err(_) => Err(FormatError::Program(ProgramError::Memory)),
+        Err(AllocError) => Err(ColumnError::Program(ProgramError::Memory)),
     }
 }
 
@@ -51,16 +51,16 @@ fn show_known<W: Out>(
     recording: &LogRecording<'_>,
     wanted: &LuckWanted<'_>,
     out: &mut W,
-) -> Result<RaceSummary, FormatError>
-    requires names { length recording.now.drawing.diagnostics.names ≡ length recording.now.drawing.chart }
-    requires keeps { IsRecording recording.now.drawing.chart (lent_of recording.now) }
-    requires numbered { IsNumbered recording.now.drawing.chart }
-    ensures { ShowsJudged W.sink (verdict_in recording.now.drawing.chart (lent_of recording.now)) out.old out.new result
-        wanted.now (recording.now.drawing.diagnostics.names, recording.now.drawing.chart) }
+) -> Result<RaceSummary, ColumnError>
+    requires names { length recording.now.imported.diagnostics.names ≡ length recording.now.imported.chart }
+    requires keeps { IsRecording recording.now.imported.chart (lent_of recording.now) }
+    requires numbered { IsNumbered recording.now.imported.chart }
+    ensures { ShowsJudged W.sink (verdict_in recording.now.imported.chart (lent_of recording.now)) out.old out.new result
+        wanted.now (recording.now.imported.diagnostics.names, recording.now.imported.chart) }
 {
-    let names = &recording.drawing.diagnostics.names;
+    let names = &recording.imported.diagnostics.names;
     let instances = columns_in(alloc, names, wanted.races.only)?;
-    let closure = closure_of(alloc, names, &recording.drawing.chart)?;
+    let closure = closure_of(alloc, names, &recording.imported.chart)?;
     let verdicts = verdicts_of(alloc, recording, &closure)?;
     show_judged(
         alloc,
@@ -103,12 +103,12 @@ fn show_judged_races<W: Out>(
     recording: &LogRecording<'_>,
     wanted: &LuckWanted<'_>,
     out: &mut W,
-) -> Result<ShownRaces, FormatError>
-    requires names { length recording.now.drawing.diagnostics.names ≡ length recording.now.drawing.chart }
-    requires keeps { IsRecording recording.now.drawing.chart (lent_of recording.now) }
-    requires numbered { IsNumbered recording.now.drawing.chart }
+) -> Result<ShownRaces, ColumnError>
+    requires names { length recording.now.imported.diagnostics.names ≡ length recording.now.imported.chart }
+    requires keeps { IsRecording recording.now.imported.chart (lent_of recording.now) }
+    requires numbered { IsNumbered recording.now.imported.chart }
     ensures { ShowsKnown W.sink out.old out.new result wanted.now
-        (recording.now.drawing.diagnostics.names, recording.now.drawing.chart) (lent_of recording.now) }
+        (recording.now.imported.diagnostics.names, recording.now.imported.chart) (lent_of recording.now) }
 {
     match show_known(alloc, recording, wanted, out) {
         Ok(summary) => Ok(shown_by(&summary)),
@@ -119,18 +119,18 @@ fn show_judged_races<W: Out>(
 /// Writes the races of a recording for which luck isn't known, without words.
 fn show_other_races<W: Out>(
     alloc: Global,
-    drawing: &LogDrawing,
+    imported: &ImportedLog,
     wanted: &LuckWanted<'_>,
     out: &mut W,
-) -> Result<ShownRaces, FormatError>
-    requires { length drawing.now.diagnostics.names ≡ length drawing.now.chart }
+) -> Result<ShownRaces, ColumnError>
+    requires { length imported.now.diagnostics.names ≡ length imported.now.chart }
     ensures { ShowsOther W.sink out.old out.new result wanted.now
-        (drawing.now.diagnostics.names, drawing.now.chart) }
+        (imported.now.diagnostics.names, imported.now.chart) }
 {
     match show_unknown(
         alloc,
-        &drawing.diagnostics.names,
-        &drawing.chart,
+        &imported.diagnostics.names,
+        &imported.chart,
         wanted,
         out,
     ) {
@@ -148,15 +148,15 @@ pub(crate) fn show_recording<W: Out>(
     recording: &LogRecording<'_>,
     wanted: &LuckWanted<'_>,
     out: &mut W,
-) -> Result<ShownRaces, FormatError>
-    requires names { length recording.now.drawing.diagnostics.names ≡ length recording.now.drawing.chart }
-    requires keeps { IsRecording recording.now.drawing.chart (lent_of recording.now) }
-    requires numbered { IsNumbered recording.now.drawing.chart }
+) -> Result<ShownRaces, ColumnError>
+    requires names { length recording.now.imported.diagnostics.names ≡ length recording.now.imported.chart }
+    requires keeps { IsRecording recording.now.imported.chart (lent_of recording.now) }
+    requires numbered { IsNumbered recording.now.imported.chart }
     ensures { ShowsRecording W.sink out.old out.new result wanted.now recording.now }
 {
     if recording.is_known {
         show_judged_races(alloc, recording, wanted, out)
     } else {
-        show_other_races(alloc, &recording.drawing, wanted, out)
+        show_other_races(alloc, &recording.imported, wanted, out)
     }
 }

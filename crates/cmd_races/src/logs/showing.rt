@@ -11,7 +11,7 @@ ghost use Rattle.texts.specs.Writing.{Wrote, Adds};
 use crate::LuckWanted;
 use crate::logs::known::{ShownRaces, show_recording};
 use cmd_base::Answer;
-use cmd_base::columns::FormatError;
+use cmd_base::columns::ColumnError;
 use cmd_import_log::answers::{Diagnostics, write_diagnostics};
 use cmd_import_log::{
     LogImportError, LogRecording, Options, recording_in, refused_log, refused_one_end,
@@ -35,7 +35,7 @@ pub enum RaceShowError {
     /// F52: the log has one end of each message, so no race is claimed. The warnings of the import name its hosts.
     OneEnd(Diagnostics),
     /// A name isn't one of the chart's, luck isn't known, memory ran out, or a write failed.
-    Races(FormatError),
+    Races(ColumnError),
 }
 
 /// Reads the log and writes the wanted races of its chart, if some receive takes a send of the log. It allocates all
@@ -54,13 +54,13 @@ fn show<W: Out>(
         Ok(recording) => recording,
         Err(error) => return Err(RaceShowError::Log(error)),
     };
-    if recording.drawing.diagnostics.is_one_ended {
-        return Err(RaceShowError::OneEnd(recording.drawing.diagnostics));
+    if recording.imported.diagnostics.is_one_ended {
+        return Err(RaceShowError::OneEnd(recording.imported.diagnostics));
     }
     match show_recording(alloc, &recording, wanted, out) {
         Ok(races) => Ok(Shown {
             races,
-            diagnostics: recording.drawing.diagnostics,
+            diagnostics: recording.imported.diagnostics,
         }),
         Err(error) => Err(RaceShowError::Races(error)),
     }

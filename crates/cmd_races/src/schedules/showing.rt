@@ -1,8 +1,8 @@
-//! The races of a schedule that were luck.
+//! The races of a schedule that may be luck: those by `any`.
 ghost use Rattle.std.specs.Prelude.{◌≡◌, length, IfOk, IfErr};
 ghost use Rattle.cmd_base.specs.Answers.{Answers};
 ghost use Rattle.cmd_base.specs.Texts.{ComesFrom, OfFile};
-ghost use Rattle.cmd_base.specs.declared.columns.error.FormatError.TheVariants.{Program};
+ghost use Rattle.cmd_base.specs.declared.columns.error.ColumnError.TheVariants.{Program};
 ghost use Rattle.schedule.specs.Outcomes.Outcomes.{IsOutcome};
 ghost use Rattle.cmd_races.specs.Judging.{ShowsJudged};
 ghost use Rattle.cmd_races.specs.Showing.{IsShownOf};
@@ -12,12 +12,12 @@ ghost use Rattle.cmd_races.specs.Schedules.Showing.{run_of, verdict_in, luck_alo
 use crate::schedules::verdicts::Makers;
 use crate::shown_file::ShownFile;
 use crate::{LuckWanted, Wanted, show_judged};
-use cmd_base::columns::{FormatError, columns_in};
+use cmd_base::columns::{ColumnError, columns_in};
 use cmd_base::{ProgramError, Source, Status, Text, answered, closure_of, is_schedule};
 use races_text::judged::RaceSummary;
 use schedule::Schedule;
 use schedule::outcomes::Outcome;
-use std::alloc::Global;
+use std::alloc::{AllocError, Global};
 use texts::Out;
 
 /// The commands that made the receives of a run.
@@ -25,10 +25,10 @@ fn makers_of<'a>(
     alloc: Global,
     schedule: &'a Schedule,
     outcome: &'a Outcome<'_>,
-) -> Result<Makers<'a>, FormatError>
+) -> Result<Makers<'a>, ColumnError>
     requires { IsOutcome schedule.now outcome.now }
     ensures makers { IfOk result (λ makers. makers ≡ run_of schedule.now outcome.now) }
-    ensures memory { IfErr result (λ error. error ≡ FormatError.Program ProgramError.Memory) }
+    ensures memory { IfErr result (λ error. error ≡ ColumnError.Program ProgramError.Memory) }
 {
     match Makers::of(
         alloc,
@@ -37,18 +37,18 @@ fn makers_of<'a>(
         outcome.chart().lines(),
     ) {
         Ok(makers) => Ok(makers),
-        Err(_) => Err(FormatError::Program(ProgramError::Memory)),
+        Err(AllocError) => Err(ColumnError::Program(ProgramError::Memory)),
     }
 }
 
-/// Writes the wanted races of a run that were luck, and returns their summary.
+/// Writes the wanted races of a run by `any`, and returns their summary.
 fn show_lucky<W: Out>(
     alloc: Global,
     schedule: &Schedule,
     outcome: &Outcome<'_>,
     wanted: &Wanted<'_>,
     out: &mut W,
-) -> Result<RaceSummary, FormatError>
+) -> Result<RaceSummary, ColumnError>
     requires { IsOutcome schedule.now outcome.now }
     ensures { ShowsJudged W.sink (verdict_in (run_of schedule.now outcome.now)) out.old out.new result
         (luck_alone wanted.now) (outcome.now.names, outcome.now.chart) }
@@ -79,7 +79,7 @@ fn show_run<W: Out>(
     outcome: &Outcome<'_>,
     wanted: &Wanted<'_>,
     out: &mut W,
-) -> Result<Status, FormatError>
+) -> Result<Status, ColumnError>
     requires { IsOutcome schedule.now outcome.now }
     ensures { ShowsLucky W.sink (run_of schedule.now outcome.now) out.old out.new result wanted.now
         (outcome.now.names, outcome.now.chart) }
@@ -96,13 +96,13 @@ fn show_source<W: Out>(
     source: &Source<'_>,
     wanted: &Wanted<'_>,
     out: &mut W,
-) -> Result<Status, FormatError>
+) -> Result<Status, ColumnError>
     requires { ComesFrom source.now }
     ensures { ShowsRun W.sink out.old out.new result wanted.now source.now }
 {
     match source {
         Source::Run(schedule, outcome) => show_run(alloc, *schedule, outcome, wanted, out),
-        Source::Written(_) => Err(FormatError::Program(ProgramError::Usage)),
+        Source::Written(_) => Err(ColumnError::Program(ProgramError::Usage)),
     }
 }
 
@@ -112,7 +112,7 @@ fn show_text<W: Out>(
     bytes: &[u8],
     wanted: &Wanted<'_>,
     out: &mut W,
-) -> Result<ShownFile, FormatError>
+) -> Result<ShownFile, ColumnError>
     ensures { OfFile Program (IsShownOf (λ source done. ShowsRun W.sink out.old out.new done wanted.now source)) out.old
         out.new bytes.now result }
 {
@@ -131,18 +131,18 @@ fn show_luck<W: Out>(
     bytes: &[u8],
     wanted: &Wanted<'_>,
     out: &mut W,
-) -> Result<ShownFile, FormatError>
+) -> Result<ShownFile, ColumnError>
     ensures { ShowsLuck W.sink out.old out.new wanted.now bytes.now result }
 {
     if is_schedule(bytes) {
         show_text(alloc, bytes, wanted, out)
     } else {
-        Err(FormatError::Program(ProgramError::Usage))
+        Err(ColumnError::Program(ProgramError::Usage))
     }
 }
 
-/// Writes the wanted races of a schedule that were luck to `out`, by the names of their messages. There is a line for
-/// each range of earlier events, or a JSON object for each receive, each with its word. The line of a refusal goes to
+/// Writes the wanted races of a schedule by `any` to `out`, by the names of their messages. There is a line for each
+/// range of earlier events, or a JSON object for each receive, each with the word `any`. The line of a refusal goes to
 /// `err`, or the number of commands that did nothing. The exit status is 1 if a race is shown, 0 if none is, and 2
 /// after a refusal. A file that is no schedule is refused first (G1), then the faults of the text, then F34. Nothing
 /// is written to `out` before a refusal, unless writing to it failed (F24). A failed write to `err` changes nothing.

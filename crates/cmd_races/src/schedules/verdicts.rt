@@ -137,7 +137,7 @@ impl<'a> Makers<'a> {
         if self.is_behind(receive, earlier) {
             return Verdict::BehindAnother;
         }
-        Verdict::Luck
+        Verdict::Any
     }
 
     /// The verdict of a receive and an earlier event of its line.

@@ -1,7 +1,7 @@
 -- The notes and dividers of another tool's text, and their places.
 use Rattle.std.specs.Prelude.{ℕ, List, [], ◌++◌, length, Option, None, Some, Result, Ok, Err, if◌then◌else◌}
 use Rattle.diagrams.specs.Diagrams.{DiagramView}
-use Rattle.diagrams.specs.Drawing.{has_no_chart}
+use Rattle.diagrams.specs.Building.{has_no_chart}
 use Rattle.diagram_import.specs.Importing.{OptionsView, behind_mark}
 use Rattle.diagram_import.specs.Readers.{tool_in}
 use Rattle.diagram_import.specs.Reading.{diagram_of_text}

@@ -3,7 +3,7 @@ ghost use Rattle.std.specs.Prelude.{◌≡◌, ◌++◌, false, length, map, IfO
 ghost use Rattle.diagram_import.specs.Importing.{options_view};
 ghost use Rattle.diagram_import.specs.Readers.{tool_in};
 ghost use Rattle.diagrams.specs.Diagrams.{diagram_view};
-ghost use Rattle.diagrams.specs.Drawing.{has_no_chart};
+ghost use Rattle.diagrams.specs.Building.{has_no_chart};
 ghost use Rattle.diagram_statements.specs.declared.to_diagram.labels.Breaks.TheVariants.{Mermaid, PlantUml};
 ghost use Rattle.chart_layout.specs.Margin.Notes.{note_view};
 ghost use Rattle.diagram_import.specs.Margin.Remarks.{remark_view};

@@ -2,7 +2,7 @@
 use Rattle.std.proofs.Common.{◌≡◌, ℕ, ◌<◌, ◌≤◌, true, false, List, [], ◌∷◌, length, map, refl, sym, arith}
 use Rattle.diagrams.specs.Collecting.{CollectedView, collected}
 use Rattle.diagrams.specs.Diagrams.{ParticipantView, DiagramView}
-use Rattle.diagrams.specs.Drawing.{has_no_chart}
+use Rattle.diagrams.specs.Building.{has_no_chart}
 use Rattle.diagrams.specs.Losing.{kept}
 use Rattle.diagrams.specs.Naming.{names_from}
 use Rattle.diagrams.specs.declared.left_out.LeftOut.{LeftOut}

@@ -2,7 +2,7 @@
 use Rattle.std.specs.Prelude.{ℕ, List, [], ◌∷◌, length, Result, Ok, Err, if◌then◌else◌}
 use Rattle.diagrams.specs.Collecting.{CollectedView, collected}
 use Rattle.diagrams.specs.Diagrams.{DiagramView, ParticipantView}
-use Rattle.diagrams.specs.Drawing.{has_no_chart}
+use Rattle.diagrams.specs.Building.{has_no_chart}
 use Rattle.diagrams.specs.Losing.{kept}
 use Rattle.diagrams.specs.Naming.{names_from}
 use Rattle.diagrams.specs.declared.left_out.LeftOut.{LeftOut}

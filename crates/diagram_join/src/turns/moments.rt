@@ -1,5 +1,5 @@
 //! The events of messages by their moments.
-ghost use Rattle.std.specs.Prelude.{◌≡◌, ◌+◌, ◌*◌, ◌++◌, List, IfOk, OnOk};
+ghost use Rattle.std.specs.Prelude.{◌≡◌, ◌++◌, List, IfOk, OnOk};
 ghost use Rattle.std.specs.List.{flat_map};
 ghost use Rattle.diagrams.specs.declared.message.Message.{Message};
 ghost use Rattle.diagram_join.specs.Turns.Sends.{AreSends};
@@ -14,49 +14,33 @@ use std::alloc::{AllocError, Global};
 #[derive(Clone, Copy, Debug)]
 pub(crate) struct Moment {
     /// Twice its row, and one more for a receive that comes after all sends of the row.
-    pub turn: u64,
+    pub turn: u128,
     pub instance: InstanceNo,
 }
 
-/// Twice a row. F6 if it doesn't fit.
-fn doubled(row: u64) -> Result<u64, AllocError>
-    ensures { IfOk result (λ turn. turn ≡ 2 * row) }
+/// The moment of a message's send.
+fn sent(message: &Message) -> Moment
+    ensures { result ≡ sent message.now }
 {
-    match row.checked_mul(2) {
-        Some(turn) => Ok(turn),
-        None => Err(AllocError),
+    Moment {
+        turn: 2 * u128::from(message.begins),
+        instance: message.sender,
     }
 }
 
-/// The moment of a message's send.
-fn sent(message: &Message) -> Result<Moment, AllocError>
-    ensures { IfOk result (λ moment. moment ≡ sent message.now) }
-{
-    let turn = doubled(message.begins)?;
-    Ok(Moment {
-        turn,
-        instance: message.sender,
-    })
-}
-
 /// The moment of a message's receive.
-fn received(sends: &Sends, message: &Message) -> Result<Moment, AllocError>
-    ensures { (all : List Message) → AreSends sends.now.spots.entries all
-        → IfOk result (λ moment. moment ≡ received all message.now) }
+fn received(sends: &Sends, message: &Message) -> Moment
+    ensures { (all : List Message) → AreSends sends.now.spots.entries all → result ≡ received all message.now }
 {
-    let row = doubled(message.ends)?;
     let behind = if sends.has(message.ends, message.receiver) {
         1
     } else {
         0
     };
-    let Some(turn) = row.checked_add(behind) else {
-        return Err(AllocError);
-    };
-    Ok(Moment {
-        turn,
+    Moment {
+        turn: 2 * u128::from(message.ends) + behind,
         instance: message.receiver,
-    })
+    }
 }
 
 /// Appends the events of a message.
@@ -68,9 +52,9 @@ fn add_moments(
     ensures { (all : List Message) → AreSends sends.now.spots.entries all
         → OnOk result (moments.new.items ≡ moments.old.items ++ moments_of all message.now) }
 {
-    moments.push(sent(message)?)?;
+    moments.push(sent(message))?;
     if !message.is_lost {
-        moments.push(received(sends, message)?)?;
+        moments.push(received(sends, message))?;
     }
     Ok(())
 }

@@ -1,5 +1,5 @@
 //! The ends of messages.
-ghost use Rattle.std.specs.Prelude.{◌≡◌, ◌+◌, ◌*◌, ◌++◌, IfOk, OnOk};
+ghost use Rattle.std.specs.Prelude.{◌≡◌, ◌++◌, IfOk, OnOk};
 ghost use Rattle.diagrams.specs.Messages.Turns.{send_end, receive_end, ends_of, all_ends, own_ends, in_turn};
 
 use crate::messages::message::Named;
@@ -10,7 +10,7 @@ use std::alloc::{AllocError, Global};
 #[derive(Clone, Copy, Debug)]
 pub struct End {
     /// Twice its row, and one more for a receive: a row's sends come before its receives.
-    pub turn: u64,
+    pub turn: u128,
     pub instance: InstanceNo,
     /// The instance at the other end.
     pub partner: InstanceNo,
@@ -18,48 +18,39 @@ pub struct End {
     pub name: Name,
 }
 
-/// The send of a message. F6 if its turn doesn't fit.
-fn send_end(message: &Named) -> Result<End, AllocError>
-    ensures { IfOk result (λ end. end ≡ send_end message.now) }
+/// The send of a message.
+fn send_end(message: &Named) -> End
+    ensures { result ≡ send_end message.now }
 {
-    let Some(turn) = message.begins.checked_mul(2) else {
-        return Err(AllocError);
-    };
-    Ok(End {
-        turn,
+    End {
+        turn: 2 * u128::from(message.begins),
         instance: message.sender,
         partner: message.receiver,
         sends: true,
         name: message.name,
-    })
+    }
 }
 
-/// The receive of a message. F6 if its turn doesn't fit.
-fn receive_end(message: &Named) -> Result<End, AllocError>
-    ensures { IfOk result (λ end. end ≡ receive_end message.now) }
+/// The receive of a message.
+fn receive_end(message: &Named) -> End
+    ensures { result ≡ receive_end message.now }
 {
-    let Some(row) = message.ends.checked_mul(2) else {
-        return Err(AllocError);
-    };
-    let Some(turn) = row.checked_add(1) else {
-        return Err(AllocError);
-    };
-    Ok(End {
-        turn,
+    End {
+        turn: 2 * u128::from(message.ends) + 1,
         instance: message.receiver,
         partner: message.sender,
         sends: false,
         name: message.name,
-    })
+    }
 }
 
 /// Appends the ends of a message.
 fn add_ends(ends: &mut Vec<End>, message: &Named) -> Result<(), AllocError>
     ensures { OnOk result (ends.new.items ≡ ends.old.items ++ ends_of message.now) }
 {
-    ends.push(send_end(message)?)?;
+    ends.push(send_end(message))?;
     if !message.is_lost {
-        ends.push(receive_end(message)?)?;
+        ends.push(receive_end(message))?;
     }
     Ok(())
 }

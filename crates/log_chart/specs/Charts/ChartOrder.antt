@@ -4,12 +4,12 @@ use Rattle.std.specs.Prelude.{◌≡◌, ℕ, List, Some}
 use Rattle.chart.specs.Charts.{Place, chart_lines}
 use Rattle.chart.specs.Events.{ith}
 use Rattle.chart.specs.Order.{Before}
-use Rattle.log_chart.specs.Charts.Drawing.{IsLogChart}
+use Rattle.log_chart.specs.Charts.Building.{IsLogChart}
 use Rattle.log_chart.specs.Cycles.Freeing.{HaveLanes}
 use Rattle.log_chart.specs.Cycles.Order.{Comes}
 use Rattle.log_chart.specs.HostLines.{kept}
 use Rattle.log_chart.specs.Laws.{line_of}
-use Rattle.log_chart.specs.declared.charts.drawing.LogChart.{LogChart}
+use Rattle.log_chart.specs.declared.charts.building.LogChart.{LogChart}
 use Rattle.log_chart.specs.declared.entry.Entry.{Entry}
 use Rattle.log_chart.specs.declared.item.Item.{Item}
 

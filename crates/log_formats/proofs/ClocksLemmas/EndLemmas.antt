@@ -70,11 +70,11 @@ pub moments_next : {A : Type 0} (view : A → MomentView) (xs : List A) (at : �
     → new ≡ with_ends (map view xs) (view x) got given old
     → with_all_moments (map view xs) all (at + 1) (map view (drop (at + 1) xs)) new ≡ with_all_moments (map view xs) all at (map view (drop at xs)) old
 moments_next view xs at x within read all received sent got given old new receives sends got_is given_is new_is =
-    let said : new ≡ with_ends (map view xs) (view x) (ends_at Receive at all) (ends_at Send at all) old =
+    let ended : new ≡ with_ends (map view xs) (view x) (ends_at Receive at all) (ends_at Send at all) old =
     new_is ∙ ap (λ l. with_ends (map view xs) (view x) l given old) (got_is ∙ receives.each at within)
     ∙ ap (λ l. with_ends (map view xs) (view x) (ends_at Receive at all) l old) (given_is ∙ sends.each at within) in
     let whole : drop at xs ≡ x ∷ drop (at + 1) xs = drop_more xs at x within ∙ ap (λ y. y ∷ drop (at + 1) xs) (sym read) in
-    ap (λ r. with_all_moments (map view xs) all (at + 1) (map view (drop (at + 1) xs)) r) said ∙ sym (ap (λ l. with_all_moments (map view xs) all at (map view l) old) whole)
+    ap (λ r. with_all_moments (map view xs) all (at + 1) (map view (drop (at + 1) xs)) r) ended ∙ sym (ap (λ l. with_all_moments (map view xs) all at (map view l) old) whole)
 
 -- the list of a place
 pub list_is : {A : Type 0} (view : A → List HeardView) (lists : List A) (at : ℕ) (x : A) (got : List HeardView) → at < length lists → x ≡ get_or lists at x → got ≡ view x → got ≡ get_or (map view lists) at []

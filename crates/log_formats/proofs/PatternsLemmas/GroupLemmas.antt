@@ -4,8 +4,9 @@ use Rattle.std.specs.Prelude.{unwrap_or}
 use Rattle.std.specs.List.{position_or_len}
 use Rattle.log_lines.specs.Events.{Other}
 use Rattle.std.proofs.lemmas.List.{length-map}
-use Rattle.log_formats.specs.Patterns.Found.{located, id_of, has_part, host_event, said_of, found_by}
+use Rattle.log_formats.specs.Patterns.Found.{located, id_of, has_part, host_event, line_meaning, found_by}
 use Rattle.log_formats.specs.Patterns.Groups.{is_named, named_at, group_in, AreAmong, IsAmongIfThere}
+use Rattle.log_formats.specs.Patterns.Unread.{unread_in}
 use Rattle.log_formats.specs.declared.patterns.groups.EventGroups.{EventGroups}
 use Rattle.log_formats.specs.declared.patterns.groups.Groups.{Groups}
 use Rattle.log_formats.specs.declared.patterns.groups.Groups.TheVariants.{Event, Capture, Clock}
@@ -43,6 +44,12 @@ module _ (window : List ℕ) (f g : ℕ → Option (ℕ × ℕ)) (count : ℕ) (
   -- a match gives the same if its groups have the same spans
   pub found_same : (groups : Groups) → AreAmong count groups → found_by (located window f) groups ≡ found_by (located window g) groups
   unfolding found_by
-  found_same (Event e) a = ap (λ x. unwrap_or (option_map said_of x) Other) (event_same e a)
+  found_same (Event e) a = ap (λ x. unwrap_or (option_map line_meaning x) Other) (event_same e a)
   found_same (Capture e) a = rw (same e.source a.0.0 a.0.1, same e.destination a.1.0 a.1.1, same e.name a.2.0 a.2.1, id_same e.id a.3) refl
   found_same (Clock e) a = rw (same e.host a.0.0 a.0.1, same e.clock a.1.0 a.1.1, same e.event a.2.0 a.2.1) refl
+
+  -- it isn't read for the same reason
+  pub unread_same : (groups : Groups) → AreAmong count groups → unread_in groups (located window f) ≡ unread_in groups (located window g)
+  unread_same (Event e) a = rw (same e.host a.0.0 a.0.1, same e.direction a.1.0 a.1.1, same e.peer a.2.0 a.2.1, same e.name a.3.0 a.3.1, part_same e.arrive a.6) refl
+  unread_same (Capture e) a = rw (same e.source a.0.0 a.0.1, same e.destination a.1.0 a.1.1, same e.name a.2.0 a.2.1) refl
+  unread_same (Clock e) a = rw (same e.host a.0.0 a.0.1, same e.clock a.1.0 a.1.1, same e.event a.2.0 a.2.1) refl

@@ -17,9 +17,9 @@ use Rattle.log_lines.specs.declared.plain.Direction.{Direction}
 use Rattle.log_lines.specs.declared.plain.Direction.TheVariants.{Sends, Receives, Arrives, Unknown}
 use Rattle.log_lines.specs.declared.range.LineRange.{LineRange}
 use Rattle.log_lines.proofs.TakesLemmas.ObservationLemmas.{AreObserved, none_observed, message_observed, pairs_observed}
-use Rattle.log_formats.specs.Patterns.Found.{located, HostEventView, host_event, by_direction, said_of, found_by}
-use Rattle.log_formats.specs.Patterns.Observing.{takes_words, with_directed, with_told, with_told_lines, with_told_texts, pattern_observed}
-use Rattle.log_formats.specs.Patterns.PatternReading.{window_of, alone, line_at, read_as, match_step, matched, event_in, told, event_at, pattern_step, pattern_event, pattern_read}
+use Rattle.log_formats.specs.Patterns.Found.{located, HostEventView, host_event, by_direction, line_meaning, found_by}
+use Rattle.log_formats.specs.Patterns.Observing.{takes_words, with_directed, with_event, with_line_events, with_text_events, pattern_observed}
+use Rattle.log_formats.specs.Patterns.PatternReading.{window_of, alone, line_at, read_as, match_step, matched, event_in, event_matched, event_at, pattern_step, pattern_event, pattern_read}
 use Rattle.log_formats.specs.declared.patterns.groups.EventGroups.{EventGroups}
 use Rattle.log_formats.specs.declared.patterns.groups.Groups.{Groups}
 use Rattle.log_formats.specs.declared.patterns.groups.Groups.TheVariants.{Event, Capture, Clock}
@@ -44,24 +44,24 @@ module _ (peers : List PeerView) (place : Place) (first : List ℕ) (r : ReadVie
   directed_observed Arrives e touched = record { count = observed.count; rising = observed.rising; below = observed.below }
   directed_observed Unknown e touched = alone_observed
 
-  told_observed : (touched : ℕ) (e : Option HostEventView)
-      → AreObserved peers (with_line place (read_as first (unwrap_or (option_map said_of e) Other) touched).says r).logged (with_told peers e t)
-  told_observed touched None = alone_observed
-  told_observed touched (Some e) = directed_observed e.direction e touched
+  match_observed : (touched : ℕ) (e : Option HostEventView)
+      → AreObserved peers (with_line place (read_as first (unwrap_or (option_map line_meaning e) Other) touched).says r).logged (with_event peers e t)
+  match_observed touched None = alone_observed
+  match_observed touched (Some e) = directed_observed e.direction e touched
 
   here_observed : (g : EventGroups) (window : List ℕ) (m : Match)
-      → AreObserved peers (with_line place (match_step (Event g) window first (group_of m) (span m).1).says r).logged (with_told peers (host_event (located window (group_of m)) g) t)
+      → AreObserved peers (with_line place (match_step (Event g) window first (group_of m) (span m).1).says r).logged (with_event peers (host_event (located window (group_of m)) g) t)
   unfolding found_by
-  here_observed g window m = told_observed (line_at window ((span m).1 - 1)) (host_event (located window (group_of m)) g)
+  here_observed g window m = match_observed (line_at window ((span m).1 - 1)) (host_event (located window (group_of m)) g)
 
   event_observed : (g : EventGroups) (window : List ℕ) (m : Option Match)
-      → AreObserved peers (with_line place (matched (Event g) window first m).says r).logged (with_told peers (told (Event g) window m) t)
+      → AreObserved peers (with_line place (matched (Event g) window first m).says r).logged (with_event peers (event_matched (Event g) window m) t)
   event_observed g window None = alone_observed
   event_observed g window (Some m) = go (line_at window (span m).0 == 0)
     where
       go : (here : Bool)
           → AreObserved peers (with_line place (cond here (match_step (Event g) window first (group_of m) (span m).1) (alone first)).says r).logged
-          (with_told peers (cond here (host_event (located window (group_of m)) g) None) t)
+          (with_event peers (cond here (host_event (located window (group_of m)) g) None) t)
       go true = here_observed g window m
       go false = alone_observed
 
@@ -73,24 +73,24 @@ module _ (peers : List PeerView) (g : EventGroups) (more : ℕ) (pattern : Re) (
   events = pattern_event (Event g) more pattern
 
   step_observed : (place : Place) (n taken : ℕ) (lines : List (List ℕ)) (r : ReadView) (t : ObservationsView) → AreObserved peers r.logged t
-      → AreObserved peers (with_line place (step_at says range n taken lines).says r).logged (with_told peers (event_at events range n taken lines) t)
+      → AreObserved peers (with_line place (step_at says range n taken lines).says r).logged (with_event peers (event_at events range n taken lines) t)
   unfolding pattern_step pattern_event
   step_observed place n (suc taken) lines r t observed = observed
   step_observed place n zero lines r t observed = go (is_within range n)
     where
       go : (within : Bool)
-          → AreObserved peers (with_line place (cond within (says lines) (record { says = Nothing; takes = 0 })).says r).logged (with_told peers (cond within (events lines) None) t)
+          → AreObserved peers (with_line place (cond within (says lines) (record { says = Nothing; takes = 0 })).says r).logged (with_event peers (cond within (events lines) None) t)
       go true = event_observed peers place (window_of 0 lines) r t observed g (window_of more lines) (find pattern (window_of more lines) 0)
       go false = observed
 
   lines_observed : (text n taken : ℕ) (lines : List (List ℕ)) (r : ReadView) (t : ObservationsView) → AreObserved peers r.logged t
-      → AreObserved peers (with_windows says range text n taken lines r).logged (with_told_lines peers says events range n taken lines t)
+      → AreObserved peers (with_windows says range text n taken lines r).logged (with_line_events peers says events range n taken lines t)
   lines_observed text n taken [] r t observed = observed
   lines_observed text n taken (line ∷ lines) r t observed =
       lines_observed text (n + 1) (step_at says range n taken (line ∷ lines)).takes lines _ _ (step_observed (record { text = text; line = n }) n taken (line ∷ lines) r t observed)
 
   texts_observed : (n : ℕ) (texts : List (List ℕ)) (r : ReadView) (t : ObservationsView) → AreObserved peers r.logged t
-      → AreObserved peers (with_window_texts says range n texts r).logged (with_told_texts peers says events range texts t)
+      → AreObserved peers (with_window_texts says range n texts r).logged (with_text_events peers says events range texts t)
   texts_observed n [] r t observed = observed
   texts_observed n (text ∷ texts) r t observed = texts_observed (n + 1) texts _ _ (lines_observed n 1 0 (all_lines text) r t observed)
 
@@ -108,20 +108,20 @@ module _ (peers : List PeerView) (says : List (List ℕ) → StepView) (events :
       go true = none lines
       go false = refl
 
-  lines_told : (n taken : ℕ) (lines : List (List ℕ)) (t : ObservationsView) → with_told_lines peers says events range n taken lines t ≡ t
-  lines_told n taken [] t = refl
-  lines_told n taken (line ∷ lines) t =
-      ap (λ e. with_told_lines peers says events range (n + 1) (step_at says range n taken (line ∷ lines)).takes lines (with_told peers e t)) (none_at n taken (line ∷ lines))
-      ∙ lines_told (n + 1) (step_at says range n taken (line ∷ lines)).takes lines t
+  no_line_events : (n taken : ℕ) (lines : List (List ℕ)) (t : ObservationsView) → with_line_events peers says events range n taken lines t ≡ t
+  no_line_events n taken [] t = refl
+  no_line_events n taken (line ∷ lines) t =
+      ap (λ e. with_line_events peers says events range (n + 1) (step_at says range n taken (line ∷ lines)).takes lines (with_event peers e t)) (none_at n taken (line ∷ lines))
+      ∙ no_line_events (n + 1) (step_at says range n taken (line ∷ lines)).takes lines t
 
-  texts_told : (texts : List (List ℕ)) (t : ObservationsView) → with_told_texts peers says events range texts t ≡ t
-  texts_told [] t = refl
-  texts_told (text ∷ texts) t = ap (λ u. with_told_texts peers says events range texts u) (lines_told 1 0 (all_lines text) t) ∙ texts_told texts t
+  no_text_events : (texts : List (List ℕ)) (t : ObservationsView) → with_text_events peers says events range texts t ≡ t
+  no_text_events [] t = refl
+  no_text_events (text ∷ texts) t = ap (λ u. with_text_events peers says events range texts u) (no_line_events 1 0 (all_lines text) t) ∙ no_text_events texts t
 
 module _ (groups : Groups) (none : (bytes : ℕ → Option (List ℕ)) → event_in groups bytes ≡ None) (more : ℕ) (pattern : Re) where
-  never_told : (window : List ℕ) (m : Option Match) → told groups window m ≡ None
-  never_told window None = refl
-  never_told window (Some m) = go (line_at window (span m).0 == 0)
+  never_matched : (window : List ℕ) (m : Option Match) → event_matched groups window m ≡ None
+  never_matched window None = refl
+  never_matched window (Some m) = go (line_at window (span m).0 == 0)
     where
       go : (here : Bool) → cond here (event_in groups (located window (group_of m))) None ≡ None
       go true = none (located window (group_of m))
@@ -129,15 +129,15 @@ module _ (groups : Groups) (none : (bytes : ℕ → Option (List ℕ)) → event
 
   no_event : (lines : List (List ℕ)) → pattern_event groups more pattern lines ≡ None
   unfolding pattern_event
-  no_event lines = never_told (window_of more lines) (find pattern (window_of more lines) 0)
+  no_event lines = never_matched (window_of more lines) (find pattern (window_of more lines) 0)
 
-  none_told : (peers : List PeerView) (range : LineRange) (texts : List (List ℕ)) → pattern_observed groups more pattern peers range texts ≡ no_observations
+  nothing_observed : (peers : List PeerView) (range : LineRange) (texts : List (List ℕ)) → pattern_observed groups more pattern peers range texts ≡ no_observations
   unfolding pattern_observed
-  none_told peers range texts = texts_told peers (pattern_step groups more pattern) (pattern_event groups more pattern) no_event range texts no_observations
+  nothing_observed peers range texts = no_text_events peers (pattern_step groups more pattern) (pattern_event groups more pattern) no_event range texts no_observations
 
   none_pairs : (peers : List PeerView) (range : LineRange) (texts : List (List ℕ)) → AllPairs (λ a b. a.line ≤ b.line) (pattern_observed groups more pattern peers range texts).taken
   none_pairs peers range texts =
-      subst (λ (t : ObservationsView). AllPairs (λ a b. a.line ≤ b.line) t.taken) (sym (none_told peers range texts)) (λ i j d before within. absurd (omega (arith, within)))
+      subst (λ (t : ObservationsView). AllPairs (λ a b. a.line ≤ b.line) t.taken) (sym (nothing_observed peers range texts)) (λ i j d before within. absurd (omega (arith, within)))
 
 -- what would have been taken has lines of the log, in their order
 pub observed_pairs : (groups : Groups) (more : ℕ) (pattern : Re) (peers : List PeerView) (range : LineRange) (texts : List (List ℕ))

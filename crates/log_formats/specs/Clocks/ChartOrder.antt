@@ -3,10 +3,10 @@ use Rattle.std.specs.Prelude.{◌≡◌, ℕ, ◌<◌, List, Option, Some, slice
 use Rattle.chart.specs.Charts.{Place, chart_lines}
 use Rattle.chart.specs.Order.{Before}
 use Rattle.log_chart.specs.Charts.ChartOrder.{IsLogged}
-use Rattle.log_chart.specs.Charts.Drawing.{IsLogChart}
+use Rattle.log_chart.specs.Charts.Building.{IsLogChart}
 use Rattle.log_chart.specs.Cycles.Freeing.{HaveLanes}
 use Rattle.log_chart.specs.Entries.{is_send}
-use Rattle.log_chart.specs.declared.charts.drawing.LogChart.{LogChart}
+use Rattle.log_chart.specs.declared.charts.building.LogChart.{LogChart}
 use Rattle.log_chart.specs.declared.entry.Entry.{Entry}
 use Rattle.log_lines.specs.Events.{LoggedEventView}
 use Rattle.log_lines.specs.Names.Naming.{sends}

@@ -40,7 +40,7 @@ pub record IsExpression (text : List ℕ) (e : Expression) : Type 0 where
 -- after the last one
 pub record IsUnreadable (text : List ℕ) (kind : ErrorKind) (place : ℕ) : Type 0 where
   pub refused : Refuses own_config text kind
-  pub told : kind ≢ OutOfMemory
+  pub not_memory : kind ≢ OutOfMemory
   pub start : ℕ
   pub boundary : IsCharBoundary text start
   pub counted : place ≡ start + 1

@@ -76,11 +76,11 @@ host_event bytes g = do
   Some (record { host = host; direction = direction; peer = peer; name = name; id = id_of bytes g.id; takes = id_of bytes g.takes })
 
 -- what a line gives for it
-abbrev pub said_of : HostEventView → LineView
-said_of e = by_direction e.direction (record { host = e.host; act = Send; peer = e.peer; name = e.name; id = e.id })
+abbrev pub line_meaning : HostEventView → LineView
+line_meaning e = by_direction e.direction (record { host = e.host; act = Send; peer = e.peer; name = e.name; id = e.id })
 
 abbrev pub event_found : (ℕ → Option (List ℕ)) → EventGroups → Option LineView
-event_found bytes g = option_map said_of (host_event bytes g)
+event_found bytes g = option_map line_meaning (host_event bytes g)
 
 abbrev pub captured_found : (ℕ → Option (List ℕ)) → CaptureGroups → Option LineView
 captured_found bytes g = do

@@ -28,24 +28,24 @@ with_directed peers Arrives e t = with_arrival (host_of peers e.host) (host_of p
 with_directed peers Unknown e t = t
 
 -- the observations, with what a match gives, if it gives something of a host
-abbrev pub with_told : List PeerView → Option HostEventView → ObservationsView → ObservationsView
-with_told peers None t = t
-with_told peers (Some e) t = with_directed peers e.direction e t
+abbrev pub with_event : List PeerView → Option HostEventView → ObservationsView → ObservationsView
+with_event peers None t = t
+with_event peers (Some e) t = with_directed peers e.direction e t
 
 -- the observations, with these lines of a text: the first has this number, and the first taken lines belong to an
 -- earlier match
-abbrev pub with_told_lines : List PeerView → (List (List ℕ) → StepView) → (List (List ℕ) → Option HostEventView) → LineRange → ℕ → ℕ → List (List ℕ) → ObservationsView → ObservationsView
-with_told_lines peers says events range n taken [] t = t
-with_told_lines peers says events range n taken (line ∷ lines) t =
-    with_told_lines peers says events range (n + 1) (step_at says range n taken (line ∷ lines)).takes lines (with_told peers (event_at events range n taken (line ∷ lines)) t)
+abbrev pub with_line_events : List PeerView → (List (List ℕ) → StepView) → (List (List ℕ) → Option HostEventView) → LineRange → ℕ → ℕ → List (List ℕ) → ObservationsView → ObservationsView
+with_line_events peers says events range n taken [] t = t
+with_line_events peers says events range n taken (line ∷ lines) t =
+    with_line_events peers says events range (n + 1) (step_at says range n taken (line ∷ lines)).takes lines (with_event peers (event_at events range n taken (line ∷ lines)) t)
 
 -- the observations, with these texts
-abbrev pub with_told_texts : List PeerView → (List (List ℕ) → StepView) → (List (List ℕ) → Option HostEventView) → LineRange → List (List ℕ) → ObservationsView → ObservationsView
-with_told_texts peers says events range [] t = t
-with_told_texts peers says events range (text ∷ texts) t =
-    with_told_texts peers says events range texts (with_told_lines peers says events range 1 0 (all_lines text) t)
+abbrev pub with_text_events : List PeerView → (List (List ℕ) → StepView) → (List (List ℕ) → Option HostEventView) → LineRange → List (List ℕ) → ObservationsView → ObservationsView
+with_text_events peers says events range [] t = t
+with_text_events peers says events range (text ∷ texts) t =
+    with_text_events peers says events range texts (with_line_events peers says events range 1 0 (all_lines text) t)
 
 -- the observations of the texts
 unfoldable pub pattern_observed : Groups → ℕ → Re → List PeerView → LineRange → List (List ℕ) → ObservationsView
 pattern_observed groups more pattern peers range texts =
-    with_told_texts peers (pattern_step groups more pattern) (pattern_event groups more pattern) range texts no_observations
+    with_text_events peers (pattern_step groups more pattern) (pattern_event groups more pattern) range texts no_observations

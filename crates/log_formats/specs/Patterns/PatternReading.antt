@@ -54,9 +54,9 @@ event_in (groups.Capture g) bytes = None
 event_in (groups.Clock g) bytes = None
 
 -- what the first line gives of a host, by the match that was found in it and the lines after it
-abbrev pub told : Groups → List ℕ → Option Match → Option HostEventView
-told groups window None = None
-told groups window (Some m) = if line_at window (span m).0 == 0 then event_in groups (located window (group_of m)) else None
+abbrev pub event_matched : Groups → List ℕ → Option Match → Option HostEventView
+event_matched groups window None = None
+event_matched groups window (Some m) = if line_at window (span m).0 == 0 then event_in groups (located window (group_of m)) else None
 
 -- what the first line gives by the expression, whose first match is searched in it and more further lines
 unfoldable pub pattern_step : Groups → ℕ → Re → List (List ℕ) → StepView
@@ -64,7 +64,7 @@ pattern_step groups more pattern lines = matched groups (window_of more lines) (
 
 -- what it gives of a host
 unfoldable pub pattern_event : Groups → ℕ → Re → List (List ℕ) → Option HostEventView
-pattern_event groups more pattern lines = told groups (window_of more lines) (find pattern (window_of more lines) 0)
+pattern_event groups more pattern lines = event_matched groups (window_of more lines) (find pattern (window_of more lines) 0)
 
 -- what the line with this number gives of a host, the first of these, if the first taken lines belong to an earlier
 -- match

@@ -2,7 +2,7 @@
 ghost use Rattle.std.specs.Prelude.{◌≡◌, option_map};
 ghost use Rattle.regex.specs.Locations.{location};
 ghost use Rattle.log_lines.specs.Events.{line_view, event_view};
-ghost use Rattle.log_formats.specs.Patterns.Found.{located, by_direction, has_part, direction_found, host_event_view, host_event, said_of, event_found};
+ghost use Rattle.log_formats.specs.Patterns.Found.{located, by_direction, has_part, direction_found, host_event_view, host_event, line_meaning, event_found};
 
 use crate::patterns::found::{group_bytes, id_of};
 use crate::patterns::groups::EventGroups;
@@ -22,7 +22,7 @@ pub(crate) struct HostEvent<'a> {
 }
 
 /// Whether an optional group takes part in the match.
-fn has_part(locations: &CaptureLocations, window: &[u8], group: Option<usize>) -> bool
+pub(crate) fn has_part(locations: &CaptureLocations, window: &[u8], group: Option<usize>) -> bool
     ensures { result ≡ has_part (located window.now (location locations.now)) group }
 {
     match group {
@@ -35,7 +35,7 @@ fn has_part(locations: &CaptureLocations, window: &[u8], group: Option<usize>) -
 }
 
 /// The direction of a match: an arrival if the group `arrive` takes part, and otherwise by the word for the direction.
-fn direction_found(
+pub(crate) fn direction_found(
     locations: &CaptureLocations,
     window: &[u8],
     groups: EventGroups,
@@ -98,17 +98,17 @@ fn by_direction<'a>(direction: Direction, event: Event<'a>) -> LineSays<'a>
 }
 
 /// What a line gives for what a match gives of a host.
-fn said_of<'a>(event: HostEvent<'a>) -> LineSays<'a>
-    ensures { line_view result ≡ said_of (host_event_view event.entry) }
+fn line_meaning<'a>(event: HostEvent<'a>) -> LineSays<'a>
+    ensures { line_view result ≡ line_meaning (host_event_view event.entry) }
 {
-    let said = Event {
+    let line_event = Event {
         host: event.host,
         act: Act::Send,
         peer: event.peer,
         name: event.name,
         id: event.id,
     };
-    by_direction(event.direction, said)
+    by_direction(event.direction, line_event)
 }
 
 pub(crate) fn event_found<'a>(
@@ -119,5 +119,5 @@ pub(crate) fn event_found<'a>(
     ensures { option_map line_view result ≡ event_found (located window.now (location locations.now)) groups }
 {
     let event = host_event(locations, window, groups)?;
-    Some(said_of(event))
+    Some(line_meaning(event))
 }

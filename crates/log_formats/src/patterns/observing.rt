@@ -8,7 +8,7 @@ ghost use Rattle.log_lines.specs.Takes.Observations.{observations_view, with_mes
 ghost use Rattle.log_formats.specs.Patterns.Found.{host_event_view};
 ghost use Rattle.log_formats.specs.Patterns.Groups.{AreAmong};
 ghost use Rattle.log_lines.specs.Takes.Patterns.{short_patterns};
-ghost use Rattle.log_formats.specs.Patterns.Observing.{takes_words, with_directed, with_told, with_told_lines, pattern_observed};
+ghost use Rattle.log_formats.specs.Patterns.Observing.{takes_words, with_directed, with_event, with_line_events, pattern_observed};
 ghost use Rattle.log_formats.specs.Patterns.PatternReading.{pattern_step, pattern_event};
 
 use crate::patterns::expression::Expression;
@@ -62,14 +62,14 @@ fn add_event<'a>(
 }
 
 /// Adds what a match gives, if it gives something of a host.
-fn add_told<'a>(
+fn add_match<'a>(
     alloc: Global,
     peers: &[Peer<'a>],
     event: Option<HostEvent<'a>>,
     observed: &mut Observations<'a>,
 ) -> Result<(), AllocError>
     ensures { OnOk result (observations_view observed.new
-        ≡ with_told (map peer_view peers.now) (option_map host_event_view event.entry) (observations_view observed.old)) }
+        ≡ with_event (map peer_view peers.now) (option_map host_event_view event.entry) (observations_view observed.old)) }
 {
     match event {
         None => Ok(()),
@@ -88,7 +88,7 @@ fn add_text<'a>(
 ) -> Result<(), AllocError>
     requires { AreAmong (location_count search.old.locations) search.old.groups }
     ensures observed { OnOk result (observations_view observed.new
-        ≡ with_told_lines (map peer_view peers.now) (pattern_step search.old.groups search.old.more (matcher_pattern search.old.matcher))
+        ≡ with_line_events (map peer_view peers.now) (pattern_step search.old.groups search.old.more (matcher_pattern search.old.matcher))
         (pattern_event search.old.groups search.old.more (matcher_pattern search.old.matcher)) range 1 0 (all_lines bytes.now) (observations_view observed.old)) }
     ensures pattern { matcher_pattern search.new.matcher ≡ matcher_pattern search.old.matcher }
     ensures groups { search.new.groups ≡ search.old.groups }
@@ -100,7 +100,7 @@ fn add_text<'a>(
     let mut taken = 0;
     'lines: loop {
         let found = found_at(search, range, number, taken, rest);
-        add_told(alloc, peers, found.event, observed)?;
+        add_match(alloc, peers, found.event, observed)?;
         taken = found.step.takes;
         match next_line(rest) {
             None => break,

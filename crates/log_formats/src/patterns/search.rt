@@ -6,7 +6,8 @@ ghost use Rattle.regex.specs.Patterns.{find};
 ghost use Rattle.log_lines.specs.Events.{line_view};
 ghost use Rattle.log_formats.specs.Patterns.Groups.{AreAmong};
 ghost use Rattle.log_formats.specs.Patterns.Found.{located, host_event_view};
-ghost use Rattle.log_formats.specs.Patterns.PatternReading.{window_of, unmatched, alone, line_at, read_as, match_step, matched, event_in, told, event_at, pattern_step, pattern_event};
+ghost use Rattle.log_formats.specs.Patterns.Unread.{unread_view, unread_by, pattern_unread, unread_at};
+ghost use Rattle.log_formats.specs.Patterns.PatternReading.{window_of, unmatched, alone, line_at, read_as, match_step, matched, event_in, event_matched, event_at, pattern_step, pattern_event};
 ghost use Rattle.log_lines.specs.Reading.{all_lines};
 ghost use Rattle.log_lines.specs.Windows.{step_view, step_at};
 
@@ -14,6 +15,7 @@ use crate::patterns::expression::Expression;
 use crate::patterns::found::found_by;
 use crate::patterns::groups::Groups;
 use crate::patterns::host_event::{HostEvent, host_event};
+use crate::patterns::unread::{Unread, unread_if_other};
 use log_lines::{LineRange, LineSays, Step, is_within, window};
 use regex::CaptureLocations;
 use regex::bytes::Matcher;
@@ -34,6 +36,8 @@ pub(crate) struct Search<'r> {
 pub(crate) struct Found<'a> {
     pub step: Step<'a>,
     pub event: Option<HostEvent<'a>>,
+    /// Why the line isn't read, if a match begins in it and it counts as one that doesn't match.
+    pub unread: Option<Unread<'a>>,
 }
 
 /// What a line gives that isn't read.
@@ -119,10 +123,12 @@ fn event_in<'a>(
 fn nothing_found<'a>(text: &[u8]) -> Found<'a>
     ensures step { step_view result.step ≡ alone (window_of 0 (all_lines text.now)) }
     ensures event { result.event ≡ None }
+    ensures unread { result.unread ≡ None }
 {
     Found {
         step: alone(text),
         event: None,
+        unread: None,
     }
 }
 
@@ -136,7 +142,8 @@ fn line_found<'a>(
 ) -> Found<'a>
     requires { AreAmong (location_count locations.old) groups }
     ensures step { step_view result.step ≡ matched groups window.now (window_of 0 (all_lines text.now)) (find (matcher_pattern matcher.old) window.now 0) }
-    ensures event { option_map host_event_view result.event ≡ told groups window.now (find (matcher_pattern matcher.old) window.now 0) }
+    ensures event { option_map host_event_view result.event ≡ event_matched groups window.now (find (matcher_pattern matcher.old) window.now 0) }
+    ensures unread { option_map unread_view result.unread ≡ unread_by groups window.now (window_of 0 (all_lines text.now)) (find (matcher_pattern matcher.old) window.now 0) }
     ensures same { matcher_pattern matcher.new ≡ matcher_pattern matcher.old }
     ensures count { location_count locations.new ≡ location_count locations.old }
 {
@@ -144,9 +151,11 @@ fn line_found<'a>(
         None => nothing_found(text),
         Some(found) => {
             if line_at(window, found.start()) == 0 {
+                let step = match_step(locations, groups, window, found.end(), text);
                 Found {
-                    step: match_step(locations, groups, window, found.end(), text),
+                    step,
                     event: event_in(locations, groups, window),
+                    unread: unread_if_other(locations, groups, window, step.says),
                 }
             } else {
                 nothing_found(text)
@@ -175,11 +184,12 @@ impl<'r> Search<'r> {
     }
 
     /// What the first line of a text gives, together with the lines after it that its match touches.
-    #[tactic(auto, unfolding(crate::specs::Patterns::PatternReading::pattern_step, crate::specs::Patterns::PatternReading::pattern_event))]
+    #[tactic(auto, unfolding(crate::specs::Patterns::PatternReading::pattern_step, crate::specs::Patterns::PatternReading::pattern_event, crate::specs::Patterns::Unread::pattern_unread))]
     pub(crate) fn found<'a>(&mut self, text: &'a [u8]) -> Found<'a>
         requires { AreAmong (location_count self.old.locations) self.old.groups }
         ensures step { step_view result.step ≡ pattern_step self.old.groups self.old.more (matcher_pattern self.old.matcher) (all_lines text.now) }
         ensures event { option_map host_event_view result.event ≡ pattern_event self.old.groups self.old.more (matcher_pattern self.old.matcher) (all_lines text.now) }
+        ensures unread { option_map unread_view result.unread ≡ pattern_unread self.old.groups self.old.more (matcher_pattern self.old.matcher) (all_lines text.now) }
         ensures pattern { matcher_pattern self.new.matcher ≡ matcher_pattern self.old.matcher }
         ensures groups { self.new.groups ≡ self.old.groups }
         ensures more { self.new.more ≡ self.old.more }
@@ -208,6 +218,7 @@ pub(crate) fn found_at<'a>(
     requires { AreAmong (location_count search.old.locations) search.old.groups }
     ensures step { step_view result.step ≡ step_at (pattern_step search.old.groups search.old.more (matcher_pattern search.old.matcher)) range number taken (all_lines text.now) }
     ensures event { option_map host_event_view result.event ≡ event_at (pattern_event search.old.groups search.old.more (matcher_pattern search.old.matcher)) range number taken (all_lines text.now) }
+    ensures unread { option_map unread_view result.unread ≡ unread_at (pattern_unread search.old.groups search.old.more (matcher_pattern search.old.matcher)) range number taken (all_lines text.now) }
     ensures pattern { matcher_pattern search.new.matcher ≡ matcher_pattern search.old.matcher }
     ensures groups { search.new.groups ≡ search.old.groups }
     ensures more { search.new.more ≡ search.old.more }
@@ -220,6 +231,7 @@ pub(crate) fn found_at<'a>(
                 takes: taken - 1,
             },
             event: None,
+            unread: None,
         };
     }
     if !is_within(range, number) {
@@ -229,6 +241,7 @@ pub(crate) fn found_at<'a>(
                 takes: 0,
             },
             event: None,
+            unread: None,
         };
     }
     search.found(text)

@@ -101,7 +101,7 @@ impl NamedLog {
         let host = host_of(peers, logged.event.host);
         let peer = host_of(peers, logged.event.peer);
         if host == peer {
-            self.own = Some(one_more(self.own, logged.place)?);
+            self.own = Some(one_more(self.own, logged.place));
             return Ok(());
         }
         self.add_event(alloc, host, peer, logged)

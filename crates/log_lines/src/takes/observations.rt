@@ -155,12 +155,11 @@ impl<'a> Observations<'a> {
         Ok(())
     }
 
-    /// Adds a receive at this place with a misspelled word. It fails if the count would overflow.
-    pub(crate) fn add_misspelled(&mut self, place: Place) -> Result<(), AllocError>
-        ensures { OnOk result (observations_view self.new ≡ with_misspelled place (observations_view self.old)) }
+    /// Adds a receive at this place with a misspelled word.
+    pub(crate) fn add_misspelled(&mut self, place: Place)
+        ensures { observations_view self.new ≡ with_misspelled place (observations_view self.old) }
     {
-        self.misspelled = Some(one_more(self.misspelled, place)?);
-        Ok(())
+        self.misspelled = Some(one_more(self.misspelled, place));
     }
 
     /// Adds the arrival of a message with this name and id.

@@ -118,18 +118,12 @@ fn has_misspelled(words: &[&[u8]]) -> bool
 }
 
 /// If the line at this place has a misspelled word, adds it to the misspelled receives.
-fn add_spelling(
-    place: Place,
-    words: &[&[u8]],
-    observed: &mut Observations<'_>,
-) -> Result<(), AllocError>
-    ensures { OnOk result (observations_view observed.new
-        ≡ with_spelling place (map (λ w. w.now) words.now) (observations_view observed.old)) }
+fn add_spelling(place: Place, words: &[&[u8]], observed: &mut Observations<'_>)
+    ensures { observations_view observed.new
+        ≡ with_spelling place (map (λ w. w.now) words.now) (observations_view observed.old) }
 {
     if has_misspelled(words) {
-        observed.add_misspelled(place)
-    } else {
-        Ok(())
+        observed.add_misspelled(place);
     }
 }
 
@@ -151,7 +145,8 @@ fn add_line<'a>(
     }
     let words = words_of(alloc, line)?;
     add_words(peers, &words, observed)?;
-    add_spelling(place, &words, observed)
+    add_spelling(place, &words, observed);
+    Ok(())
 }
 
 /// Adds the lines of the text with this number.

@@ -8,7 +8,7 @@ ghost use Rattle.mscview_requests.specs.Words.Words.{AreRead, Reads};
 use crate::words::parts::{comma_parts, round_equals};
 use cmd_base::ProgramError;
 use log_lines::names::Peer;
-use std::alloc::{AllocError, Global};
+use std::alloc::{AllocError, AllocFailed, Global};
 
 /// The value of `--peer`: a host, and other names that the log has for it.
 #[derive(Drop)]
@@ -39,8 +39,9 @@ fn has_empty(words: &[&[u8]]) -> bool
 fn words_by<'a>(alloc: Global, word: &'a [u8]) -> Result<Vec<&'a [u8]>, ProgramError>
     ensures { Reads result (λ words. map (λ w. w.now) words.items) (AreHosts word.now) }
 {
-    let Ok(words) = comma_parts(alloc, word) else {
-        return Err(ProgramError::Memory);
+    let words = match comma_parts(alloc, word) {
+        Ok(words) => words,
+        Err(AllocError) => return Err(ProgramError::Memory),
     };
     if has_empty(words.as_slice()) {
         return Err(ProgramError::Usage);
@@ -81,9 +82,10 @@ pub fn peer_words<'a>(alloc: Global, words: &[&'a str]) -> Result<Vec<PeerWord<'
     let mut peers = Vec::new(alloc);
     for word in words {
         let peer = peer_by(alloc, word.as_bytes())?;
-        let Ok(()) = peers.push(peer) else {
-            return Err(ProgramError::Memory);
-        };
+        match peers.push(peer) {
+            Ok(()) => {}
+            Err(AllocFailed { .. }) => return Err(ProgramError::Memory),
+        }
     }
     Ok(peers)
 }

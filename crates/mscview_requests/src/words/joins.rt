@@ -8,7 +8,7 @@ use crate::words::parts::{comma_parts, round_equals};
 use chart::Name;
 use cmd_base::ProgramError;
 use diagram_join::Join;
-use std::alloc::{AllocError, Global};
+use std::alloc::{AllocError, AllocFailed, Global};
 
 /// The value of `--join`: the name of an instance, and the names of its lines.
 #[derive(Drop)]
@@ -34,9 +34,10 @@ fn names_in(alloc: Global, words: &[&[u8]]) -> Result<Vec<Name>, ProgramError>
     let mut names = Vec::new(alloc);
     for word in words {
         let name = name_by(*word)?;
-        let Ok(()) = names.push(name) else {
-            return Err(ProgramError::Memory);
-        };
+        match names.push(name) {
+            Ok(()) => {}
+            Err(AllocFailed { .. }) => return Err(ProgramError::Memory),
+        }
     }
     Ok(names)
 }
@@ -47,7 +48,7 @@ fn names_by(alloc: Global, word: &[u8]) -> Result<Vec<Name>, ProgramError>
 {
     match comma_parts(alloc, word) {
         Ok(words) => names_in(alloc, words.as_slice()),
-        Err(_) => Err(ProgramError::Memory),
+        Err(AllocError) => Err(ProgramError::Memory),
     }
 }
 
@@ -71,9 +72,10 @@ pub fn join_words(alloc: Global, words: &[&str]) -> Result<Vec<JoinWord>, Progra
     let mut joins = Vec::new(alloc);
     for word in words {
         let join = join_by(alloc, word.as_bytes())?;
-        let Ok(()) = joins.push(join) else {
-            return Err(ProgramError::Memory);
-        };
+        match joins.push(join) {
+            Ok(()) => {}
+            Err(AllocFailed { .. }) => return Err(ProgramError::Memory),
+        }
     }
     Ok(joins)
 }

@@ -5,8 +5,8 @@ use Rattle.picture_parts.specs.declared.columns.columns.Column.{Column}
 use Rattle.picture_parts.specs.Columns.Placing.{PlanView, next_column, columns_from}
 
 -- the columns so far, and one more
-pub columns_next : (plan : PlanView) (done next all : List Column) (drawn : List ℕ) (k q : ℕ) → k < length drawn → q ≡ get_or drawn k q
-    → next ≡ done ++ next_column plan done q ∷ [] → columns_from plan done (drop k drawn) ≡ all → columns_from plan next (drop (k + 1) drawn) ≡ all
-columns_next plan done next all drawn k q below is so come =
-    let read = drop-cons drawn k q below ∙ ap (λ y. y ∷ drop (suc k) drawn) (sym is) ∙ ap (λ n. q ∷ drop n drawn) (sym (add-one k)) in
-    ap (λ c. columns_from plan c (drop (k + 1) drawn)) so ∙ sym (ap (columns_from plan done) read) ∙ come
+pub columns_next : (plan : PlanView) (done next all : List Column) (instances : List ℕ) (k q : ℕ) → k < length instances → q ≡ get_or instances k q
+    → next ≡ done ++ next_column plan done q ∷ [] → columns_from plan done (drop k instances) ≡ all → columns_from plan next (drop (k + 1) instances) ≡ all
+columns_next plan done next all instances k q below is so come =
+    let read = drop-cons instances k q below ∙ ap (λ y. y ∷ drop (suc k) instances) (sym is) ∙ ap (λ n. q ∷ drop n instances) (sym (add-one k)) in
+    ap (λ c. columns_from plan c (drop (k + 1) instances)) so ∙ sym (ap (columns_from plan done) read) ∙ come

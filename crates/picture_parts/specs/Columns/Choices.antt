@@ -56,20 +56,20 @@ is_chosen_end v (Some e) = is_chosen v e
 abbrev pub is_shown : ChoiceView → EventNo → Bool
 is_shown v e = is_chosen v e || is_chosen_end v (end_of v e)
 
-abbrev pub is_drawn : ChoiceView → EventNo → Bool
-is_drawn v e = is_some (column_of v e.instance) && is_shown v e
+abbrev pub is_in_picture : ChoiceView → EventNo → Bool
+is_in_picture v e = is_some (column_of v e.instance) && is_shown v e
 
 -- an event of the row is drawn
-abbrev pub is_drawn_row : ChoiceView → Row → Bool
-is_drawn_row v (variants.Message s r) = is_drawn v s || is_drawn v r
-is_drawn_row v (variants.Event e) = is_drawn v e
+abbrev pub is_row_in_picture : ChoiceView → Row → Bool
+is_row_in_picture v (variants.Message s r) = is_in_picture v s || is_in_picture v r
+is_row_in_picture v (variants.Event e) = is_in_picture v e
 
 -- one more, but at most the greatest number of 32 bits
 abbrev pub more : ℕ → ℕ
 more n = min (n + 1) (2 ^ 32 - 1)
 
 abbrev pub next_count : ChoiceView → ℕ → Row → ℕ
-next_count v n row = if is_drawn_row v row then more n else n
+next_count v n row = if is_row_in_picture v row then more n else n
 
 -- for each row the number of drawn rows above it, if n are drawn above the first
 abbrev pub places_from : ChoiceView → ℕ → List Row → List ℕ

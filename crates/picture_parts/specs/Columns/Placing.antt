@@ -19,7 +19,7 @@ pub record PlanView : Type 0 where
   pub lines : List LineView
   pub reports : List ReportView
   -- the instances that have a column, from the left
-  pub drawn : List ℕ
+  pub instances : List ℕ
   -- whether events have their numbers beside them
   pub numbers : Bool
 
@@ -39,7 +39,7 @@ between plan near p q =
 -- the greater of n and the width of an event's label, if its message is cut: the other instance has no column
 abbrev pub wider_cut : PlanView → ℕ → Event → ℕ
 wider_cut plan n m =
-    if list_any (nat_eq (partner_of m)) plan.drawn then n
+    if list_any (nat_eq (partner_of m)) plan.instances then n
     else max n (cut_width (name_of m) (name_at plan.names (partner_of m)))
 
 abbrev pub widest_cut : PlanView → ℕ → ℕ
@@ -89,11 +89,11 @@ next_column plan columns q = record {
 -- these columns, and on their right those of the instances
 abbrev pub columns_from : PlanView → List Column → List ℕ → List Column
 columns_from plan columns [] = columns
-columns_from plan columns (q ∷ drawn) = columns_from plan (columns ++ next_column plan columns q ∷ []) drawn
+columns_from plan columns (q ∷ instances) = columns_from plan (columns ++ next_column plan columns q ∷ []) instances
 
 -- all columns
 abbrev pub columns_of : PlanView → List Column
-columns_of plan = columns_from plan [] plan.drawn
+columns_of plan = columns_from plan [] plan.instances
 
 -- the right end of a column: that of its head, or of the labels of cut messages beside it
 abbrev pub edge : PlanView → Column → ℕ

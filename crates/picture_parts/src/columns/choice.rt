@@ -1,7 +1,7 @@
 //! Which events of a chart are drawn, and in which columns and rows.
 ghost use Rattle.std.specs.Prelude.{◌≡◌, ◌==◌, ◌<◌, length, position, IfSome, IfOk};
 ghost use Rattle.picture_parts.specs.Columns.Choices.{column_of, end_of, is_between, is_row_chosen, is_chosen, is_chosen_end};
-ghost use Rattle.picture_parts.specs.Columns.Choices.{is_shown, is_drawn, is_drawn_row, places_from, count_from};
+ghost use Rattle.picture_parts.specs.Columns.Choices.{is_shown, is_in_picture, is_row_in_picture, places_from, count_from};
 
 use crate::columns::columns::Column;
 use chart::{EventNo, InstanceNo};
@@ -112,19 +112,20 @@ impl<'a> Choice<'a> {
         self.is_chosen(event) || self.is_chosen_end(event)
     }
 
-    fn is_drawn(&self, event: &EventNo) -> bool
-        ensures { result ≡ is_drawn self.now event.now }
+    fn is_in_picture(&self, event: &EventNo) -> bool
+        ensures { result ≡ is_in_picture self.now event.now }
     {
         self.column_of(event.instance).is_some() && self.is_shown(event)
     }
 
     /// Whether an event of the row is drawn.
-    fn is_drawn_row(&self, row: &Row) -> bool
-        ensures { result ≡ is_drawn_row self.now row.now }
+    fn is_row_in_picture(&self, row: &Row) -> bool
+        ensures { result ≡ is_row_in_picture self.now row.now }
     {
         match row {
-            Row::Message { send, receive } => self.is_drawn(send) || self.is_drawn(receive),
-            Row::Event(event) => self.is_drawn(event),
+            Row::Message { send, receive } => self.is_in_picture(send)
+                || self.is_in_picture(receive),
+            Row::Event(event) => self.is_in_picture(event),
         }
     }
 }
@@ -143,7 +144,7 @@ pub fn places_of(
     let mut count = 0u32;
     for row in rows {
         places.push(count)?;
-        if choice.is_drawn_row(row) {
+        if choice.is_row_in_picture(row) {
             count = count.saturating_add(1);
         }
     }

@@ -42,10 +42,10 @@ fn between(plan: &Plan<'_>, near: bool, left: InstanceNo, right: InstanceNo) -> 
 }
 
 /// Whether the instance has a column.
-fn is_drawn(drawn: &[InstanceNo], instance: InstanceNo) -> bool
-    ensures { result ≡ list_any (nat_eq instance) drawn.now }
+fn is_listed(instances: &[InstanceNo], instance: InstanceNo) -> bool
+    ensures { result ≡ list_any (nat_eq instance) instances.now }
 {
-    drawn.iter().any(|column| instance == *column)
+    instances.iter().any(|column| instance == *column)
 }
 
 /// The greater of `widest` and the width of an event's label, if its message is cut. Otherwise `widest`.
@@ -53,7 +53,7 @@ fn wider_cut(plan: &Plan<'_>, widest: u32, event: &Event) -> u32
     ensures { result ≡ wider_cut plan.now widest event.now }
 {
     let partner = event.partner();
-    if is_drawn(plan.drawn, partner) {
+    if is_listed(plan.instances, partner) {
         return widest;
     }
     let name = event.name();
@@ -169,12 +169,12 @@ fn next_column(plan: &Plan<'_>, columns: &[Column], instance: InstanceNo) -> Col
 fn columns_for(
     alloc: Global,
     plan: &Plan<'_>,
-    drawn: &[InstanceNo],
+    instances: &[InstanceNo],
 ) -> Result<Vec<Column>, AllocError>
-    ensures { IfOk result (λ columns. columns.items ≡ columns_from plan.now [] drawn.now) }
+    ensures { IfOk result (λ columns. columns.items ≡ columns_from plan.now [] instances.now) }
 {
-    let mut columns = Vec::with_capacity(alloc, drawn.len())?;
-    for instance in drawn {
+    let mut columns = Vec::with_capacity(alloc, instances.len())?;
+    for instance in instances {
         let column = next_column(plan, columns.as_slice(), *instance);
         columns.push(column)?;
     }
@@ -185,7 +185,7 @@ fn columns_for(
 pub fn columns_of(alloc: Global, plan: &Plan<'_>) -> Result<Vec<Column>, AllocError>
     ensures { IfOk result (λ columns. columns.items ≡ columns_of plan.now) }
 {
-    columns_for(alloc, plan, plan.drawn)
+    columns_for(alloc, plan, plan.instances)
 }
 
 /// The right end of a column.

@@ -12,7 +12,7 @@ pub struct Plan<'a> {
     pub lines: &'a [Line],
     pub reports: &'a [Report],
     /// The instances that have a column, from the left.
-    pub drawn: &'a [InstanceNo],
+    pub instances: &'a [InstanceNo],
     /// Whether events have their numbers beside them.
     pub numbers: bool,
 }
@@ -26,7 +26,7 @@ impl<'a> Model for Plan<'a> {
       names = p.names.now;
       lines = p.lines.now;
       reports = p.reports.now;
-      drawn = p.drawn.now;
+      instances = p.instances.now;
       numbers = p.numbers;
     } };
 }

@@ -22,7 +22,7 @@ use Rattle.log_chart.specs.declared.matching.LogLine.{LogLine}
 use Rattle.log_chart.specs.Items.{naming_line}
 use Rattle.race_verdicts.specs.Recordings.{RecordingView}
 use Rattle.race_verdicts.specs.declared.verdict.Verdict.{Verdict}
-use Rattle.race_verdicts.specs.declared.verdict.Verdict.TheVariants.{Luck, EarlierIsSend, BegunInTheMiddle, OrderedByLeftOut, WouldNotTake, PassedOver, BehindAnother}
+use Rattle.race_verdicts.specs.declared.verdict.Verdict.TheVariants.{Luck, EarlierIsSend, BegunInTheMiddle, OrderedByLeftOut, WouldNotTake, PassedOver, BehindAnother, Any}
 
 pub false_not : {P : Type 0} (r : Bool) → (IsTrue r ↔ P) → r ≡ false → P → ⊥
 false_not r stated fails p = false≢true (sym fails ∙ stated.1 p)
@@ -45,6 +45,7 @@ module _ (rec : RecordingView) (k : ℕ) (own : MessageNo) (s : ℕ) where
       first PassedOver less its = absurd (omega arith)
       first BehindAnother less its = absurd (omega arith)
       first Luck less its = absurd (omega arith)
+      first Any less its = absurd (omega arith)
 
   pub logged_passed : (IsAhead rec.lines k s → ⊥) → WouldTake rec k s → CameFirst rec (messages.Sent s) own → IsLoggedVerdict rec k own s PassedOver
   logged_passed not_ahead takes came = record { reason = came; first = first }
@@ -57,6 +58,7 @@ module _ (rec : RecordingView) (k : ℕ) (own : MessageNo) (s : ℕ) where
       first PassedOver less its = absurd (omega arith)
       first BehindAnother less its = absurd (omega arith)
       first Luck less its = absurd (omega arith)
+      first Any less its = absurd (omega arith)
 
   pub logged_behind : (IsAhead rec.lines k s → ⊥) → WouldTake rec k s → (CameFirst rec (messages.Sent s) own → ⊥) → IsBehind rec k own s → IsLoggedVerdict rec k own s BehindAnother
   logged_behind not_ahead takes not_came behind = record { reason = behind; first = first }
@@ -69,6 +71,7 @@ module _ (rec : RecordingView) (k : ℕ) (own : MessageNo) (s : ℕ) where
       first PassedOver less its = not_came its
       first BehindAnother less its = absurd (omega arith)
       first Luck less its = absurd (omega arith)
+      first Any less its = absurd (omega arith)
 
   pub logged_luck : (IsAhead rec.lines k s → ⊥) → WouldTake rec k s → (CameFirst rec (messages.Sent s) own → ⊥) → (IsBehind rec k own s → ⊥) → IsLoggedVerdict rec k own s Luck
   logged_luck not_ahead takes not_came not_behind = record { reason = tt; first = first }
@@ -81,6 +84,7 @@ module _ (rec : RecordingView) (k : ℕ) (own : MessageNo) (s : ℕ) where
       first PassedOver less its = not_came its
       first BehindAnother less its = not_behind its
       first Luck less its = absurd (omega arith)
+      first Any less its = absurd (omega arith)
 
 module _ (lines : List LineView) (rec : RecordingView) (r e : Place) (receive earlier : Item) (receive_is : item_at rec r ≡ Some receive) (earlier_is : item_at rec e ≡ Some earlier) where
   pub verdict_begun : IsBegunBefore lines rec r receive earlier → IsVerdict lines rec r e BegunInTheMiddle
@@ -111,6 +115,7 @@ module _ (lines : List LineView) (rec : RecordingView) (r e : Place) (receive ea
       first PassedOver less its = absurd (omega arith)
       first BehindAnother less its = absurd (omega arith)
       first Luck less its = absurd (omega arith)
+      first Any less its = absurd (omega arith)
 
   module _ (k s : ℕ) (line : earlier.line ≡ Some k) (send : receive.message ≡ messages.Sent s) where
     same_line : (j t : ℕ) → AreLogged earlier receive j t → j ≡ k
@@ -130,6 +135,7 @@ module _ (lines : List LineView) (rec : RecordingView) (r e : Place) (receive ea
     reason_of PassedOver its = subst (λ m. CameFirst rec m earlier.message) (sym send) its
     reason_of BehindAnother its = (k, s, both, its)
     reason_of Luck its = tt
+    reason_of Any its = absurd its
 
     logged_of : (v : Verdict) → (earlier.sends ≡ true → ⊥) → (IsBegunBefore lines rec r receive earlier → ⊥) → IsReason lines rec r receive earlier v → IsLoggedReason rec k earlier.message s v
     logged_of EarlierIsSend no_send not_begun its = no_send its
@@ -141,6 +147,7 @@ module _ (lines : List LineView) (rec : RecordingView) (r e : Place) (receive ea
     logged_of BehindAnother no_send not_begun its =
         subst (IsBehind rec k earlier.message) (same_send its.0 its.1 its.2) (subst (λ j. IsBehind rec j earlier.message its.1) (same_line its.0 its.1 its.2) its.3)
     logged_of Luck no_send not_begun its = tt
+    logged_of Any no_send not_begun its = its
 
     pub verdict_logged : (v : Verdict) → (earlier.sends ≡ true → ⊥) → (IsBegunBefore lines rec r receive earlier → ⊥) → IsLoggedVerdict rec k earlier.message s v → IsVerdict lines rec r e v
     verdict_logged v no_send not_begun logged = record {
@@ -167,7 +174,8 @@ verdict_at (suc (suc zero)) = OrderedByLeftOut
 verdict_at (suc (suc (suc zero))) = WouldNotTake
 verdict_at (suc (suc (suc (suc zero)))) = PassedOver
 verdict_at (suc (suc (suc (suc (suc zero))))) = BehindAnother
-verdict_at (suc (suc (suc (suc (suc (suc n)))))) = Luck
+verdict_at (suc (suc (suc (suc (suc (suc zero)))))) = Luck
+verdict_at (suc (suc (suc (suc (suc (suc (suc n))))))) = Any
 
 turn_back : (v : Verdict) → verdict_at (turn_of v) ≡ v
 unfolding verdict_at
@@ -178,6 +186,7 @@ turn_back WouldNotTake = refl
 turn_back PassedOver = refl
 turn_back BehindAnother = refl
 turn_back Luck = refl
+turn_back Any = refl
 
 pub one_verdict : OneVerdictLaw
 one_verdict lines rec r e a b of_a of_b =

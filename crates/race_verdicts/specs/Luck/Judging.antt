@@ -13,7 +13,7 @@ use Rattle.race_verdicts.specs.Luck.Verdicts.{turn_of}
 use Rattle.race_verdicts.specs.Luck.WholeOrder.{IsAhead}
 use Rattle.race_verdicts.specs.Recordings.{RecordingView}
 use Rattle.race_verdicts.specs.declared.verdict.Verdict.{Verdict}
-use Rattle.race_verdicts.specs.declared.verdict.Verdict.TheVariants.{Luck, EarlierIsSend, BegunInTheMiddle, OrderedByLeftOut, WouldNotTake, PassedOver, BehindAnother}
+use Rattle.race_verdicts.specs.declared.verdict.Verdict.TheVariants.{Luck, EarlierIsSend, BegunInTheMiddle, OrderedByLeftOut, WouldNotTake, PassedOver, BehindAnother, Any}
 
 -- the reason of each verdict, for the receive of line k, whose message is `own`, and the message that line s sends
 abbrev pub IsLoggedReason : RecordingView → ℕ → MessageNo → ℕ → Verdict → Type 0
@@ -24,6 +24,7 @@ IsLoggedReason rec k own s WouldNotTake = WouldTake rec k s → ⊥
 IsLoggedReason rec k own s PassedOver = CameFirst rec (messages.Sent s) own
 IsLoggedReason rec k own s BehindAnother = IsBehind rec k own s
 IsLoggedReason rec k own s Luck = Unit {0}
+IsLoggedReason rec k own s Any = ⊥
 
 pub record IsLoggedVerdict (rec : RecordingView) (k : ℕ) (own : MessageNo) (s : ℕ) (verdict : Verdict) : Type 0 where
   pub reason : IsLoggedReason rec k own s verdict

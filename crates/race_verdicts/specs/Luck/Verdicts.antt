@@ -16,7 +16,7 @@ use Rattle.race_verdicts.specs.Luck.WholeOrder.{IsAhead}
 use Rattle.race_verdicts.specs.Recordings.{RecordingView}
 use Rattle.race_verdicts.specs.declared.verdict.Verdict.{Verdict}
 use Rattle.race_verdicts.specs.declared.verdict.VerdictRun.{VerdictRun}
-use Rattle.race_verdicts.specs.declared.verdict.Verdict.TheVariants.{Luck, EarlierIsSend, BegunInTheMiddle, OrderedByLeftOut, WouldNotTake, PassedOver, BehindAnother}
+use Rattle.race_verdicts.specs.declared.verdict.Verdict.TheVariants.{Luck, EarlierIsSend, BegunInTheMiddle, OrderedByLeftOut, WouldNotTake, PassedOver, BehindAnother, Any}
 
 -- the earlier event is invented, or the send of the receive r is, or an invented send is before r in the chart
 pub data IsBegunBefore (lines : List LineView) (rec : RecordingView) (r : Place) (receive earlier : Item) : Type 0 where
@@ -35,7 +35,7 @@ pub record AreLogged (earlier receive : Item) (k s : ℕ) : Type 0 where
   pub line : earlier.line ≡ Some k
   pub send : receive.message ≡ messages.Sent s
 
--- the reason of each verdict, for the receive r and an earlier event
+-- the reason of each verdict, for the receive r and an earlier event; for a log it is always decided
 abbrev pub IsReason : List LineView → RecordingView → Place → Item → Item → Verdict → Type 0
 IsReason lines rec r receive earlier BegunInTheMiddle = IsBegunBefore lines rec r receive earlier
 IsReason lines rec r receive earlier EarlierIsSend = earlier.sends ≡ true
@@ -44,6 +44,7 @@ IsReason lines rec r receive earlier WouldNotTake = (k s : ℕ) × AreLogged ear
 IsReason lines rec r receive earlier PassedOver = CameFirst rec receive.message earlier.message
 IsReason lines rec r receive earlier BehindAnother = (k s : ℕ) × AreLogged earlier receive k s × IsBehind rec k earlier.message s
 IsReason lines rec r receive earlier Luck = Unit {0}
+IsReason lines rec r receive earlier Any = ⊥
 
 -- the order of the reasons
 abbrev pub turn_of : Verdict → ℕ
@@ -54,6 +55,7 @@ turn_of WouldNotTake = 3
 turn_of PassedOver = 4
 turn_of BehindAnother = 5
 turn_of Luck = 6
+turn_of Any = 7
 
 -- the verdict on the receive and an earlier event of its line, by their places: its reason holds, and no reason before
 -- it does

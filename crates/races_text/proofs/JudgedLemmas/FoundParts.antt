@@ -8,7 +8,7 @@ use Rattle.chart.specs.Charts.{LineView, chart_lines}
 use Rattle.chart.specs.Reports.{ReportView, AreReports}
 use Rattle.race_verdicts.specs.declared.verdict.Verdict.{Verdict}
 use Rattle.races_text.specs.Named.Listing.{Manner, is_asked}
-use Rattle.races_text.specs.Named.Kept.{is_kept, is_later, later_than, kept_events}
+use Rattle.shown_races.specs.Kept.{is_kept, is_later, later_than, kept_events}
 use Rattle.races_text.specs.declared.judged.part.Part.{Part}
 use Rattle.races_text.specs.Judged.Parts.{Judges}
 use Rattle.races_text.specs.Judged.Listing.{PartedReport, IsParted, HasBegun, HasParted, AreParted, HaveParted, ArePartedTo, IsRaceIn, selected_events}

@@ -8,7 +8,7 @@ use Rattle.chart.specs.declared.instance.EventNo.{EventNo}
 use Rattle.chart.specs.declared.ranges.EventRange.{EventRange}
 use Rattle.chart.specs.Ranges.{events_from, events_of, events_in}
 use Rattle.chart.proofs.RangeLists.{events_from-more}
-use Rattle.races_text.specs.Named.Kept.{is_kept_after}
+use Rattle.shown_races.specs.Kept.{is_kept_after}
 use Rattle.races_text.specs.Named.Stretches.{event_in, IsBehind}
 
 -- a range without events

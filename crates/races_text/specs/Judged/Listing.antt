@@ -1,5 +1,5 @@
 -- The list of a recording's races (this project's profile): that of its chart, with the word of its verdict for each
--- range. It may list only luck.
+-- range. It may list only what was luck or may have been.
 use Rattle.std.specs.Prelude.{◌≡◌, ℕ, Bool, List, [], ◌∷◌, ◌++◌, Contains, Result, Ok, Err, IfOk, if◌then◌else◌}
 use Rattle.std.specs.List.{flat_map, list_any}
 use Rattle.chart.specs.declared.event.Event.{Event}
@@ -10,8 +10,9 @@ use Rattle.texts.specs.Outs.{Sink}
 use Rattle.texts.specs.Writing.{Adds, Wrote}
 use Rattle.texts.specs.declared.text_buffer.TextBuffer.{TextBuffer}
 use Rattle.race_verdicts.specs.declared.verdict.Verdict.{Verdict}
-use Rattle.races_text.specs.Named.Kept.{kept_events}
-use Rattle.races_text.specs.Named.Listing.{Manner, AreSelected, is_asked, manner_of}
+use Rattle.shown_races.specs.Kept.{kept_events}
+use Rattle.races_text.specs.Named.Listing.{Manner, is_asked, manner_of}
+use Rattle.shown_races.specs.Selected.{AreSelected}
 use Rattle.races_text.specs.Named.Words.{word_text}
 use Rattle.races_text.specs.declared.named.listing.Form.{Form}
 use Rattle.races_text.specs.declared.named.listing.Form.TheVariants.{Plain, Json}
@@ -73,7 +74,7 @@ pub record IsRaceIn (lines : List LineView) (r e : EventNo) : Type 0 where
   pub receive : report.receive ≡ r
   pub among : Contains report.earlier e
 
--- how races are listed, and whether only luck is
+-- how races are listed, and whether only those that were luck or may have been
 pub record LuckManner : Type 0 where
   pub races : Manner
   pub luck : Bool

@@ -4,7 +4,7 @@ use Rattle.std.specs.List.{flat_map}
 use Rattle.chart.specs.declared.instance.EventNo.{EventNo}
 use Rattle.chart.specs.Ranges.{IsRange, events_of, is_followed_by}
 use Rattle.race_verdicts.specs.declared.verdict.Verdict.{Verdict}
-use Rattle.races_text.specs.Judged.Words.{is_luck}
+use Rattle.races_text.specs.Judged.Words.{may_be_luck}
 use Rattle.races_text.specs.declared.judged.part.Part.{Part}
 
 -- the part of a single event
@@ -53,9 +53,9 @@ abbrev pub Judges : {T E : Type 0} → (EventNo → Verdict → Type 0) → List
 Judges is events (Ok x) parts = AreParts is events parts
 Judges is events (Err e) parts = HaveBegun is events parts
 
--- a part is shown: any part, or with `luck` only a part of luck
+-- a part is shown: any part, or with `luck` only a part that was luck or may have been
 abbrev pub is_shown : Bool → Part → Bool
-is_shown luck p = if luck then is_luck p.verdict else true
+is_shown luck p = if luck then may_be_luck p.verdict else true
 
 abbrev pub shown_parts : Bool → List Part → List Part
 shown_parts luck parts = filter (is_shown luck) parts

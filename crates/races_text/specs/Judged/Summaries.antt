@@ -3,7 +3,7 @@
 use Rattle.std.specs.Prelude.{Bool, true, false, ◌||◌, ◌&&◌, not, List}
 use Rattle.std.specs.List.{list_any}
 use Rattle.race_verdicts.specs.declared.verdict.Verdict.{Verdict}
-use Rattle.race_verdicts.specs.declared.verdict.Verdict.TheVariants.{Luck, EarlierIsSend, BegunInTheMiddle, OrderedByLeftOut, WouldNotTake, PassedOver, BehindAnother}
+use Rattle.race_verdicts.specs.declared.verdict.Verdict.TheVariants.{Luck, EarlierIsSend, BegunInTheMiddle, OrderedByLeftOut, WouldNotTake, PassedOver, BehindAnother, Any}
 use Rattle.races_text.specs.Judged.Parts.{shown_parts, has_parts}
 use Rattle.races_text.specs.declared.judged.part.Part.{Part}
 use Rattle.races_text.specs.declared.judged.summary.RaceSummary.{RaceSummary}
@@ -17,12 +17,13 @@ is_claimed OrderedByLeftOut = true
 is_claimed WouldNotTake = true
 is_claimed PassedOver = true
 is_claimed BehindAnother = true
+is_claimed Any = true
 
 -- one of these ranges is claimed
 abbrev pub claims_parts : List Part → Bool
 claims_parts parts = list_any (λ p. is_claimed p.verdict) parts
 
--- the summary of the ranges of a receive, of which all are shown or only luck
+-- the summary of the ranges of a receive, of which all are shown or only what was luck or may have been
 abbrev pub summary_of_parts : Bool → List Part → RaceSummary
 summary_of_parts luck parts = record { shown = has_parts (shown_parts luck parts); any = has_parts parts; claimed = claims_parts parts }
 

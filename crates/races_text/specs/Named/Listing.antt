@@ -1,20 +1,20 @@
 -- The list of a chart's races (this project's profile): for the instances of the query, in the order of their receives.
 -- All races are listed, or those that remain if the instances run to completion.
-use Rattle.std.specs.Prelude.{◌≡◌, ℕ, Bool, true, false, List, [], ◌∷◌, Option, None, Some, length, nat_eq, nat_lt, Result, IfOk, if◌then◌else◌}
+use Rattle.std.specs.Prelude.{◌≡◌, ℕ, Bool, List, [], length, nat_eq, nat_lt, Result, IfOk, if◌then◌else◌}
 use Rattle.std.specs.List.{flat_map, list_any}
 use Rattle.chart.specs.declared.event.Event.{Event}
 use Rattle.chart.specs.declared.instance.EventNo.{EventNo}
 use Rattle.chart.specs.declared.ranges.EventRange.{EventRange}
-use Rattle.chart.specs.Charts.{Chart, Place, at, LineView, chart_lines}
-use Rattle.chart.specs.Reports.{ReportView, AreReports}
-use Rattle.reordering.specs.Completion.Orders.{IsFinishedUpTo, AreCompletedReports}
+use Rattle.chart.specs.Charts.{LineView, chart_lines}
+use Rattle.chart.specs.Reports.{ReportView}
 use Rattle.texts.specs.Outs.{Sink}
 use Rattle.texts.specs.Writing.{Adds, Wrote}
 use Rattle.texts.specs.declared.text_buffer.TextBuffer.{TextBuffer}
 use Rattle.races_text.specs.declared.named.listing.Form.{Form}
 use Rattle.races_text.specs.declared.named.listing.RaceQuery.{RaceQuery}
 use Rattle.races_text.specs.declared.named.listing.Form.TheVariants.{Plain, Json}
-use Rattle.races_text.specs.Named.Kept.{kept_ranges, later_than}
+use Rattle.races_text.specs.Named.Kept.{kept_ranges}
+use Rattle.shown_races.specs.Selected.{is_there, AreSelected}
 use Rattle.races_text.specs.Named.PlainText.{lines_text}
 use Rattle.races_text.specs.Named.JsonText.{object_text}
 
@@ -26,11 +26,6 @@ pub record Manner : Type 0 where
   pub only : List ℕ
   pub completed : Bool
 
--- the option has a value
-abbrev pub is_there : {X : Type 0} → Option X → Bool
-is_there None = false
-is_there (Some x) = true
-
 abbrev pub manner_of : RaceQuery → Manner
 manner_of selected = record {
   form = selected.form;
@@ -38,33 +33,6 @@ manner_of selected = record {
   only = selected.only.now;
   completed = is_there selected.completion;
 }
-
--- the reports to list: the chart's, or those that remain with run to completion
-abbrev pub AreSelected : Bool → List LineView → List ReportView → Type 0
-AreSelected false lines reports = AreReports lines reports
-AreSelected true lines reports = AreCompletedReports lines reports
-
--- How the latter come from the former: the first events of the receive's line are omitted.
-
-abbrev pub IsPassed : Bool → Chart → Place → ℕ → Type 0
-IsPassed false c r passed = passed ≡ 0
-IsPassed true c r passed = IsFinishedUpTo c r passed
-
--- a report without the first events of its line
-abbrev pub without_first : ℕ → ReportView → ReportView
-without_first passed report = record { receive = report.receive; earlier = later_than passed report.earlier }
-
--- the report to list for a report of the chart
-abbrev pub IsSelectedOf : Bool → Chart → ReportView → ReportView → Type 0
-IsSelectedOf completed c report selected = (passed : ℕ)
-    × IsPassed completed c (at report.receive.instance report.receive.index) passed
-    × (selected ≡ without_first passed report)
-
--- the same for several reports
-pub data AreSelectedOf (completed : Bool) (c : Chart) : List ReportView → List ReportView → Type 0 where
-  none : AreSelectedOf completed c [] []
-  more : {report selected : ReportView} {reports others : List ReportView} → IsSelectedOf completed c report selected
-      → AreSelectedOf completed c reports others → AreSelectedOf completed c (report ∷ reports) (selected ∷ others)
 
 -- the ranges of a receive's races, in this form
 abbrev pub ranges_text : Form → List (List ℕ) → List Event → EventNo → List EventRange → List ℕ

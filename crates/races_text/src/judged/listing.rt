@@ -6,8 +6,9 @@ ghost use Rattle.chart.specs.Reports.{ReportView, IsReportIn};
 ghost use Rattle.chart.specs.declared.instance.EventNo.{EventNo};
 ghost use Rattle.closure.specs.Reported.{HaveReported};
 ghost use Rattle.texts.specs.Writing.{Adds};
-ghost use Rattle.races_text.specs.Named.Kept.{later_than};
-ghost use Rattle.races_text.specs.Named.Listing.{manner_of, IsSelectedOf};
+ghost use Rattle.shown_races.specs.Kept.{later_than};
+ghost use Rattle.races_text.specs.Named.Listing.{manner_of};
+ghost use Rattle.shown_races.specs.Selected.{IsSelectedOf};
 ghost use Rattle.races_text.specs.Judged.Parts.{Judges, is_shown, shown_parts};
 ghost use Rattle.races_text.specs.Judged.Summaries.{summary_of_parts, summary_with};
 ghost use Rattle.races_text.specs.Judged.Listing.{PartedReport, first_text, later_text, ended_text, begun_text, parts_text, added_text};
@@ -17,7 +18,7 @@ ghost use Rattle.races_text.specs.Judged.Listing.{IsRaceIn, HasParted, luck_mann
 use crate::judged::part::Part;
 use crate::judged::parts::{next_part, parts_of};
 use crate::judged::summary::RaceSummary;
-use crate::judged::verdicts::{Verdicts, is_luck};
+use crate::judged::verdicts::{Verdicts, may_be_luck};
 use crate::judged::{json, plain};
 use crate::named::{Form, KeptEvents, RaceQuery, Word, add_word, is_among, passed_by};
 use chart::line_events::events_of;
@@ -25,11 +26,11 @@ use chart::{Event, EventNo, EventRange};
 use closure::Reporter;
 use texts::{Out, TextBuffer, WriteError};
 
-/// A query for races with their words: all of them, or only those of luck.
+/// A query for races with their words: all of them, or only those that were luck or may have been.
 pub struct VerdictQuery<'a, V> {
     pub query: RaceQuery<'a>,
     pub verdicts: &'a V,
-    /// Whether only luck is shown.
+    /// Whether only races are shown that were luck or may have been.
     pub luck: bool,
 }
 
@@ -92,11 +93,15 @@ fn add_end<W: Out>(text: &mut TextBuffer<'_, W>, form: Form, has: bool) -> Resul
     }
 }
 
-/// Whether a part is shown: any part, or with `luck` only a part of luck.
+/// Whether a part is shown: any part, or with `luck` only a part that was luck or may have been.
 fn is_shown(luck: bool, part: &Part) -> bool
     ensures { result ≡ is_shown luck part.now }
 {
-    if luck { is_luck(part.verdict) } else { true }
+    if luck {
+        may_be_luck(part.verdict)
+    } else {
+        true
+    }
 }
 
 /// Adds a range, if it is shown, after the ranges so far with this summary. It returns the summary of all.
@@ -263,9 +268,9 @@ fn add_found<W: Out, V: Verdicts>(
     Ok(summary)
 }
 
-/// Writes the races that a reporter finds in the chart with these lines, each range with its word, or only those of
-/// luck. It returns their summary: whether one is shown, whether there is one, and whether one isn't begun in the
-/// middle. It takes no memory. F24: a put failed.
+/// Writes the races that a reporter finds in the chart with these lines, each range with its word, or only those
+/// that were luck or may have been. It returns their summary: whether one is shown, whether there is one, and whether
+/// one isn't begun in the middle. It takes no memory. F24: a put failed.
 #[tactic(auto, using(texts::proofs::Writes::joining, crate::proofs::NamedLemmas::FoundRaces::wrote_less, crate::proofs::NamedLemmas::FoundRaces::vacuous))]
 pub fn write_luck<W: Out, V: Verdicts>(
     query: &VerdictQuery<'_, V>,

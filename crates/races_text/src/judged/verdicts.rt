@@ -4,7 +4,7 @@ ghost use Rattle.chart.specs.declared.instance.EventNo.{EventNo};
 ghost use Rattle.chart.specs.Ranges.{IsRange, events_of};
 ghost use Rattle.race_verdicts.specs.declared.verdict.Verdict.{Verdict};
 ghost use Rattle.races_text.specs.Judged.PartsLeft.{IsFirstPart};
-ghost use Rattle.races_text.specs.Judged.Words.{verdict_text, is_luck};
+ghost use Rattle.races_text.specs.Judged.Words.{verdict_text, may_be_luck};
 
 use crate::judged::part::Part;
 use chart::{EventNo, EventRange};
@@ -39,12 +39,13 @@ pub(crate) fn word_of(verdict: &Verdict) -> &[u8]
         Verdict::WouldNotTake => b"it would not take it",
         Verdict::PassedOver => b"passed over",
         Verdict::BehindAnother => b"behind another",
+        Verdict::Any => b"any",
     }
 }
 
-/// Whether the verdict is luck.
-pub(crate) fn is_luck(verdict: Verdict) -> bool
-    ensures { result ≡ is_luck verdict }
+/// Whether a race with this verdict was luck, or may have been: of `any` it isn't decided.
+pub(crate) fn may_be_luck(verdict: Verdict) -> bool
+    ensures { result ≡ may_be_luck verdict }
 {
-    matches!(verdict, Verdict::Luck)
+    matches!(verdict, Verdict::Luck | Verdict::Any)
 }

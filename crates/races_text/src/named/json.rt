@@ -10,11 +10,12 @@ ghost use Rattle.races_text.specs.Named.JsonText.{message_text, range_text, next
 ghost use Rattle.races_text.specs.Named.Listing.{has_ranges};
 ghost use Rattle.races_text.specs.Named.Words.{word_text};
 
-use crate::named::kept::{KeptRanges, event_at};
+use crate::named::kept::KeptRanges;
 use crate::named::plain::last_of;
 use crate::named::words::{Word, add_message_at, add_name, add_word};
 use chart::{Event, EventNo, EventRange, Names};
 use itoa::Buffer;
+use shown_races::event_at;
 use texts::{Out, TextBuffer, WriteError};
 
 /// Adds the name of an event's partner, or nothing without an event.

@@ -1,42 +1,12 @@
 //! The earlier events of a receive that are shown, as the fewest ranges.
 ghost use Rattle.std.specs.Prelude.{◌≡◌, ◌∷◌, [], length, filter, drop, All, IfSome, MatchOption};
-ghost use Rattle.chart.specs.Events.{ith};
 ghost use Rattle.chart.specs.Ranges.{IsRange, events_in, is_followed_by, ranges_of, range_before};
-ghost use Rattle.races_text.specs.Named.Kept.{is_kept_after, kept_after, kept_ranges, later_than, receives};
+ghost use Rattle.races_text.specs.Named.Kept.{kept_after, kept_ranges};
+ghost use Rattle.shown_races.specs.Kept.{is_kept_after, later_than};
 
 use chart::{Event, EventNo, EventRange};
+use shown_races::is_kept;
 use std::marker::Model;
-
-/// The event of a line with this number, from 1, if the line has one.
-pub fn event_at(events: &[Event], index: usize) -> Option<Event>
-    ensures { result ≡ ith events.now index }
-{
-    if index == 0 {
-        return None;
-    }
-    events.get(index - 1).copied()
-}
-
-/// Whether this is a receive.
-fn receives(event: Option<Event>) -> bool
-    ensures { result ≡ receives event }
-{
-    matches!(event, Some(Event::Receive { .. }))
-}
-
-/// Whether an earlier event of the line is shown. Events up to the number `passed` aren't shown. With `only` only
-/// receives are shown.
-pub(crate) fn is_kept(events: &[Event], only: bool, passed: u32, event: &EventNo) -> bool
-    ensures { result ≡ is_kept_after events.now only passed event.now }
-{
-    if event.index <= passed {
-        false
-    } else if only {
-        receives(event_at(events, event.index as usize))
-    } else {
-        true
-    }
-}
 
 /// The events of ranges that are still to come. Its model is the list of these events.
 #[derive(Drop)]

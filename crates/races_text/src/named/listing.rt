@@ -6,9 +6,11 @@ ghost use Rattle.chart.specs.Ranges.{IsRange, events_in};
 ghost use Rattle.chart.specs.Reports.{ReportView, IsReportIn};
 ghost use Rattle.closure.specs.Reported.{HaveReported};
 ghost use Rattle.texts.specs.Writing.{Adds};
-ghost use Rattle.races_text.specs.Named.Kept.{kept_ranges, later_than};
+ghost use Rattle.races_text.specs.Named.Kept.{kept_ranges};
+ghost use Rattle.shown_races.specs.Kept.{later_than};
 ghost use Rattle.races_text.specs.Named.Listing.{ranges_text, has_ranges, manner_of, shown_of, report_text, HasAdded};
-ghost use Rattle.races_text.specs.Named.Listing.{HasWritten, IsPassed, IsSelectedOf};
+ghost use Rattle.races_text.specs.Named.Listing.{HasWritten};
+ghost use Rattle.shown_races.specs.Selected.{IsPassed, IsSelectedOf};
 
 use crate::named::kept::KeptRanges;
 use crate::named::{json, plain};

@@ -7,10 +7,11 @@ ghost use Rattle.races_text.specs.Named.PlainText.{last_of, numbers_text, betwee
 ghost use Rattle.races_text.specs.Named.PlainText.{lines_text};
 ghost use Rattle.races_text.specs.Named.Listing.{has_ranges};
 
-use crate::named::kept::{KeptRanges, event_at};
+use crate::named::kept::KeptRanges;
 use crate::named::words::{Word, add_event_at, add_message_at, add_name, add_word};
 use chart::{Event, EventNo, EventRange, Names};
 use itoa::Buffer;
+use shown_races::event_at;
 use texts::{Out, TextBuffer, WriteError};
 
 /// The number of a range's last event.

@@ -1,11 +1,11 @@
 //! The earlier events of a receive that are shown, several neighbours at a time.
 ghost use Rattle.std.specs.Prelude.{ℕ, ◌≡◌, ◌++◌, ◌+◌, ◌-◌, ◌<◌, ◌≤◌, true, false, [], min, filter, All, IfSome, MatchOption};
 ghost use Rattle.chart.specs.Ranges.{IsRange, events_of, events_in};
-ghost use Rattle.races_text.specs.Named.Kept.{is_kept_after, kept_events, later_than};
+ghost use Rattle.shown_races.specs.Kept.{is_kept_after, kept_events, later_than};
 ghost use Rattle.races_text.specs.Named.Stretches.{IsShort, event_in, IsBehind, events_left, AreShort};
 
-use crate::named::kept::is_kept;
 use chart::{Event, EventNo, EventRange, InstanceNo};
+use shown_races::is_kept;
 use std::marker::Model;
 
 /// The rest of a range after its first events. It may have no events.
@@ -173,7 +173,7 @@ pub struct KeptEvents<'a> {
 impl<'a> Model for KeptEvents<'a> {
     ghost use Rattle.std.specs.Prelude.{List, filter};
     ghost use Rattle.chart.specs.declared.instance.EventNo.{EventNo};
-    ghost use Rattle.races_text.specs.Named.Kept.{is_kept_after};
+    ghost use Rattle.shown_races.specs.Kept.{is_kept_after};
     ghost use Rattle.races_text.specs.Named.Stretches.{events_left, AreShort};
 
     ghost Value = { List EventNo };
@@ -186,7 +186,7 @@ impl<'a> Model for KeptEvents<'a> {
 impl<'a> KeptEvents<'a> {
     /// The shown events among `earlier`: those with a number above `passed`, and with `only` only receives. `events`
     /// are the events of their line.
-    #[tactic(auto, using(crate::proofs::NamedLemmas::LaterRaces::kept_events_later))]
+    #[tactic(auto, using(shown_races::proofs::SelectedLemmas::kept_events_later))]
     pub fn of(
         events: &'a [Event],
         only: bool,

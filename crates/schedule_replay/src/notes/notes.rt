@@ -6,6 +6,7 @@ ghost use Rattle.schedule_replay.specs.Notes.Notes.{later_for, note_if, noted, A
 
 use crate::notes::lanes::LaneTable;
 use crate::notes::words::words_of;
+use schedule::outcomes::ReplayError;
 use schedule::{Action, Command, Note, Schedule, Word};
 use std::alloc::{AllocError, Global};
 
@@ -102,6 +103,6 @@ pub fn notes_of(alloc: Global, schedule: &Schedule) -> Result<Vec<Noted>, AllocE
 {
     match words_of(alloc, schedule) {
         Ok(words) => noted_all(alloc, schedule.commands(), words.as_slice()),
-        Err(_) => Err(AllocError),
+        Err(ReplayError::Memory) => Err(AllocError),
     }
 }

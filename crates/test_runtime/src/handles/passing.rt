@@ -21,7 +21,7 @@ fn messages_both_ways(rt: HostRuntime) {
     let mut output = no_arrival();
     let found = second.receive(alloc, 1, &mut output);
     holds(&rt, "it has ended", matches!(found, Ok(Peek::Ended)));
-    holds(&rt, "nothing is told", output.from == 0);
+    holds(&rt, "nothing is reported", output.from == 0);
     let found = second.any(alloc);
     holds(&rt, "all have ended", matches!(found, Ok(Found::Ended)));
     first.end(alloc);

@@ -24,8 +24,8 @@ part_all-requires-clause-seen c =
     let rest = take c.args.posts.len (c.meet.new.posts ++ drop (length c.meet.new.posts) posts) in
     (x.board.capacity, x.board.table, h, g.seen, its_own_events posts rest n x.board.capacity x.board.table h g it c.requires.provision)
 
-pub draw_lanes-requires-clause-ready : goal.draw_lanes-requires-clause-ready
-draw_lanes-requires-clause-ready c =
+pub take_lanes-requires-clause-ready : goal.take_lanes-requires-clause-ready
+take_lanes-requires-clause-ready c =
     let n = c.board_size-instances.result in
     let x = c.index.result.now in
     let posts = c.args.posts.items in
@@ -95,7 +95,7 @@ returns c =
     let table : words ≡ x.board.table = c.words-words.ensures ∙ ap (λ (post : PostView). post.board.table) (c.index-2.ensures ∙ same_default posts c.index-2.result.now x (some_posts posts c.requires.all) ∙ sym c.index.ensures) in
     let ready = its_ready posts rest n x.board.capacity x.board.table h g it c.requires.provision c.part_all.new.lines.items c.part_all.new.leavers.items c.deref_mut-2.result.now words parted c.deref_mut-2.ensures.value table in
     let rooms = its_rooms posts rest n x.board.capacity x.board.table h g it c.requires.provision in
-    let result : Gathered = record { chart = c.whole_chart.result; reports = it.reports; left = c.draw_lanes.new.left; closed = it.closed } in
+    let result : Gathered = record { chart = c.whole_chart.result; reports = it.reports; left = c.take_lanes.new.left; closed = it.closed } in
     record {
       all = c.requires.all;
       history = h;
@@ -103,7 +103,7 @@ returns c =
       gathered = subst (λ (m : ℕ). IsGathered m h result) g.size (record {
         chart = c.whole_chart.ensures ∙ parted.lined;
         reports = all_reports n x.board.capacity h it.reports.items g.legal (its_reports posts rest n x.board.capacity x.board.table h g it c.requires.provision);
-        left = c.draw_lanes.ensures n x.board.capacity h ready (rooms.each h g.joint) ∙ ap (map (left_on h)) (its_lanes posts rest n x.board.capacity x.board.table h g it c.requires.provision);
+        left = c.take_lanes.ensures n x.board.capacity h ready (rooms.each h g.joint) ∙ ap (map (left_on h)) (its_lanes posts rest n x.board.capacity x.board.table h g it c.requires.provision);
         closed = its_closed posts rest n x.board.capacity x.board.table h g it c.requires.provision;
       });
     }

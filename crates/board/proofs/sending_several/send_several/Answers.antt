@@ -28,8 +28,8 @@ returns-then-not-claim_slots-clause-recorder c = recorder_saw c.args.lane.now.in
 pub prepare-requires-clause-base : goal.prepare-requires-clause-base
 prepare-requires-clause-base c = let many = known_many c.args.lane.now.instances c.args.lane.now.capacity (held c.args.seat.now.me).seen c.args.lane.now.sender c.args.recorder.now c.requires.may_put.legal c.requires.may_put.recorded in c.claim_slots.ensures.end.long ∙ sym many
 
-pub returns-in_default-clause-recorder : goal.returns-in_default-clause-recorder
-returns-in_default-clause-recorder c =
+pub returns-in-Err-clause-recorder : goal.returns-in-Err-clause-recorder
+returns-in-Err-clause-recorder c =
     let kept : c.prepare.new.recorder ≡ c.args.recorder.now = search rules in
     subst (λ (r : RecorderView). IsRecorder c.args.lane.now.instances (held c.give_back_vacant.new.seat.me).seen c.args.lane.now.sender r) (sym kept)
     (subst (λ (x : Mine). IsRecorder c.args.lane.now.instances (held x).seen c.args.lane.now.sender c.args.recorder.now) (sym c.give_back_vacant.ensures.puts_back) (recorder_saw c.args.lane.now.instances c.args.lane.now.capacity c.args.lane.now.sender (held c.args.seat.now.me) (held c.claim_slots.new.seat.me) c.requires.may_put.legal c.requires.may_put.own c.claim_slots.ensures.did c.args.recorder.now c.requires.may_put.recorded))

@@ -45,11 +45,11 @@ returns-in-Ok-gather_parked c =
       made_is = c.put.ensures ∙ ap (λ (kept : Kept). Some kept) c.board_in.ensures;
     }
 
-pub returns-in-Err : goal.returns-in-Err
-returns-in-Err c =
+pub returns-in-Err-gather_parked : goal.returns-in-Err-gather_parked
+returns-in-Err-gather_parked c =
     let taken = c.in_ok-chairs.ensures.0 in
     let chairs = c.in_ok-chairs.field-0.chairs.items in
     let posts = c.in_ok-chairs.field-0.posts.items in
-    let back = c.in-Err.ensures in
-    back_again c.in-Err.back.refusal (kept_by c.args.handles.now) (kept_by c.put_posts.new.handles) c.args.board.now.slot.value (seats_with chairs posts) posts taken.seats (posts-same chairs posts taken.fit) back.1
+    let back = c.in-Err-gather_parked.ensures in
+    back_again c.in-Err-gather_parked.back.refusal (kept_by c.args.handles.now) (kept_by c.put_posts.new.handles) c.args.board.now.slot.value (seats_with chairs posts) posts taken.seats (posts-same chairs posts taken.fit) back.1
     (c.put_posts.ensures ∙ ap (λ (ps : List PostView). kept_seats (seats_with chairs ps)) back.0 ∙ sym taken.seats) (c.is_empty.ensures.yes c.if-not-is_empty.false)

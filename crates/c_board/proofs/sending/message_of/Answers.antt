@@ -5,8 +5,8 @@ use Rattle.c_board.proofs.sending.message_of.Goals as goal
 pub returns-then-body-gt-MAX_BODY : goal.returns-then-body-gt-MAX_BODY
 returns-then-body-gt-MAX_BODY c = (is_name _ _ (sym c.new.ensures ∙ c.in-Ok.is), omega arith)
 
-pub returns-in_default : goal.returns-in_default
-returns-in_default c = record {
+pub returns-in-Err-copied : goal.returns-in-Err-copied
+returns-in-Err-copied c = record {
   is_name = is_name _ _ (sym c.new.ensures ∙ c.in-Ok.is);
   short = omega arith;
 }

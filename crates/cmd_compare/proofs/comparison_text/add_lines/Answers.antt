@@ -1,5 +1,5 @@
 use Rattle.texts.proofs.Writes.{buffers_more_read, adds_in_read}
-use Rattle.cmd_base.specs.Files.{Named}
+use Rattle.cmd_base.specs.Contents.{Named}
 use Rattle.cmd_compare.specs.Comparisons.{line_text}
 use Rattle.cmd_compare.proofs.comparison_text.add_lines.Goals as goal
 

@@ -2,7 +2,7 @@ use Rattle.std.proofs.Common.{List, ◌∙◌, refl, subst}
 use Rattle.std.proofs.lemmas.Result.{err_from_is_err_and}
 use Rattle.std.specs.List.{flat_map, list_any}
 use Rattle.texts.specs.Writing.{Puts, Breaks}
-use Rattle.cmd_base.specs.Files.{Named}
+use Rattle.cmd_base.specs.Contents.{Named}
 use Rattle.cmd_compare.specs.declared.comparison.LineComparison.{LineComparison}
 use Rattle.cmd_compare.specs.Comparisons.{line_text, has_difference, found_in}
 use Rattle.cmd_compare.proofs.NamingLemmas.{none_forth, none_back, refused_first, refused_second}
@@ -55,5 +55,5 @@ returns g c =
     let compared = compared_so both.form a b c.in_ok-others.others.items c.in_ok-back.back.items c.as_slice.result.now c.as_slice-2.result.now c.in_ok-first.first c.in_ok-second.second lines lines found c.in_ok-others.ensures c.in_ok-back.ensures c.as_slice.ensures.value c.as_slice-2.ensures.value (c.in_ok-first.ensures.lines ∙ c.in_ok-here.ensures.closure) (c.in_ok-second.ensures.lines ∙ c.in_ok-there.ensures.closure) c.in-Ok.ensures refl refl in (
       c.in_ok-here.ensures.possible,
       c.in_ok-there.ensures.possible,
-      (flat_map (line_text both.form a b) lines, found, compared, subst (λ (l : List LineComparison). Breaks g.W.Out.sink c.args.out.now c.write_both.new.out (flat_map (line_text both.form a b) l)) c.as_slice-3.ensures.value c.in-Err.ensures),
+      (flat_map (line_text both.form a b) lines, found, compared, subst (λ (l : List LineComparison). Breaks g.W.Out.sink c.args.out.now c.write_both.new.out (flat_map (line_text both.form a b) l)) c.as_slice-3.ensures.value c.in-Err-write_both.ensures),
     )

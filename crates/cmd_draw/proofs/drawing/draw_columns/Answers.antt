@@ -4,7 +4,7 @@ use Rattle.std.specs.Prelude.{Option}
 use Rattle.chart.specs.declared.instance.EventNo.{EventNo}
 use Rattle.chart.specs.Charts.{LineView, chart_lines, IsPossible}
 use Rattle.chart.specs.Reports.{ReportView, AreReports}
-use Rattle.cmd_base.specs.Files.{Named}
+use Rattle.cmd_base.specs.Contents.{Named}
 use Rattle.chart_layout.specs.declared.row.Row.{Row}
 use Rattle.chart_layout.specs.declared.margin.MarginNote.{MarginNote}
 use Rattle.pictures.specs.Pictures.{PictureView}
@@ -29,7 +29,7 @@ is_wanted : (wanted : Wanted) (turns : List ℕ) (notes : List MarginNote) (name
       reports = reports;
       ends = ends;
     }) (record {
-      drawn = columns;
+      instances = columns;
       first = wanted.events.first;
       last = wanted.events.last;
       top = window.top;
@@ -37,7 +37,7 @@ is_wanted : (wanted : Wanted) (turns : List ℕ) (notes : List MarginNote) (name
       numbers = wanted.numbers;
       notes = notes;
     }) picture → IsWanted wanted turns notes (names, lines) picture
-is_wanted wanted turns notes names lines lines' columns rows ends reports window picture are possible prepared races same chosen drawn = record {
+is_wanted wanted turns notes names lines lines' columns rows ends reports window picture are possible prepared races same chosen is_picture = record {
   columns = columns;
   rows = rows;
   ends = ends;
@@ -48,7 +48,7 @@ is_wanted wanted turns notes names lines lines' columns rows ends reports window
   prepared = prepared;
   races = races;
   chosen = subst (λ (ls : List LineView). IsWindow (names, ls) rows wanted.rows window) same chosen;
-  drawn = drawn;
+  is_picture = is_picture;
 }
 
 pub returns-in_err-window : goal.returns-in_err-window
@@ -76,5 +76,5 @@ returns g c = (
   c.in-Ok-of.picture,
   is_wanted c.args.wanted.now c.args.subject.now.turns.now c.args.subject.now.notes.now c.args.subject.now.names.now c.args.subject.now.closure.now c.lines.result.now c.args.columns.now c.in-Ok.prepared.layout c.in-Ok.prepared.ends c.args.subject.now.reports.now c.in_ok-window.window c.in-Ok-of.picture
       c.requires.columns c.requires.possible c.in-Ok.ensures c.requires.reports c.lines.ensures c.in_ok-window.ensures c.in-Ok-of.ensures,
-  c.in-Err.ensures,
+  c.in-Err-write_picture.ensures,
 )

@@ -2,12 +2,12 @@ use Rattle.std.proofs.Common.{◌≡◌, ◌⊎◌, ℕ, List, [], ◌∙◌, su
 use Rattle.std.proofs.lemmas.Result.{err_from_is_err_and}
 use Rattle.chart.specs.Charts.{LineView}
 use Rattle.cmd_base.specs.declared.error.ProgramError.TheVariants.{Memory}
-use Rattle.cmd_base.specs.Files.{IsRefused}
+use Rattle.cmd_base.specs.Contents.{IsRefused}
 use Rattle.cmd_base.specs.Texts.{named_of}
 use Rattle.cmd_draw.specs.Preparing.{turns_in}
 use Rattle.cmd_base.specs.Columns.Columns.{AreColumns, RefusesColumns, only_of}
 use Rattle.cmd_draw.specs.Drawing.{Draws}
-use Rattle.cmd_draw.proofs.RefusedLemmas.{no_columns, not_drawn}
+use Rattle.cmd_draw.proofs.RefusedLemmas.{no_columns, not_pictured}
 use Rattle.cmd_draw.proofs.drawing.draw_source.Goals as goal
 
 pub returns-in_err-columns : goal.returns-in_err-columns
@@ -22,7 +22,7 @@ returns-in_err-closure g c =
     let p = err_from_is_err_and c.from_residual-in_err-closure.result c.from_residual-in_err-closure.ensures.1 in
     let error = c.in_err-closure.field-0.0 in
     let named = named_of c.args.source.now in
-    rw (p.1, p.2) (not_drawn g.W.Out.sink c.args.out.now (turns_in c.args.source.now) [] named c.args.wanted.now c.in_ok-columns.columns.items
+    rw (p.1, p.2) (not_pictured g.W.Out.sink c.args.out.now (turns_in c.args.source.now) [] named c.args.wanted.now c.in_ok-columns.columns.items
     (subst (λ (ns : List (List ℕ)). AreColumns ns (only_of c.args.wanted.now.only) c.in_ok-columns.columns.items) c.names-names.ensures c.in_ok-columns.ensures.ok)
     error
     (subst₂ (λ (ns : List (List ℕ)) (ls : List LineView). (error ≡ Memory) ⊎ IsRefused error (ns, ls)) c.names-names.ensures c.chart.ensures.value c.in_err-closure.ensures.refused))

@@ -2,7 +2,7 @@ use Rattle.std.proofs.Common.{◌≡◌, ◌⊎◌, ℕ, List, ◌∙◌, subst�
 use Rattle.std.proofs.lemmas.Result.{err_from_is_err_and}
 use Rattle.chart.specs.Charts.{LineView}
 use Rattle.cmd_base.specs.declared.error.ProgramError.TheVariants.{Memory}
-use Rattle.cmd_base.specs.Files.{IsRefused}
+use Rattle.cmd_base.specs.Contents.{IsRefused}
 use Rattle.cmd_base.specs.Texts.{named_of}
 use Rattle.cmd_draw.specs.Preparing.{turns_in}
 use Rattle.cmd_draw.specs.Exporting.{Exports}

@@ -2,7 +2,7 @@ use Rattle.std.proofs.lemmas.Result.{err_from_is_err_and}
 use Rattle.cmd_base.proofs.TextLemmas.{not_read, not_replayed, was_done}
 use Rattle.cmd_base.specs.Texts.{named_of}
 use Rattle.cmd_draw.specs.Preparing.{turns_in}
-use Rattle.cmd_base.specs.declared.columns.error.FormatError.TheVariants.{Program}
+use Rattle.cmd_base.specs.declared.columns.error.ColumnError.TheVariants.{Program}
 use Rattle.cmd_draw.specs.Exporting.{Exports}
 use Rattle.cmd_draw.proofs.exporting.export_text.Goals as goal
 

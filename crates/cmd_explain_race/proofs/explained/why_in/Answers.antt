@@ -46,5 +46,5 @@ returns g c =
       c.in_ok-closure.ensures.possible,
       subst (λ (l : List LineView). IsExplained (length l) (chart_lines l) pair c.in-Ok.verdict c.in-Ok.sayings.items) c.in_ok-closure.ensures.closure c.in-Ok.ensures,
       subst (λ (l : List Event). Breaks g.W.Out.sink c.args.out.now c.write_sayings.new.out (flat_map (saying_text names l) c.in-Ok.sayings.items)) events
-          (subst (λ (l : List Saying). Breaks g.W.Out.sink c.args.out.now c.write_sayings.new.out (flat_map (saying_text names c.events_of-events.result.now) l)) c.as_slice.ensures.value c.in-Err.ensures),
+          (subst (λ (l : List Saying). Breaks g.W.Out.sink c.args.out.now c.write_sayings.new.out (flat_map (saying_text names c.events_of-events.result.now) l)) c.as_slice.ensures.value c.in-Err-write_sayings.ensures),
     )

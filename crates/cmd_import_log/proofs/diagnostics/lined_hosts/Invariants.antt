@@ -1,5 +1,5 @@
 use Rattle.std.proofs.Common.{◌≡◌, [], drop}
-use Rattle.cmd_import_log.specs.Drawing.{with_lined}
+use Rattle.cmd_import_log.specs.Imported.{with_lined}
 use Rattle.cmd_import_log.proofs.diagnostics.lined_hosts.Given as goal
 
 abbrev pub invariant-loop-name : goal.invariant-loop-name

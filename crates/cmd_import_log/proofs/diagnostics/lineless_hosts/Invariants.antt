@@ -1,5 +1,5 @@
 use Rattle.std.proofs.Common.{◌≡◌, [], drop}
-use Rattle.cmd_import_log.specs.Drawing.{with_lineless}
+use Rattle.cmd_import_log.specs.Imported.{with_lineless}
 use Rattle.cmd_import_log.proofs.diagnostics.lineless_hosts.Given as goal
 
 abbrev pub invariant-loop-name : goal.invariant-loop-name

@@ -20,5 +20,6 @@ returns-then-not-has_receive-clause-err c =
       none = ap (λ l. has_receive (map logged_event_view l)) (sym value) ∙ sym c.has_receive.ensures ∙ c.if-not-has_receive.true;
       sent = ap length value ∙ sym (length-map items logged_event_view);
       counted = refl;
-      unread = refl;
+      unmatched = refl;
+      first = c.in_ok-unread-2.ensures;
     }

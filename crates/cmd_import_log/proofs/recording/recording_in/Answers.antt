@@ -4,7 +4,7 @@ use Rattle.log_lines.specs.Names.Naming.{named_view, named}
 use Rattle.log_lines.specs.Takes.Observations.{observations_view}
 use Rattle.cmd_import_log.specs.Options.{options_view}
 use Rattle.cmd_import_log.specs.Reading.{log_view}
-use Rattle.cmd_import_log.proofs.KeptLemmas.{records_keep, records_numbered}
+use Rattle.cmd_import_log.proofs.KeptLemmas.{records_keep, records_numbered, records_possible}
 use Rattle.cmd_import_log.proofs.RecordingLemmas.{records_as}
 use Rattle.std.proofs.lemmas.Result.{err_from_is_err_and}
 use Rattle.cmd_import_log.proofs.recording.recording_in.Goals as goal
@@ -26,6 +26,7 @@ returns c =
       records = records;
       named = c.recording_of.ensures.named;
       invented = c.recording_of.ensures.invented;
+      possible = records_possible o texts c.recording_of.result records;
       keeps = records_keep o texts c.recording_of.result records;
       numbered = records_numbered o texts c.recording_of.result records;
     }

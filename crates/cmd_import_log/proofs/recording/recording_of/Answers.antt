@@ -12,5 +12,5 @@ returns-clause-records c =
     let logged = map logged_event_view c.args.logged.now in
     let settled = c.in_ok-settled.settled in
     let r = c.in_ok-recorded.field-0 in
-    named_as c.args.beside (named_view c.args.named.now) o logged (observations_view c.args.observed) r settled.entries.items settled.drawing c.in_ok-recorded.ensures.drawing
+    named_as c.args.beside (named_view c.args.named.now) o logged (observations_view c.args.observed) r settled.entries.items settled.imported c.in_ok-recorded.ensures.imported
     c.in_ok-settled.ensures.settled c.in_ok-recorded.ensures.recorded (c.in_ok-recorded.ensures.known ∙ c.is_known-is_known.ensures)

@@ -23,12 +23,12 @@ returns c =
     let news = c.args.news.now in
     let made : ℕ → ℕ → ℕ → Counts = λ going staying coming. record { going = going; staying = staying; coming = coming } in
     let count : List ReportView → ℕ = λ reports. length (pairs_of reports) in
-    let going = c.count_pairs.ensures ∙ ap count (c.as_slice-4.ensures.value ∙ c.in_ok-gone.ensures) in
-    let coming = c.count_pairs-come.ensures ∙ ap count (c.as_slice-3.ensures.value ∙ c.in_ok-coming.ensures) in
+    let going = c.count_pairs.ensures.value ∙ ap count (c.as_slice-4.ensures.value ∙ c.in_ok-gone.ensures) in
+    let coming = c.count_pairs-come.ensures.value ∙ ap count (c.as_slice-3.ensures.value ∙ c.in_ok-coming.ensures) in
     let gone = count (all_gone m c.args.olds.now (old_receives m news)) in
     let stay = count (map (kept_of false m) news) in
     let all = stay_or_come m news in
-    let staying : c.saturating_sub.result ≡ length (pairs_of (map (kept_of false m) news)) = omega (arith, all, coming, c.count_pairs-2.ensures, c.saturating_sub.ensures) in
+    let staying : c.saturating_sub.result ≡ length (pairs_of (map (kept_of false m) news)) = omega (arith, all, coming, c.count_pairs-2.ensures.value, c.saturating_sub.ensures) in
     record {
       shown = subst₂ (λ (goes : List ReportView) (come : List ReportView). HasFirst (all_shown Goes goes ++ all_shown Comes come) c.in_ok-shown.shown.items)
           (c.as_slice.ensures.value ∙ c.in_ok-gone.ensures) (c.as_slice-2.ensures.value ∙ c.in_ok-coming.ensures) c.in_ok-shown.ensures;

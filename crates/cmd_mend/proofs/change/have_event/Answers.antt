@@ -1,7 +1,7 @@
 use Rattle.std.proofs.Common.{◌∙◌, sym}
 use Rattle.chart.specs.Ranges.{events_of}
 use Rattle.repair.proofs.NameLemmas.{any_flat}
-use Rattle.cmd_mend.specs.Marks.{is_at}
+use Rattle.repair.specs.Marks.{is_at}
 use Rattle.cmd_mend.proofs.change.have_event.Goals as goal
 
 pub returns : goal.returns

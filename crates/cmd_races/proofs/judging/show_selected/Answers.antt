@@ -3,7 +3,8 @@ use Rattle.chart.specs.Charts.{LineView}
 use Rattle.chart.specs.declared.instance.EventNo.{EventNo}
 use Rattle.chart.specs.Reports.{ReportView}
 use Rattle.texts.specs.Writing.{Puts}
-use Rattle.races_text.specs.Named.Listing.{Manner, AreSelected, is_there}
+use Rattle.races_text.specs.Named.Listing.{Manner}
+use Rattle.shown_races.specs.Selected.{AreSelected, is_there}
 use Rattle.races_text.specs.Judged.Listing.{IsRaceIn, PartedReport, AreParted, luck_text}
 use Rattle.cmd_races.specs.Judging.{luck_manner_of}
 use Rattle.cmd_races.proofs.judging.show_selected.Goals as goal

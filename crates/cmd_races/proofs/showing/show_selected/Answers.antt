@@ -3,7 +3,8 @@ use Rattle.chart.specs.Charts.{LineView}
 use Rattle.chart.specs.Reports.{ReportView}
 use Rattle.cmd_base.specs.Statuses.{status_in}
 use Rattle.texts.specs.Writing.{Puts, Breaks}
-use Rattle.races_text.specs.Named.Listing.{AreSelected, is_there, races_text, shows_races}
+use Rattle.races_text.specs.Named.Listing.{races_text, shows_races}
+use Rattle.shown_races.specs.Selected.{AreSelected, is_there}
 use Rattle.cmd_races.specs.Showing.{manner_of}
 use Rattle.cmd_races.proofs.showing.show_selected.Goals as goal
 
@@ -21,11 +22,11 @@ returns-in-Ok-write_races g c =
       c.of.ensures ∙ ap status_in (w.3 ∙ ap (λ (ls : List LineView). shows_races manner ls reports) c.lines.ensures),
     )
 
-pub returns-in-Err : goal.returns-in-Err
-returns-in-Err g c =
+pub returns-in-Err-write_races : goal.returns-in-Err-write_races
+returns-in-Err-write_races g c =
     let manner = manner_of c.args.wanted.now c.args.instances.now in
     let closure = c.args.closure.now in
-    let w = c.in-Err.ensures in
+    let w = c.in-Err-write_races.ensures in
     let reports : List ReportView = w.0 in
     let query = subst (λ (ls : List LineView). AreSelected (is_there c.args.completion) ls reports) c.lines.ensures w.1 in (
       c.args.instances.now,

@@ -3,7 +3,7 @@ use Rattle.std.proofs.lemmas.Result.{err_from_is_err_and}
 use Rattle.chart.specs.Charts.{LineView}
 use Rattle.cmd_base.proofs.TextLemmas.{not_read, not_replayed, was_done}
 use Rattle.cmd_base.specs.Texts.{named_of}
-use Rattle.cmd_base.specs.declared.columns.error.FormatError.TheVariants.{Program}
+use Rattle.cmd_base.specs.declared.columns.error.ColumnError.TheVariants.{Program}
 use Rattle.cmd_races.specs.Showing.{Shows, IsShownOf}
 use Rattle.cmd_races.proofs.showing.show_text.Goals as goal
 

@@ -1,7 +1,7 @@
 use Rattle.std.proofs.Common.{◌≡◌, Result, Ok, Err, length, sym, subst}
 use Rattle.std.specs.Prelude.{IfOk}
 use Rattle.chart.specs.Charts.{chart_lines, IsPossible}
-use Rattle.diagram_join.specs.declared.drawing.JoinedChart.{JoinedChart}
+use Rattle.diagram_join.specs.declared.building.JoinedChart.{JoinedChart}
 use Rattle.diagram_import.specs.declared.error.ImportError.{ImportError}
 use Rattle.diagram_import.proofs.importing.imported_from.Goals as goal
 

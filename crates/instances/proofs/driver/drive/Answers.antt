@@ -17,8 +17,8 @@ loop-turn-init g c =
     let nothing = sym c.new-stretches.ensures.items in
     (first, refl, subst (λ kept. HasRun m first old (turns_of kept) 0 (first_moment first old)) nothing run)
 
-pub returns-then-is_err : goal.returns-then-is_err
-returns-then-is_err g c =
+pub returns-in-Err : goal.returns-in-Err
+returns-in-Err g c =
     let does = goal.Behaviour-dyn g c.args.behaviour.now in
     let m = meaning does.act does.after in
     let first = c.args.behaviour.now.1 in

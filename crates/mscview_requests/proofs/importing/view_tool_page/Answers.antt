@@ -10,5 +10,5 @@ returns g c = (
   c.as_slice.result.now,
   subst (λ o. IsReading c.args.wanted.now.reading (c.in_ok-read.read.tool, o)) (sym c.options_of-options.ensures) c.in_ok-read.ensures,
   given_as (g.G.Giver.gives c.args.giver.now) 0 _ _ _ c.as_slice.ensures c.in_ok-bytes.ensures,
-  (c.file_title-title.result.now, c.file_title-title.ensures, c.page_of_drawing.ensures),
+  (c.file_title-title.result.now, c.file_title-title.ensures, c.page_of_diagram.ensures),
 )

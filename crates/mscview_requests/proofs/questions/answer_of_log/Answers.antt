@@ -6,7 +6,7 @@ use Rattle.cmd_import_log.specs.Refusals.{one_end_text}
 use Rattle.cmd_import_log.specs.declared.error.LogImportError.TheVariants.{Memory}
 use Rattle.cmd_import_log.specs.declared.importing.LogWriteError.TheVariants.{Log}
 use Rattle.msc_text.specs.ChartText.{chart_text}
-use Rattle.mscview_requests.specs.Views.{DoesQuestion}
+use Rattle.mscview_requests.specs.Effects.{DoesQuestion}
 use Rattle.mscview_requests.proofs.QuestionLemmas.{puts_into_memory}
 use Rattle.mscview_requests.proofs.questions.answer_of_log.Goals as goal
 
@@ -14,41 +14,41 @@ pub returns-in-Err : goal.returns-in-Err
 returns-in-Err g c = (
   None,
   imported_exit (map (λ file. file.now) c.args.files.now) (Err (Log c.in-Err.error)),
-  inl (c.in-Err.error, (c.in-Err.ensures.draws, refl), refl),
+  inl (c.in-Err.error, (c.in-Err.ensures.reads, refl), refl),
   (c.refused_log.ensures.status, c.refused_log.ensures.line, refl),
 )
 
-pub returns-then-drawing : goal.returns-then-drawing
-returns-then-drawing g c = let d = c.in-Ok.drawing in (
+pub returns-then-imported : goal.returns-then-imported
+returns-then-imported g c = let d = c.in-Ok.imported in (
   None,
   refusal (one_end_text d.diagnostics),
   inr (
     record { bytes = chart_text d.diagnostics.names d.chart; failures = 0 },
     d.diagnostics,
-    (d, c.in-Ok.ensures.draws, refl, puts_into_memory _ _ _ _ _ refl refl refl),
-    c.if-drawing.true,
+    (d, c.in-Ok.ensures.reads, refl, puts_into_memory _ _ _ _ _ refl refl refl),
+    c.if-imported.true,
     refl,
   ),
   (c.refused_one_end.ensures.status, c.refused_one_end.ensures.line, refl),
 )
 
-pub returns-in_default : goal.returns-in_default
-returns-in_default g c = (
+pub returns-in-Err-text_of : goal.returns-in-Err-text_of
+returns-in-Err-text_of g c = (
   None,
   imported_exit (map (λ file. file.now) c.args.files.now) (Err (Log Memory)),
   inl (Memory, (tt, refl), refl),
-  (c.refused_log-in_default.ensures.status, c.refused_log-in_default.ensures.line, refl),
+  (c.refused_log-in-Err-text_of.ensures.status, c.refused_log-in-Err-text_of.ensures.line, refl),
 )
 
 pub returns : goal.returns
-returns g c = let d = c.in-Ok.drawing in (
+returns g c = let d = c.in-Ok.imported in (
   Some c.in-Ok-text_of.text.items,
   imported_exit (map (λ file. file.now) c.args.files.now) (Ok d.diagnostics),
   (
     record { bytes = c.in-Ok-text_of.text.items; failures = 0 },
     d.diagnostics,
-    (d, c.in-Ok.ensures.draws, refl, puts_into_memory c.in-Ok-text_of.text.items _ _ _ _ c.in-Ok-text_of.ensures refl refl),
-    c.if-drawing.false,
+    (d, c.in-Ok.ensures.reads, refl, puts_into_memory c.in-Ok-text_of.text.items _ _ _ _ c.in-Ok-text_of.ensures refl refl),
+    c.if-imported.false,
     refl,
     refl,
   ),

@@ -11,7 +11,7 @@ use Rattle.mscview_requests.proofs.questions.pair_by.Goals as goal
 none : (pair : Pair) → ((asked : Asked) → IsAsked pair.instance.now pair.earlier.now pair.receive.now asked → ⊥) → (question : ReadQuestion) → IsPairQuestion pair question → ⊥
 none pair lacks (questions.Pair question asked) its = lacks asked its.1
 none pair lacks (questions.Mend wanted) its = its
-none pair lacks (questions.MendAll limit) its = its
+none pair lacks (questions.MendAll wanted) its = its
 
 pub returns-in_err-asked : goal.returns-in_err-asked
 returns-in_err-asked c = says_so c.from_residual.result (IsPairQuestion c.args.pair.now) _ c.from_residual.ensures.1 (c.in_err-asked.ensures.0, none c.args.pair.now c.in_err-asked.ensures.1)

@@ -6,7 +6,7 @@ use Rattle.cmd_import_log.specs.Options.{options_view}
 use Rattle.mscview_requests.specs.FileBytes.{bytes_of}
 use Rattle.mscview_requests.specs.Given.{AreGiven, files_named}
 use Rattle.mscview_requests.specs.Questions.{IsLogQuestion}
-use Rattle.mscview_requests.specs.Views.{DoesOverLog}
+use Rattle.mscview_requests.specs.Effects.{DoesOverLog}
 use Rattle.mscview_requests.specs.Wanted.{IsLog}
 use Rattle.mscview_requests.specs.Words.Words.{AreNotRead}
 use Rattle.mscview_requests.proofs.recorded.view_log_question.Goals as goal

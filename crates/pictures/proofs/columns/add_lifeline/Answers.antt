@@ -7,8 +7,8 @@ use Rattle.pictures.proofs.columns.add_lifeline.Goals as goal
 
 pub loop-event-preserved : goal.loop-event-preserved
 loop-event-preserved g c =
-    let step = life_step c.args.picture.now c.args.instance c.args.x c.loop-event.index c.loop-event.life c.args.events.now c.loop-event.event-index c.event-item.result c.place_drawn-place.result
-    c.region.result c.region-in-loop-event.result c.next_life-life.result c.loop-event-test.true c.event-item.is c.place_drawn-place.ensures c.region.ensures c.region-in-loop-event.ensures c.next_life-life.ensures in
+    let step = life_step c.args.picture.now c.args.instance c.args.x c.loop-event.index c.loop-event.life c.args.events.now c.loop-event.event-index c.event-item.result c.rows_above-place.result
+    c.region.result c.region-in-loop-event.result c.next_life-life.result c.loop-event-test.true c.event-item.is c.rows_above-place.ensures c.region.ensures c.region-in-loop-event.ensures c.next_life-life.ensures in
     record {
       index = ap (λ n. n + 1) c.loop-event.invariant.index;
       come = come_more _ _ (come_as step c.loop-event.invariant.come) c.in_ok-add_part.ensures;
@@ -16,8 +16,8 @@ loop-event-preserved g c =
 
 pub returns-in_err-add_part : goal.returns-in_err-add_part
 returns-in_err-add_part g c =
-    let step = life_step c.args.picture.now c.args.instance c.args.x c.loop-event.index c.loop-event.life c.args.events.now c.loop-event.event-index c.event-item.result c.place_drawn-place.result
-    c.region.result c.region.result (next_life c.loop-event.life c.place_drawn-place.result c.region.result) c.loop-event-test.true c.event-item.is c.place_drawn-place.ensures c.region.ensures c.region.ensures refl in
+    let step = life_step c.args.picture.now c.args.instance c.args.x c.loop-event.index c.loop-event.life c.args.events.now c.loop-event.event-index c.event-item.result c.rows_above-place.result
+    c.region.result c.region.result (next_life c.loop-event.life c.rows_above-place.result c.region.result) c.loop-event-test.true c.event-item.is c.rows_above-place.ensures c.region.ensures c.region.ensures refl in
     come_stops _ _ c.from_residual.result c.from_residual.ensures.0 (come_as step c.loop-event.invariant.come) c.in_err-add_part.ensures
 
 pub returns : goal.returns

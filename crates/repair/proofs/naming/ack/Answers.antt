@@ -1,5 +1,4 @@
-use Rattle.std.proofs.Common.{◌≡◌, ℕ, List, [], ◌∷◌, Ok, refl, sym, subst, ◌∙◌}
-use Rattle.std.specs.Result.{IsOk}
+use Rattle.std.proofs.Common.{refl, ◌∙◌}
 use Rattle.repair.proofs.AckLemmas.{ack_is}
 use Rattle.repair.proofs.naming.ack.Goals as goal
 

@@ -15,4 +15,4 @@ returns c =
       | in-Some-note_of+in_ok-push w ↦ search rules
       | in_default-note_of w ↦ search rules
     ] in
-    rw c.next_place.ensures (passes-answered lines old c.match-note_of.notes.items c.args.place c.args.turn.now answer (search rules) (sym c.is_memory.ensures ∙ c.if-is_memory.false) (noted ∙ ap (λ n. old ++ n) left))
+    rw c.next_place.ensures (passes-answered lines old c.match-note_of.notes.items c.args.place c.args.turn.now answer (search rules) c.in_ok-refused_memory.ensures (noted ∙ ap (λ n. old ++ n) left))

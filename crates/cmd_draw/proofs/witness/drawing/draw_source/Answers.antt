@@ -3,7 +3,7 @@ use Rattle.std.proofs.lemmas.Result.{err_from_is_err_and}
 use Rattle.cmd_base.specs.Texts.{named_of}
 use Rattle.cmd_base.specs.Columns.Columns.{AreColumns, RefusesColumns, only_of}
 use Rattle.cmd_base.proofs.PairsLemmas.PairLemmas.{IsPair-from_words}
-use Rattle.cmd_draw.proofs.WitnessLemmas.DrawnLemmas.{no_columns, not_found, too_many, not_drawn}
+use Rattle.cmd_draw.proofs.WitnessLemmas.PicturedLemmas.{no_columns, not_found, too_many, not_pictured}
 use Rattle.cmd_draw.proofs.witness.drawing.draw_source.Goals as goal
 
 pub judged-requires : goal.judged-requires
@@ -42,7 +42,7 @@ pub returns-in_err-draw_shown : goal.returns-in_err-draw_shown
 returns-in_err-draw_shown g c =
     let p = err_from_is_err_and c.from_residual-in_err-draw_shown.result c.from_residual-in_err-draw_shown.ensures.1 in
     let are = subst (λ (ns : List (List ℕ)). AreColumns ns (only_of c.args.wanted.now.only) c.in-Ok.columns.items) c.names.ensures c.in-Ok.ensures.ok in
-    rw (p.1, p.2) (not_drawn g.W.Out.sink c.args.out.now c.draw_shown.new.out c.args.asked.now c.args.wanted.now c.args.source.now c.in-Ok.columns.items c.in_ok-found.found c.in_ok-witnessed.witnessed c.in_err-draw_shown.field-0.0 are c.in_ok-found.ensures c.in_ok-witnessed.ensures c.in_err-draw_shown.ensures)
+    rw (p.1, p.2) (not_pictured g.W.Out.sink c.args.out.now c.draw_shown.new.out c.args.asked.now c.args.wanted.now c.args.source.now c.in-Ok.columns.items c.in_ok-found.found c.in_ok-witnessed.witnessed c.in_err-draw_shown.field-0.0 are c.in_ok-found.ensures c.in_ok-witnessed.ensures c.in_err-draw_shown.ensures)
 
 pub returns : goal.returns
 returns g c = record {

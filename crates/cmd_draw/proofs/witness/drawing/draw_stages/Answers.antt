@@ -3,7 +3,7 @@ use Rattle.chart.specs.Charts.{LineView}
 use Rattle.cmd_base.specs.Columns.Columns.{only_of}
 use Rattle.cmd_draw.specs.Witness.Counterparts.{counterpart}
 use Rattle.cmd_draw.specs.Witness.Stages.{IsWhole}
-use Rattle.cmd_draw.proofs.WitnessLemmas.DrawnLemmas.{marked_as}
+use Rattle.cmd_draw.proofs.WitnessLemmas.PicturedLemmas.{marked_as}
 use Rattle.cmd_draw.proofs.witness.drawing.draw_stages.Goals as goal
 
 pub returns-in-Ok-write_beside : goal.returns-in-Ok-write_beside
@@ -41,5 +41,5 @@ returns g c = (
         (c.counterpart.ensures ∙ ap₂ (λ (a b : List LineView). counterpart a b c.args.subject.now.pair.earlier) c.lines.ensures c.lines-2.ensures)
         (c.counterpart-2.ensures ∙ ap₂ (λ (a b : List LineView). counterpart a b c.args.subject.now.pair.receive) c.lines-3.ensures c.lines-4.ensures);
   },
-  c.in-Err.ensures,
+  c.in-Err-write_beside.ensures,
 )

@@ -1,6 +1,6 @@
 use Rattle.std.proofs.lemmas.Result.{err_from_is_err_and}
 use Rattle.cmd_base.proofs.TextLemmas.{not_read, not_replayed, was_done}
-use Rattle.cmd_base.specs.declared.pairs.error.ViewError.TheVariants.{Program}
+use Rattle.cmd_base.specs.declared.pairs.error.PairError.TheVariants.{Program}
 use Rattle.cmd_draw.specs.declared.witness.error.PictureError.TheVariants.{Pair}
 use Rattle.cmd_draw.specs.Witness.Drawing.{DrawsWitness}
 use Rattle.cmd_draw.proofs.witness.drawing.draw_text.Goals as goal

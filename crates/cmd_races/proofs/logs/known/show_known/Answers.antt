@@ -14,13 +14,13 @@ use Rattle.cmd_races.proofs.logs.known.show_known.Goals as goal
 
 pub returns-in_err-instances : goal.returns-in_err-instances
 returns-in_err-instances g c =
-    let d = c.args.recording.now.drawing in
+    let d = c.args.recording.now.imported in
     let p = err_from_is_err_and c.from_residual.result c.from_residual.ensures.1 in
     rw (p.1, p.2) (unnamed g.W.Out.sink (verdict_in d.chart (lent_of c.args.recording.now)) c.args.out.now (d.diagnostics.names, d.chart) c.args.wanted.now c.in_err-instances.field-0.0 c.in_err-instances.ensures.err)
 
 pub returns-in_err-closure : goal.returns-in_err-closure
 returns-in_err-closure g c =
-    let d = c.args.recording.now.drawing in
+    let d = c.args.recording.now.imported in
     let p = err_from_is_err_and c.from_residual-in_err-closure.result c.from_residual-in_err-closure.ensures.1 in
     rw (p.1, p.2) (not_judged g.W.Out.sink (verdict_in d.chart (lent_of c.args.recording.now)) c.args.out.now (d.diagnostics.names, d.chart) c.args.wanted.now c.in_ok-instances.instances.items
     c.in_ok-instances.ensures.ok c.in_err-closure.field-0.0 c.in_err-closure.ensures.refused)
@@ -40,7 +40,7 @@ show_judged-requires-clause-races g c =
 
 pub returns : goal.returns
 returns g c =
-    let d = c.args.recording.now.drawing in
+    let d = c.args.recording.now.imported in
     let judged = subst (λ (j : JudgeView). ShowsJudged g.W.Out.sink (verdict_in j.lines j.recording) c.args.out.now c.show_judged.new.out c.show_judged.result c.args.wanted.now (d.diagnostics.names, c.in_ok-closure.closure))
     c.in_ok-verdicts.ensures.judge c.show_judged.ensures in
     subst (λ (ls : List LineView). ShowsJudged g.W.Out.sink (verdict_in ls (lent_of c.args.recording.now)) c.args.out.now c.show_judged.new.out c.show_judged.result c.args.wanted.now (d.diagnostics.names, ls))

@@ -5,7 +5,7 @@ use Rattle.chart.specs.Places.{IsEvent}
 use Rattle.chart.specs.declared.instance.EventNo.{EventNo}
 use Rattle.chart.proofs.HistoryLines.{lines-numbered}
 use Rattle.closure.specs.Faults.{place_of}
-use Rattle.cmd_base.specs.declared.columns.error.FormatError.TheVariants.{Program}
+use Rattle.cmd_base.specs.declared.columns.error.ColumnError.TheVariants.{Program}
 use Rattle.cmd_races.specs.Judging.{ShowsJudged}
 use Rattle.cmd_races.proofs.JudgedLemmas.{not_judged}
 use Rattle.races_text.proofs.JudgedLemmas.RaceLemmas.{race_is}

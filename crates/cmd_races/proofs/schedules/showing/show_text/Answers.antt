@@ -1,7 +1,7 @@
 use Rattle.std.proofs.Common.{Ok, Err}
 use Rattle.std.proofs.lemmas.Result.{err_from_is_err_and}
 use Rattle.cmd_base.proofs.TextLemmas.{not_read, not_replayed, was_done}
-use Rattle.cmd_base.specs.declared.columns.error.FormatError.TheVariants.{Program}
+use Rattle.cmd_base.specs.declared.columns.error.ColumnError.TheVariants.{Program}
 use Rattle.cmd_races.specs.Showing.{IsShownOf}
 use Rattle.cmd_races.specs.Schedules.Showing.{ShowsRun}
 use Rattle.cmd_races.proofs.schedules.showing.show_text.Goals as goal

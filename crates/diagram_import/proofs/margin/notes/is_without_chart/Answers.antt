@@ -1,7 +1,7 @@
 use Rattle.std.proofs.Common.{sym, ap, ◌∙◌}
 use Rattle.std.proofs.lemmas.List.{length-map}
 use Rattle.diagrams.specs.Diagrams.{participant_view}
-use Rattle.diagrams.specs.Drawing.{has_no_chart}
+use Rattle.diagrams.specs.Building.{has_no_chart}
 use Rattle.diagram_import.proofs.margin.notes.is_without_chart.Goals as goal
 
 pub returns : goal.returns

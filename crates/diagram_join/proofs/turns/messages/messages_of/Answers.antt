@@ -1,7 +1,7 @@
 use Rattle.std.proofs.Common.{◌≡◌, length, map, true, false, ap, sym, ◌∙◌, arith}
 use Rattle.std.proofs.lemmas.List.{length-map}
 use Rattle.diagrams.specs.Diagrams.{diagram_view, participant_view}
-use Rattle.diagrams.specs.Drawing.{has_no_chart}
+use Rattle.diagrams.specs.Building.{has_no_chart}
 use Rattle.diagrams.proofs.ChartBuildLemmas.{has_chart}
 use Rattle.diagram_join.specs.Joins.{join_view}
 use Rattle.diagram_join.proofs.TurnsLemmas.MessageLemmas.{steps, nothing}

@@ -12,7 +12,7 @@ returns-in-Err-Syntax-clause-err c =
     let span = syntax.ensures.span syntax.error syntax.field-0-is in
     record {
       refused = syntax.ensures.refused syntax.error syntax.field-0-is;
-      told = subst (IsRightKind own_config c.args.text.now) syntax.field-0-is syntax.ensures.kind;
+      not_memory = subst (IsRightKind own_config c.args.text.now) syntax.field-0-is syntax.ensures.kind;
       start = syntax.error.span.start;
       boundary = span.1;
       counted = refl;

@@ -2,7 +2,7 @@ use Rattle.std.proofs.Common.{◌≡◌, ◌+◌, ◌≤◌, length, map}
 use Rattle.regex.specs.Bytes.{matcher_pattern}
 use Rattle.regex.specs.Locations.{location_count}
 use Rattle.log_formats.specs.Patterns.Groups.{AreAmong}
-use Rattle.log_formats.specs.Patterns.Observing.{with_told_lines}
+use Rattle.log_formats.specs.Patterns.Observing.{with_line_events}
 use Rattle.log_formats.specs.Patterns.PatternReading.{pattern_step, pattern_event}
 use Rattle.log_lines.specs.Names.Hosts.{peer_view}
 use Rattle.log_lines.specs.Reading.{all_lines}
@@ -15,8 +15,8 @@ invariant-lines l =
     let says = pattern_step s.groups s.more (matcher_pattern s.matcher) in
     let events = pattern_event s.groups s.more (matcher_pattern s.matcher) in
     record {
-      told : with_told_lines (map peer_view l.peers) says events l.range l.number l.taken (all_lines l.rest) (observations_view l.observed)
-          ≡ with_told_lines (map peer_view l.peers) says events l.range 1 0 (all_lines l.bytes) (observations_view l.initial.observed);
+      observes : with_line_events (map peer_view l.peers) says events l.range l.number l.taken (all_lines l.rest) (observations_view l.observed)
+          ≡ with_line_events (map peer_view l.peers) says events l.range 1 0 (all_lines l.bytes) (observations_view l.initial.observed);
       number : l.number + length l.rest ≤ 1 + length l.bytes;
       pattern : matcher_pattern l.search.matcher ≡ matcher_pattern s.matcher;
       groups : l.search.groups ≡ s.groups;

@@ -2,7 +2,7 @@ use Rattle.std.proofs.Common.{◌≡◌, drop, map}
 use Rattle.regex.specs.Bytes.{matcher_pattern, regex_pattern}
 use Rattle.regex.specs.Locations.{location_count}
 use Rattle.log_formats.specs.Patterns.Groups.{AreAmong}
-use Rattle.log_formats.specs.Patterns.Observing.{with_told_texts}
+use Rattle.log_formats.specs.Patterns.Observing.{with_text_events}
 use Rattle.log_formats.specs.Patterns.PatternReading.{pattern_step, pattern_event}
 use Rattle.log_lines.specs.Names.Hosts.{peer_view}
 use Rattle.log_lines.specs.Takes.Observations.{observations_view, no_observations}
@@ -14,8 +14,8 @@ invariant-loop-text l =
     let says = pattern_step e.groups e.more (regex_pattern e.regex) in
     let events = pattern_event e.groups e.more (regex_pattern e.regex) in
     record {
-      told : with_told_texts (map peer_view l.peers) says events l.range (map (λ text. text.now) (drop l.text-index l.texts)) (observations_view l.observed)
-          ≡ with_told_texts (map peer_view l.peers) says events l.range (map (λ text. text.now) l.texts) no_observations;
+      observes : with_text_events (map peer_view l.peers) says events l.range (map (λ text. text.now) (drop l.text-index l.texts)) (observations_view l.observed)
+          ≡ with_text_events (map peer_view l.peers) says events l.range (map (λ text. text.now) l.texts) no_observations;
       pattern : matcher_pattern l.search.matcher ≡ regex_pattern e.regex;
       groups : l.search.groups ≡ e.groups;
       more : l.search.more ≡ e.more;

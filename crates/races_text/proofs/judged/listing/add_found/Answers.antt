@@ -5,12 +5,13 @@ use Rattle.chart.specs.Charts.{LineView, chart_lines}
 use Rattle.chart.specs.Reports.{ReportView, IsReportIn, AreReports}
 use Rattle.closure.specs.Reported.{HaveReported}
 use Rattle.reordering.proofs.CompletionLemmas.Possible.{is_sound}
-use Rattle.races_text.specs.Named.Listing.{IsSelectedOf}
-use Rattle.races_text.specs.Named.Listing.AreSelectedOf.{none}
+use Rattle.shown_races.specs.Selected.{IsSelectedOf}
+use Rattle.shown_races.specs.Selected.AreSelectedOf.{none}
 use Rattle.texts.specs.Writing.{Adds}
 use Rattle.texts.proofs.Writes.{buffers_nothing}
 use Rattle.races_text.proofs.NamedLemmas.FoundRaces.{adds_next, stops_at_next, vacuous}
-use Rattle.races_text.proofs.NamedLemmas.LaterRaces.{selected_exist, selected_append, selected_push, selected_are, last_of_all}
+use Rattle.races_text.proofs.NamedLemmas.LaterRaces.{last_of_all}
+use Rattle.shown_races.proofs.SelectedLemmas.{selected_exist, selected_append, selected_push, selected_are}
 use Rattle.races_text.specs.Judged.Listing.{PartedReport, luck_manner, report_text, luck_text, summary_of}
 use Rattle.races_text.specs.declared.judged.summary.RaceSummary.{RaceSummary}
 use Rattle.races_text.specs.Judged.Listing.AreParted.{none as none_parted}

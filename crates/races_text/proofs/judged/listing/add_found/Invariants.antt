@@ -3,7 +3,8 @@ use Rattle.chart.specs.Charts.{chart_lines}
 use Rattle.chart.specs.Reports.{ReportView}
 use Rattle.closure.specs.Reported.{HaveReported, reports_left}
 use Rattle.texts.specs.Writing.{Buffers}
-use Rattle.races_text.specs.Named.Listing.{manner_of, AreSelectedOf}
+use Rattle.races_text.specs.Named.Listing.{manner_of}
+use Rattle.shown_races.specs.Selected.{AreSelectedOf}
 use Rattle.races_text.specs.Judged.Listing.{PartedReport, AreParted, luck_manner, luck_text, summary_of}
 use Rattle.races_text.proofs.judged.listing.add_found.Given as goal
 

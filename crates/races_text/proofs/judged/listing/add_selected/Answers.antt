@@ -4,7 +4,7 @@ use Rattle.chart.specs.declared.instance.EventNo.{EventNo}
 use Rattle.chart.specs.Ranges.{events_in}
 use Rattle.chart.specs.Reports.{ReportView}
 use Rattle.texts.specs.Writing.{Adds}
-use Rattle.races_text.specs.Named.Kept.{later_than}
+use Rattle.shown_races.specs.Kept.{later_than}
 use Rattle.races_text.specs.Named.Listing.{manner_of}
 use Rattle.races_text.specs.Judged.Parts.{Judges, shown_parts}
 use Rattle.races_text.specs.Judged.Listing.{parts_text}

@@ -1,5 +1,5 @@
 use Rattle.std.proofs.Common.{◌≡◌, length, filter}
-use Rattle.races_text.specs.Named.Kept.{is_kept_after}
+use Rattle.shown_races.specs.Kept.{is_kept_after}
 use Rattle.races_text.proofs.named.kept.next_kept.Given as goal
 
 -- no shown event was passed over

@@ -4,11 +4,13 @@ use Rattle.chart.specs.Charts.{LineView, chart_lines}
 use Rattle.chart.specs.Reports.{ReportView, IsReportIn, AreReports}
 use Rattle.closure.specs.Reported.{HaveReported}
 use Rattle.reordering.proofs.CompletionLemmas.Possible.{is_sound}
-use Rattle.races_text.specs.Named.Listing.{manner_of, report_text, has_ranges, shown_of, shows_races, IsSelectedOf}
-use Rattle.races_text.specs.Named.Listing.AreSelectedOf.{none}
+use Rattle.races_text.specs.Named.Listing.{manner_of, report_text, has_ranges, shown_of, shows_races}
+use Rattle.shown_races.specs.Selected.{IsSelectedOf}
+use Rattle.shown_races.specs.Selected.AreSelectedOf.{none}
 use Rattle.texts.proofs.Writes.{buffers_nothing}
 use Rattle.races_text.proofs.NamedLemmas.FoundRaces.{adds_next, stops_at_next, any_more, vacuous}
-use Rattle.races_text.proofs.NamedLemmas.LaterRaces.{selected_exist, selected_append, selected_push, selected_are, last_of_all}
+use Rattle.races_text.proofs.NamedLemmas.LaterRaces.{last_of_all}
+use Rattle.shown_races.proofs.SelectedLemmas.{selected_exist, selected_append, selected_push, selected_are}
 use Rattle.races_text.proofs.named.listing.add_found.Goals as goal
 
 pub loop-receive-init : goal.loop-receive-init

@@ -3,7 +3,8 @@ use Rattle.chart.specs.Charts.{chart_lines}
 use Rattle.chart.specs.Reports.{ReportView}
 use Rattle.closure.specs.Reported.{HaveReported, reports_left}
 use Rattle.texts.specs.Writing.{Buffers}
-use Rattle.races_text.specs.Named.Listing.{manner_of, races_text, shows_races, AreSelectedOf}
+use Rattle.races_text.specs.Named.Listing.{manner_of, races_text, shows_races}
+use Rattle.shown_races.specs.Selected.{AreSelectedOf}
 use Rattle.races_text.proofs.named.listing.add_found.Given as goal
 
 -- the listed text of the earlier reports was added

@@ -1,7 +1,7 @@
 use Rattle.std.proofs.Common.{refl}
 use Rattle.chart.specs.Ranges.{events_in}
 use Rattle.chart.specs.Reports.{ReportView}
-use Rattle.races_text.specs.Named.Listing.{without_first}
+use Rattle.shown_races.specs.Selected.{without_first}
 use Rattle.races_text.proofs.named.listing.add_report.Goals as goal
 
 pub returns : goal.returns

@@ -2,7 +2,7 @@ use Rattle.std.proofs.Common.{List, ◌++◌, All, filter, sym, ap, ◌∙◌, s
 use Rattle.std.proofs.lemmas.List.Elements.{All-tail}
 use Rattle.chart.specs.declared.ranges.EventRange.{EventRange}
 use Rattle.chart.specs.Ranges.{IsRange, events_of, events_in}
-use Rattle.races_text.specs.Named.Kept.{is_kept_after}
+use Rattle.shown_races.specs.Kept.{is_kept_after}
 use Rattle.races_text.proofs.NamedLemmas.StretchLemmas.{next_begins}
 use Rattle.races_text.proofs.named.stretches.begin_shown.Goals as goal
 

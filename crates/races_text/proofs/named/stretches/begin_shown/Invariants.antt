@@ -1,5 +1,5 @@
 use Rattle.std.proofs.Common.{◌≡◌, ◌<◌, true, length, filter}
-use Rattle.races_text.specs.Named.Kept.{is_kept_after}
+use Rattle.shown_races.specs.Kept.{is_kept_after}
 use Rattle.races_text.specs.Named.Stretches.{events_left, AreShort}
 use Rattle.races_text.proofs.named.stretches.begin_shown.Given as goal
 

@@ -1,4 +1,4 @@
-use Rattle.races_text.specs.Named.Kept.{is_kept_after}
+use Rattle.shown_races.specs.Kept.{is_kept_after}
 use Rattle.races_text.proofs.NamedLemmas.StretchLemmas.{hidden_behind, first_behind}
 use Rattle.races_text.proofs.named.stretches.from_shown.Goals as goal
 

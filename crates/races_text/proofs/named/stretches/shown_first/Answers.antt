@@ -1,5 +1,5 @@
 use Rattle.std.proofs.Common.{sym, ap, ◌∙◌}
-use Rattle.races_text.specs.Named.Kept.{is_kept_after}
+use Rattle.shown_races.specs.Kept.{is_kept_after}
 use Rattle.races_text.proofs.NamedLemmas.StretchLemmas.{later_shown, first_shown}
 use Rattle.races_text.proofs.named.stretches.shown_first.Goals as goal
 

@@ -1,5 +1,5 @@
 use Rattle.chart.specs.Ranges.{events_in}
-use Rattle.races_text.specs.Named.Kept.{is_kept_after}
+use Rattle.shown_races.specs.Kept.{is_kept_after}
 use Rattle.races_text.proofs.NamedLemmas.StretchLemmas.{shown_behind}
 use Rattle.races_text.proofs.named.stretches.take_shown.Goals as goal
 

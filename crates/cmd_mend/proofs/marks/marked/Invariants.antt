@@ -1,6 +1,0 @@
-use Rattle.std.proofs.Common.{take}
-use Rattle.cmd_mend.specs.Marks.{AreMarks}
-use Rattle.cmd_mend.proofs.marks.marked.Given as goal
-
-abbrev pub invariant-loop-event : goal.invariant-loop-event
-invariant-loop-event l = AreMarks l.instance (take l.event-index l.events) l.marks.items
