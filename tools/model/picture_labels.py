@@ -10,14 +10,15 @@ import sys
 import xml.etree.ElementTree as trees
 from collections import namedtuple
 
-# A text's box, and whether it is a number; and an arrow, by its ends.
-Box = namedtuple("Box", "left top right bottom is_number")
+# A text's box, and the number that it says, if it says one; and an arrow, by its ends.
+Box = namedtuple("Box", "left top right bottom number")
 Line = namedtuple("Line", "x y to_x to_y")
 Met = namedtuple("Met", "texts pairs with_numbers crossed lying")
 
 SVG = "{http://www.w3.org/2000/svg}"
 ARROW = re.compile(r"M([\d.]+)[ ,]([\d.]+)L([\d.]+)[ ,]([\d.]+)")
 SIZES = {"n": 9.0, "e": 9.0, "k": 9.0}
+BRACKET_PLACES = 5
 
 
 def moved(element, at):
@@ -27,7 +28,7 @@ def moved(element, at):
 
 
 def box_of(element, at, ours):
-    """The box of a text, and whether it is a number."""
+    """The box of a text, and the number that it says."""
     words = "".join(element.itertext())
     classes = element.get("class", "").split()
     given = re.match(r"[\d.]+", element.get("font-size", ""))
@@ -38,8 +39,8 @@ def box_of(element, at, ours):
         anchor = "start" if {"s", "n"} & set(classes) else "end" if "e" in classes else "middle"
     x = at[0] + float(element.get("x", 0)) - {"middle": wide / 2, "end": wide}.get(anchor, 0)
     y = at[1] + float(element.get("y", 0))
-    below = 0 if words.isdigit() else 0.2 * size
-    return Box(x, y - 0.75 * size, x + wide, y + below, words.isdigit())
+    number = int(words) if words.isdigit() else None
+    return Box(x, y - 0.75 * size, x + wide, y + (0.2 * size if number is None else 0), number)
 
 
 def line_of(element, at):
@@ -64,6 +65,12 @@ def things_in(element, at, ours):
 def meet(a, b):
     """The boxes lie on each other."""
     return min(a.right, b.right) - max(a.left, b.left) > 1 and min(a.bottom, b.bottom) - max(a.top, b.top) > 1
+
+
+def share_place(a, b):
+    """Both are numbers of brackets that begin in one row, in one of the five places that brackets alternate between."""
+    numbers = None not in (a.number, b.number)
+    return numbers and (a.number - b.number) % BRACKET_PLACES == 0 and (a.top, a.left + a.right) == (b.top, b.left + b.right)
 
 
 def crosses(line, box):
@@ -113,7 +120,7 @@ def in_picture(root):
     for place, thing in enumerate(things):
         if isinstance(thing, Line):
             own = place
-        elif not thing.is_number:
+        elif thing.number is None:
             near = {line for part in parts(thing.top, thing.bottom) for line in lines.get(part, ())}
             crossed += any(crosses(line, thing) for at, line in near if at > place)
             lying += any(crosses(line, thing) for at, line in near if at < own)
@@ -123,11 +130,11 @@ def in_picture(root):
         for other in boxes[place + 1:]:
             if other.top > box.bottom:
                 break
-            if meet(box, other):
-                if box.is_number or other.is_number:
-                    numbers += 1
-                else:
+            if meet(box, other) and not share_place(box, other):
+                if box.number is None and other.number is None:
                     labels += 1
+                else:
+                    numbers += 1
     return Met(len(boxes), labels, numbers, crossed, lying)
 
 
