@@ -16,6 +16,7 @@ impl LineRange {
         last: u64::MAX,
     };
 }
+
 const _: () = prove!(LineRange::ALL.first == 1 && LineRange::ALL.last == u64::MAX);
 
 /// Whether the line with this number is in the range.

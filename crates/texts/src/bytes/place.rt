@@ -13,6 +13,7 @@ pub struct Place {
 
 /// The place at which a text begins.
 pub const START: Place = Place { line: 1, column: 1 };
+
 const _: () = prove!(START.line == 1 && START.column == 1);
 
 impl Place {
