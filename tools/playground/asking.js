@@ -30,7 +30,8 @@ async function tellPair(row, earlier, counts) {
     const drawn = witness.status === 1 ? await view(["draw", "the other run"], file("the other run", witness.out)) : undefined;
     if (!counts()) return;
     tellWitness(witness, drawn);
-    const mended = await view(["mend", ...words], it.file);
+    // A message for the last event of the range puts all of them before the receive.
+    const mended = await view(["mend", it.name, instance, row.dataset.last, String(receive)], it.file);
     if (counts()) tellMending(mended);
   } catch (error) {
     if (counts() && error.message !== "") by("why_words").textContent = error.message;

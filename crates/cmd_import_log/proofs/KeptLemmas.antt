@@ -89,32 +89,32 @@ module _ (n : ℕ) (log : List Entry) (words : List WordsView) (taken : List Tak
   abbrev chart : List LineView
   chart = chart_from log 1 (host_lines n log)
 
-  abbrev its : RecordingView
-  its = record { lines = matched log; hosts = host_lines n log; words = words; taken = taken; arrivals = arrivals }
+  abbrev kept : RecordingView
+  kept = record { lines = matched log; hosts = host_lines n log; words = words; taken = taken; arrivals = arrivals }
 
   chart_length : length chart ≡ n
   chart_length = chart_count log 1 (host_lines n log) ∙ hosts_count n log
 
   -- each host's line is that of its instance
-  same_lines : (p : ℕ) → chart_lines chart p ≡ map (event_of log) (items_of its p)
+  same_lines : (p : ℕ) → chart_lines chart p ≡ map (event_of log) (items_of kept p)
   same_lines zero = refl
   same_lines (suc p) = go (cases_lt p n)
     where
-      go : (p < n) ⊎ (n ≤ p) → chart_lines chart (suc p) ≡ map (event_of log) (items_of its (suc p))
+      go : (p < n) ⊎ (n ≤ p) → chart_lines chart (suc p) ≡ map (event_of log) (items_of kept (suc p))
       go (inl less) = line_is n log (suc p) (omega arith) (omega (arith, less)) ∙ ap (map (event_of log)) (sym (host_is n log p [] less))
       go (inr past) =
           empty_line chart p (omega (arith, past, chart_length)) ∙ ap (map (event_of log)) (sym (get_or_past (host_lines n log) p [] (omega (arith, past, hosts_count n log))))
 
-  same_sends : (e : Place) (i : Item) → item_at its e ≡ Some i → i.sends ≡ true → (q : ℕ) × IsSendTo (chart_lines chart) q e
+  same_sends : (e : Place) (i : Item) → item_at kept e ≡ Some i → i.sends ≡ true → (q : ℕ) × IsSendTo (chart_lines chart) q e
   same_sends e i is sends =
-      let event = ith_map (event_of log) (items_of its e.instance) e.index i is in
+      let event = ith_map (event_of log) (items_of kept e.instance) e.index i is in
       (i.partner, (event_of log i, subst (λ l. ith l e.index ≡ Some (event_of log i)) (sym (same_lines e.instance)) event, go i.sends sends))
     where
       go : (b : Bool) → b ≡ true → is_send_to i.partner (cond b (send_event i.partner (message_name log i)) (receive_event i.partner (message_name log i) 0)) ≡ true
       go true same = eq-eqb i.partner i.partner refl
       go false same = absurd (false≢true same)
 
-  recording_of : HaveStreams log → AreAmong n log → length words ≡ length (matched log) → AllPairs (λ a b. a.line ≤ b.line) taken → IsRecording chart its
+  recording_of : HaveStreams log → AreAmong n log → length words ≡ length (matched log) → AllPairs (λ a b. a.line ≤ b.line) taken → IsRecording chart kept
   recording_of have two whole rises = record {
     log = is_log log have;
     words = whole;
@@ -123,7 +123,7 @@ module _ (n : ℕ) (log : List Entry) (words : List WordsView) (taken : List Tak
     hosts = hosts_count n log ∙ sym chart_length;
     among = subst (λ k. All (λ (x : LogLine). x.entry.host ≤ k) (matched log)) (sym (hosts_count n log))
         (of_entries (λ (e : Entry). e.host ≤ n) log (All-weaker (λ (e : Entry). AreTwo n e.host e.peer) (λ (e : Entry). e.host ≤ n) (λ e ends. ends.1) log two));
-    events = λ p. sym (ap length (same_lines p) ∙ length-map (items_of its p) (event_of log));
+    events = λ p. sym (ap length (same_lines p) ∙ length-map (items_of kept p) (event_of log));
     same = same_sends;
   }
 

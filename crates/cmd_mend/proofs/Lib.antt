@@ -6,3 +6,4 @@ pub mod RefusedLemmas
 pub mod ShowLemmas
 pub mod BriefLemmas
 pub mod LuckLemmas
+pub mod ClaimLemmas

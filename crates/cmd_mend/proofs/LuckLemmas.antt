@@ -1,5 +1,5 @@
 -- Races that were luck, one by one; and that each is of events of the chart.
-use Rattle.std.proofs.Common.{◌≡◌, ◌≢◌, ℕ, zero, suc, ◌<◌, ◌==◌, true, false, List, [], ◌∷◌, ◌++◌, length, All, arith, refl, sym, ◌∙◌, subst}
+use Rattle.std.proofs.Common.{◌≡◌, ◌≢◌, ◌<◌, true, false, List, [], ◌∷◌, ◌++◌, length, All, arith, refl, sym, ◌∙◌, subst}
 use Rattle.std.proofs.lemmas.Bool.{false≢true}
 use Rattle.std.proofs.lemmas.List.Elements.{All-nil, All-cons, All-head, All-tail, All-weaker}
 use Rattle.chart.specs.declared.instance.EventNo.{EventNo}
@@ -10,9 +10,10 @@ use Rattle.race_verdicts.specs.declared.verdict.Verdict.{Verdict}
 use Rattle.race_verdicts.specs.declared.verdict.Verdict.TheVariants.{Luck, EarlierIsSend, BegunInTheMiddle, OrderedByLeftOut, WouldNotTake, PassedOver, BehindAnother, Any}
 use Rattle.races_text.specs.Judged.LogVerdicts.{IsReceiveAndEvent}
 use Rattle.repair.specs.Counted.{IsWithin, IsPlaced}
-use Rattle.cmd_mend.specs.Luck.{is_luck, AreLucky, IsLuckOf, AreLuckOf, AddsLuck, AddsReport}
+use Rattle.cmd_mend.specs.Luck.{AreLucky, IsLuckOf, AreLuckOf, AddsLuck, AddsReport}
 use Rattle.cmd_mend.specs.Luck.AreLucky.{none, luck, other}
 use Rattle.cmd_mend.specs.Luck.AreLuckOf.{nothing, more, without}
+use Rattle.cmd_mend.specs.Verdicts.{is_luck}
 
 its_luck : (verdict : Verdict) → is_luck verdict ≡ true → verdict ≡ Luck
 its_luck Luck is = refl
@@ -46,14 +47,6 @@ pub event_other : (is : EventNo → Verdict → Type 0) (e : EventNo) (verdict :
 event_other is e verdict old its off es are = push_other e verdict its (no_luck verdict off) are
 
 -- one report more
-
-pub empty_of : (l : List EventNo) → length l ≡ 0 → l ≡ []
-empty_of [] is = refl
-empty_of (e ∷ es) is = absurd (omega (arith, is))
-
-pub some_of : (n : ℕ) → (n == 0) ≡ false → 0 < n
-some_of zero is = absurd (false≢true (sym is))
-some_of (suc n) is = omega arith
 
 push_report : {is : EventNo → EventNo → Verdict → Type 0} {rs lucky : List ReportView} (report one : ReportView) → IsLuckOf is report one → 0 < length one.earlier → AreLuckOf is rs lucky → AreLuckOf is (rs ++ report ∷ []) (lucky ++ one ∷ [])
 push_report report one its some nothing = more its some nothing

@@ -9,3 +9,5 @@ pub mod Words
 pub mod Brief
 pub mod Limits
 pub mod Luck
+pub mod Claims
+pub mod Verdicts

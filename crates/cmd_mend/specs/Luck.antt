@@ -6,7 +6,7 @@ use Rattle.chart.specs.Reports.{ReportView, AreReports}
 use Rattle.cmd_base.specs.Answers.{Answers}
 use Rattle.cmd_base.specs.declared.error.ProgramError.TheVariants as errors
 use Rattle.cmd_base.specs.Refusals.{Tried, refusal_text}
-use Rattle.cmd_import_log.specs.Answers.Diagnostics.{diagnostics_text}
+use Rattle.cmd_import_log.specs.Answers.Claims.{claims_text}
 use Rattle.cmd_import_log.specs.Imported.{IsRefusalOf}
 use Rattle.cmd_import_log.specs.Options.{OptionsView}
 use Rattle.cmd_import_log.specs.Recording.{lent_of, IsRecordingOf}
@@ -15,23 +15,13 @@ use Rattle.cmd_import_log.specs.declared.error.LogImportError.{LogImportError}
 use Rattle.cmd_import_log.specs.declared.recording.LogRecording.{LogRecording}
 use Rattle.race_verdicts.specs.Recordings.{RecordingView}
 use Rattle.race_verdicts.specs.declared.verdict.Verdict.{Verdict}
-use Rattle.race_verdicts.specs.declared.verdict.Verdict.TheVariants.{Luck, EarlierIsSend, BegunInTheMiddle, OrderedByLeftOut, WouldNotTake, PassedOver, BehindAnother, Any}
+use Rattle.race_verdicts.specs.declared.verdict.Verdict.TheVariants.{Luck}
 use Rattle.races_text.specs.Judged.LogVerdicts.{verdict_in}
 use Rattle.texts.specs.Outs.{Sink}
 use Rattle.cmd_mend.specs.Answers.{mend_all_exit}
+use Rattle.cmd_mend.specs.Claims.{IsUnclaimed, known_status}
 use Rattle.cmd_mend.specs.Showing.{lucky_of, ShowsAll}
 use Rattle.cmd_mend.specs.declared.showing_all.WantedAll.{WantedAll}
-
--- the race was luck
-abbrev pub is_luck : Verdict → Bool
-is_luck Luck = true
-is_luck EarlierIsSend = false
-is_luck BegunInTheMiddle = false
-is_luck OrderedByLeftOut = false
-is_luck WouldNotTake = false
-is_luck PassedOver = false
-is_luck BehindAnother = false
-is_luck Any = false
 
 -- of these earlier events of a receive, each of which has a verdict, those whose verdict is luck
 pub data AreLucky (is : EventNo → Verdict → Type 0) : List EventNo → List EventNo → Type 0 where
@@ -71,13 +61,14 @@ module _ {S V : Type 0} (sink : S → Sink) (old new : S) (diagnostics : V → S
   abbrev pub IsRefusedSo : List ℕ → ℕ → Type 0
   IsRefusedSo line status = (status ≡ 2) × Tried diagnostics before after line × (new ≡ old)
 
-  -- the races of a recording that were luck were mended, after the warnings of the import were printed
+  -- The races of a recording that were luck were mended, after the warnings of the import were printed, and whether none
+  -- of the races that are shown is claimed. If none is, the status isn't that nothing is left, but that it isn't known.
   abbrev pub MendsLuck : List (List ℕ) → WantedAll → LogRecording → ℕ → Type 0
-  MendsLuck files wanted r status = (between : V) × (found : List ReportView)
-      × Tried diagnostics before between (diagnostics_text files r.imported.diagnostics)
-      × IsLuck r.imported.chart (lent_of r) found
+  MendsLuck files wanted r status = (between : V) × (found : List ReportView) × (unclaimed : Bool) × (left : ℕ)
+      × Tried diagnostics before between (claims_text files r.imported.diagnostics unclaimed)
+      × IsLuck r.imported.chart (lent_of r) found × IsUnclaimed wanted.showing r.imported.chart (lent_of r) unclaimed
       × Answers (λ done. ShowsAll sink (lucky_of wanted.showing found) wanted.limit old new done (r.imported.diagnostics.names, r.imported.chart))
-      mend_all_exit diagnostics between after status
+      mend_all_exit diagnostics between after left × (status ≡ known_status unclaimed left)
 
   -- What came of a log: it is refused, as by an import; it has one end of each message (F52); luck isn't known (G1);
   -- memory ran out; or its races of luck were mended.

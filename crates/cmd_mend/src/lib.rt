@@ -14,7 +14,8 @@
 //! Of [`mend_all`]: exactly the text of the chart was written with the messages that `mend_all` adds, and they are
 //! listed on standard error. With status 0 no race is left, and with status 1 some are. It tries no more race pairs
 //! than it may, and reports where it stops for that. It may be asked to mend and count only some of the races, and
-//! [`mend_all_luck`] mends and counts only those that were luck.
+//! [`mend_all_luck`] mends and counts only those that were luck. With status 3 none of a log's races is claimed
+//! ([`logs::mend_luck_of_log`]).
 #![tactic(auto)]
 
 mod answering;
@@ -22,6 +23,7 @@ mod brief;
 mod brief_text;
 mod change;
 mod change_text;
+mod claims;
 mod error;
 pub mod laws;
 pub mod logs;

@@ -25,8 +25,8 @@ listed_text names events receive range (Some verdict) = judged_text names events
 abbrev pub title_text : List (List ℕ) → List Event → RaceRange → List ℕ
 title_text names events race = listed_text names events race.receive race.earlier race.verdict
 
--- the question about a race: it is about the receive and the first of its earlier events. `above` counts the lines
--- above the rows in the output of `why`
+-- the question about a race: it is about the receive and the first of its earlier events, and the message that removes
+-- the race is about the last. `above` counts the lines above the rows in the output of `why`
 pub record IsSubject (bytes : List ℕ) (names : List (List ℕ)) (events : List Event) (race : RaceRange) (above : ℕ)
     (of : Subject) : Type 0 where
   pub file : of.bytes.now ≡ bytes
@@ -37,6 +37,7 @@ pub record IsSubject (bytes : List ℕ) (names : List (List ℕ)) (events : List
   pub first : of.asked.earlier ≡ race.earlier.first.index
   pub second : of.asked.receive ≡ race.receive.index
   pub earlier : of.earlier ≡ race.earlier.first.index
+  pub last : of.last ≡ last_of race.earlier
   pub receive : of.receive ≡ race.receive.index
   pub rows : of.above ≡ above
 

@@ -110,6 +110,7 @@ fn named_answers<'a>(
             receive: receive as u64,
         },
         earlier,
+        last: last_of(&race.earlier),
         receive,
         above,
     };

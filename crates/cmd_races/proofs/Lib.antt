@@ -1,4 +1,3 @@
 pub mod JudgedLemmas
-pub mod LogsLemmas
 pub mod RefusedLemmas
 pub mod SchedulesLemmas

@@ -69,3 +69,11 @@ module _ (p : ℕ) (events : List EventNo) (e : EventNo) (marks : List Bool) (ar
 -- nothing is marked
 pub none_marked : (p count : ℕ) → AreMarks p [] (replicate count false)
 none_marked p count i within = get_or-replicate count i false false (omega (arith, within, length-replicate count false))
+
+-- as many places as before
+pub with_mark_long : (marks : List Bool) (p : ℕ) (e : EventNo) → length (with_mark marks p e) ≡ length marks
+with_mark_long marks p e = by ((e.instance == p) && nat_lt e.index (length marks))
+  where
+    by : (t : Bool) → length (cond t (set marks e.index true) marks) ≡ length marks
+    by true = length-set marks e.index true
+    by false = refl

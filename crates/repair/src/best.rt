@@ -87,7 +87,7 @@ fn better(best: Option<Tried>, next: Option<Tried>, most: usize) -> Option<Tried
     }
 }
 
-/// Of the race pairs that count the first whose mending leaves the fewest, if it leaves fewer than they are.
+/// The first of the race pairs that count whose mending leaves the fewest, if these are fewer than before.
 pub(crate) fn best_among(
     alloc: Global,
     closure: &Closure<'_>,

@@ -1,5 +1,6 @@
 //! Which numbers some events of an instance have, marked so that each is looked up at once.
-ghost use Rattle.std.specs.Prelude.{◌≡◌, false, replicate, IfOk};
+ghost use Rattle.std.specs.Prelude.{◌≡◌, ◌+◌, false, length, replicate, IfOk};
+ghost use Rattle.chart.specs.declared.line.TheConstants.{MAX_EVENTS};
 ghost use Rattle.repair.specs.Marks.{with_mark, AreMarks};
 
 use chart::{EventNo, InstanceNo, MAX_EVENTS};
@@ -29,7 +30,8 @@ pub fn marked(
     instance: InstanceNo,
     events: &[EventNo],
 ) -> Result<Vec<bool>, AllocError>
-    ensures { IfOk result (λ marks. AreMarks instance events.now marks.items) }
+    ensures marks { IfOk result (λ marks. AreMarks instance events.now marks.items) }
+    ensures places { IfOk result (λ marks. length marks.items ≡ MAX_EVENTS + 2) }
 {
     let mut marks = unmarked(alloc, MAX_EVENTS + 2)?;
     for event in events {

@@ -1,5 +1,6 @@
 -- The explanation of a race on a page.
 use Rattle.std.specs.Prelude.{◌≡◌, ℕ, ◌+◌, ◌-◌, ◌^◌, min, List, ◌++◌}
+use Rattle.cmd_base.specs.declared.pairs.pair.Asked.{Asked}
 use Rattle.cmd_page.specs.declared.text.excerpt.Excerpt.{Excerpt}
 use Rattle.cmd_page.specs.declared.text.race.Answers.{Answers}
 use Rattle.cmd_page.specs.declared.answers.answers.Subject.{Subject}
@@ -34,10 +35,15 @@ pub record IsWitnessExcerpt (of : Subject) (x : Excerpt) : Type 0 where
   pub earlier : x.earlier ≡ row_in of.names.now of.instance of.events.now of.earlier (texts left)
   pub receive : x.receive ≡ row_in of.names.now of.instance of.events.now of.receive (texts left)
 
--- The excerpt of the output of `mend` has the first 24 lines.
+-- the question about the last of the earlier events
+abbrev pub about_last : Subject → Asked
+about_last of = record { instance = of.asked.instance; earlier = of.last; receive = of.asked.receive }
+
+-- The excerpt of the output of `mend` has the first 24 lines. Its message puts the last of the earlier events before the
+-- receive, and so all of them.
 pub record IsMendExcerpt (of : Subject) (x : Excerpt) : Type 0 where
   pub left : Left
-  pub is : IsMend of.bytes.now of.asked left
+  pub is : IsMend of.bytes.now (about_last of) left
   pub text : x.text.items ≡ left.err.bytes
   pub head : x.head ≡ 24
   pub earlier : x.earlier ≡ 0

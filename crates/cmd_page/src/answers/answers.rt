@@ -1,7 +1,7 @@
 //! The explanation of a race on a page: the reason why it is one, another order, and a message that removes it.
 ghost use Rattle.std.specs.Prelude.{◌≡◌, ◌++◌, IfOk};
 ghost use Rattle.cmd_base.specs.Texts.{IsReadAs};
-ghost use Rattle.cmd_page.specs.Answers.Answering.{plus, texts, IsWhyExcerpt, IsWitnessExcerpt, IsMendExcerpt, AreAnswers};
+ghost use Rattle.cmd_page.specs.Answers.Answering.{plus, texts, about_last, IsWhyExcerpt, IsWitnessExcerpt, IsMendExcerpt, AreAnswers};
 
 use crate::answers::left::{Left, mend_left, why_left, witness_left};
 use crate::answers::rows::row_in;
@@ -24,6 +24,8 @@ pub struct Subject<'a> {
     pub events: &'a [Event],
     pub asked: Asked<'a>,
     pub earlier: u32,
+    /// The last of the race's earlier events. `earlier` is the first.
+    pub last: u32,
     pub receive: u32,
     /// How many lines stand above the rows of the line in what says why it is a race.
     pub above: u64,
@@ -90,12 +92,24 @@ fn witness_of(alloc: Global, subject: &Subject<'_>) -> Result<Excerpt, AllocErro
     })
 }
 
+/// The question about the last of the earlier events. A message that puts it before the receive puts all of them there.
+fn about_last<'a>(subject: &Subject<'a>) -> Asked<'a>
+    ensures { result ≡ about_last subject.now }
+{
+    Asked {
+        instance: subject.asked.instance,
+        earlier: u64::from(subject.last),
+        receive: subject.asked.receive,
+    }
+}
+
 /// The message that removes the race: the first lines of the text.
 fn mend_of(alloc: Global, subject: &Subject<'_>) -> Result<Excerpt, AllocError>
     requires { IsReadAs subject.now.bytes.now subject.now.source.now }
     ensures { IfOk result (IsMendExcerpt subject.now) }
 {
-    let left = mend_left(alloc, subject.source, &subject.asked)?;
+    let asked = about_last(subject);
+    let left = mend_left(alloc, subject.source, &asked)?;
     let Left {
         out: _,
         err,

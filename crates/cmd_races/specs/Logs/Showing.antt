@@ -1,11 +1,11 @@
 -- The races of a log that are written, with their words.
-use Rattle.std.specs.Prelude.{◌≡◌, List, [], ◌++◌, ℕ, Bool, true, false, Some, Result, Ok, Err, codes, if◌then◌else◌}
+use Rattle.std.specs.Prelude.{◌≡◌, List, ℕ, Bool, true, false, Some, Result, Ok, Err, if◌then◌else◌}
 use Rattle.cmd_base.specs.Answers.{Exit, refusal, exit_of}
 use Rattle.cmd_base.specs.Contents.{Named}
 use Rattle.cmd_base.specs.Columns.Answers.{refusal_text}
 use Rattle.cmd_base.specs.declared.columns.error.ColumnError.{ColumnError}
 use Rattle.cmd_base.specs.Statuses.{code_of}
-use Rattle.cmd_import_log.specs.Answers.Diagnostics.{diagnostics_text}
+use Rattle.cmd_import_log.specs.Answers.Claims.{claims_text}
 use Rattle.cmd_import_log.specs.Imported.{IsRefusalOf}
 use Rattle.cmd_import_log.specs.Options.{OptionsView}
 use Rattle.cmd_import_log.specs.Recording.{lent_of, IsRecordingOf}
@@ -67,16 +67,9 @@ module _ {S : Type 0} (sink : S → Sink) where
   ShowsLog old new o texts wanted (Err (errors.Races error)) = (r : LogRecording) × IsRecordingOf o texts r × (r.imported.diagnostics.is_one_ended ≡ false)
       × ShowsRecording old new (Err error) wanted r
 
-unfoldable pub unclaimed_note : List ℕ
-unclaimed_note = codes "no race is claimed: each is begun in the middle\n"
-
--- the note, if there are selected races and none is claimed
-abbrev pub unclaimed_text : Bool → List ℕ
-unclaimed_text is_unclaimed = if is_unclaimed then unclaimed_note else []
-
 -- the warnings of an import, and then whether none of the races is claimed
 abbrev pub shown_text : List (List ℕ) → Shown → List ℕ
-shown_text files shown = diagnostics_text files shown.diagnostics ++ unclaimed_text shown.races.is_unclaimed
+shown_text files shown = claims_text files shown.diagnostics shown.races.is_unclaimed
 
 -- the answer after races were written. `files` has the names of several files, and is empty for one
 abbrev pub shown_exit : List (List ℕ) → Shown → Exit

@@ -5,19 +5,18 @@ ghost use Rattle.cmd_base.specs.Refusals.{Tried};
 ghost use Rattle.cmd_base.specs.Statuses.{code_of};
 ghost use Rattle.cmd_import_log.specs.Options.{options_view};
 ghost use Rattle.cmd_races.specs.Logs.Showing.{ShowsRecording, ShowsLog};
-ghost use Rattle.cmd_races.specs.Logs.Showing.{unclaimed_note, unclaimed_text, shown_text, race_show_error_text, races_exit};
-ghost use Rattle.texts.specs.Writing.{Wrote, Adds};
+ghost use Rattle.cmd_races.specs.Logs.Showing.{shown_text, race_show_error_text, races_exit};
 
 use crate::LuckWanted;
 use crate::logs::known::{ShownRaces, show_recording};
 use cmd_base::Answer;
 use cmd_base::columns::ColumnError;
-use cmd_import_log::answers::{Diagnostics, write_diagnostics};
+use cmd_import_log::answers::{Diagnostics, write_claims};
 use cmd_import_log::{
     LogImportError, LogRecording, Options, recording_in, refused_log, refused_one_end,
 };
 use std::alloc::Global;
-use texts::{Out, TextBuffer, WriteError};
+use texts::Out;
 
 /// The answer after races were written: whether one is shown, whether none is claimed, and the warnings of the
 /// import.
@@ -81,50 +80,13 @@ fn refused<V: Out>(files: &[&[u8]], error: &RaceShowError, err: &mut V) -> u8
     }
 }
 
-/// Adds that no race is claimed.
-#[tactic(auto, unfolding(crate::specs::Logs::Showing::unclaimed_note))]
-fn add_unclaimed_note<V: Out>(text: &mut TextBuffer<'_, V>) -> Result<(), WriteError>
-    ensures { Adds V.sink text.old text.new result unclaimed_note }
-{
-    text.add(b"no race is claimed: each is begun in the middle\n")
-}
-
-#[tactic(auto, using(texts::proofs::Writes::joining))]
-fn write_unclaimed_note<V: Out>(err: &mut V) -> Result<(), WriteError>
-    ensures { Wrote V.sink err.old err.new result unclaimed_note }
-{
-    let mut text = TextBuffer::new(err);
-    add_unclaimed_note(&mut text)?;
-    text.finish()
-}
-
-/// Writes that no race is claimed, if none is.
-fn write_unclaimed<V: Out>(is_unclaimed: bool, err: &mut V) -> Result<(), WriteError>
-    ensures { Wrote V.sink err.old err.new result (unclaimed_text is_unclaimed) }
-{
-    if is_unclaimed {
-        write_unclaimed_note(err)
-    } else {
-        Ok(())
-    }
-}
-
-/// Writes the warnings of the import, and whether no race is claimed.
-fn write_shown<V: Out>(files: &[&[u8]], shown: &Shown, err: &mut V) -> Result<(), WriteError>
-    requires { All (λ e. e.instance ≤ length shown.now.diagnostics.names) shown.now.diagnostics.invented.items }
-    ensures { Wrote V.sink err.old err.new result (shown_text (map (λ file. file.now) files.now) shown.now) }
-{
-    write_diagnostics(files, &shown.diagnostics, err)?;
-    write_unclaimed(shown.races.is_unclaimed, err)
-}
-
 /// Prints the warnings of the import and whether no race is claimed, and returns the exit status.
 fn print_diagnostics<V: Out>(files: &[&[u8]], shown: &Shown, err: &mut V) -> u8
     requires { All (λ e. e.instance ≤ length shown.now.diagnostics.names) shown.now.diagnostics.invented.items }
     ensures status { result ≡ code_of shown.now.races.status }
     ensures line { Tried V.sink err.old err.new (shown_text (map (λ file. file.now) files.now) shown.now) }
 {
-    let _ = write_shown(files, shown, err);
+    let _ = write_claims(files, &shown.diagnostics, shown.races.is_unclaimed, err);
     shown.races.status.status()
 }
 

@@ -1,5 +1,5 @@
--- A race of a chart consists of a receive and an event of the chart.
-use Rattle.std.proofs.Common.{◌≡◌, ℕ, zero, suc, ◌+◌, true, List, [], ◌∷◌, Some, map, refl, sym, ap, ◌∙◌, subst, arith}
+-- A race of a chart consists of a receive and an event of the chart, whether all races are meant or those that are shown.
+use Rattle.std.proofs.Common.{◌≡◌, ℕ, zero, suc, ◌+◌, true, List, [], ◌∷◌, Some, map, get_or, refl, sym, ap, ◌∙◌, subst, arith}
 use Rattle.std.specs.Prelude.{All, Contains, slice_get}
 use Rattle.std.specs.List.{flat_map}
 use Rattle.std.proofs.lemmas.Bool.{eq-eqb}
@@ -17,6 +17,9 @@ use Rattle.closure.specs.Faults.{place_of}
 use Rattle.races_text.specs.Judged.Listing.{IsRaceIn}
 use Rattle.races_text.specs.Judged.LogVerdicts.{IsReceiveAndEvent}
 use Rattle.races_text.proofs.JudgedLemmas.FoundParts.{are_races}
+use Rattle.shown_races.specs.declared.showing.Showing.{Showing}
+use Rattle.shown_races.specs.Shown.{AreShown}
+use Rattle.shown_races.proofs.ShownLemmas.{IsRaceOf, shown_races, shown_receives}
 
 all_unmap : {X Y : Type 0} (f : X → Y) (P : Y → Type 0) (xs : List X) → All P (map f xs) → All (λ x. P (f x)) xs
 all_unmap f P [] all = All-nil (λ x. P (f x))
@@ -61,10 +64,12 @@ module _ (lines : List LineView) (numbered : IsNumbered lines) where
       (All-weaker (IsReceiveOf l.instance 1 l.events) IsReceiveHere (of_line k l here) (receives_of l) (receives_are l.instance 1 l.events))
       (all_receives (k + 1) some (λ j x is. let same : k + suc j ≡ k + 1 + j = omega arith in subst (λ i. slice_get lines i ≡ Some x) same (within (suc j) x is)))
 
+  of_chart : All IsReceiveHere (flat_map receives_of lines)
+  of_chart = all_receives 0 lines (λ j l is. let same : j ≡ 0 + j = omega arith in subst (λ i. slice_get lines i ≡ Some l) same is)
+
   receive_is : (reports : List ReportView) → AreReports lines reports → (report : ReportView) → Contains reports report → IsReceiveHere report.receive
   receive_is reports are report its =
-      let all = all_receives 0 lines (λ j l is. let same : j ≡ 0 + j = omega arith in subst (λ i. slice_get lines i ≡ Some l) same is) in
-      let receives = subst (All IsReceiveHere) (sym are.are.receives) all in
+      let receives = subst (All IsReceiveHere) (sym are.are.receives) of_chart in
       All-contains (λ (r : ReportView). IsReceiveHere r.receive) reports report (all_unmap (λ (r : ReportView). r.receive) IsReceiveHere reports receives) its
 
   -- a race consists of a receive and an event of the chart
@@ -83,3 +88,17 @@ module _ (lines : List LineView) (numbered : IsNumbered lines) where
   all_races reports are =
       All-weaker (Contains reports) (λ (report : ReportView). All (IsReceiveAndEvent lines report.receive) report.earlier)
       (λ report its. are_races (IsReceiveAndEvent lines) lines race_is reports are report its) reports (All-contains_itself reports)
+
+  event_is : (r e : EventNo) → IsRaceOf (chart_lines lines) r e → IsEvent (chart_lines lines) (place_of e)
+  event_is r e race =
+      let within = ith_within (chart_lines lines r.instance) e.index race.apart.0 race.apart.1 in
+      subst (λ (p : ℕ). IsEvent (chart_lines lines) (at p e.index)) (sym race.line) within
+
+  -- the same of the reports with only the races that are shown
+  pub all_shown : (showing : Showing) (shown : List ReportView) → AreShown showing lines shown → All (λ (report : ReportView). All (IsReceiveAndEvent lines report.receive) report.earlier) shown
+  all_shown showing shown are i d within =
+      let report = get_or shown i d in
+      let receives = subst (All IsReceiveHere) (sym (shown_receives showing lines shown are)) of_chart in
+      let receive = all_unmap (λ (r : ReportView). r.receive) IsReceiveHere shown receives i d within in
+      let races = shown_races showing lines shown are i d within in
+      λ k e within_k. (receive, event_is report.receive (get_or report.earlier k e) (races k e within_k))

@@ -25,7 +25,7 @@ fn is_claimed(verdict: Verdict) -> bool
 
 impl RaceSummary {
     /// The summary of no race.
-    pub(crate) fn none() -> RaceSummary
+    pub fn none() -> RaceSummary
         ensures { result ≡ summary_of_none }
     {
         RaceSummary {
@@ -36,7 +36,7 @@ impl RaceSummary {
     }
 
     /// The summary with one more range of this verdict. `shows` is whether the range is shown.
-    pub(crate) fn more(&self, shows: bool, verdict: Verdict) -> RaceSummary
+    pub fn more(&self, shows: bool, verdict: Verdict) -> RaceSummary
         ensures { result ≡ summary_with self.now shows verdict }
     {
         RaceSummary {

@@ -1,4 +1,14 @@
 use Rattle.cmd_mend.proofs.logs.mend_recording.Goals as goal
 
 pub returns : goal.returns
-returns g c = (c.print_warnings.new.err, c.args.luck.items, c.print_warnings.ensures, c.requires.luck, c.mend_all_luck.ensures)
+returns g c = (
+  c.print_claims.new.err,
+  c.args.luck.reports.items,
+  c.args.luck.is_unclaimed,
+  c.status-mend_all_luck.result,
+  c.print_claims.ensures,
+  c.requires.luck,
+  c.requires.claims,
+  c.mend_all_luck.ensures,
+  c.known_status.ensures,
+)
