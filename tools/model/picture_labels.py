@@ -69,8 +69,9 @@ def meet(a, b):
 
 def share_place(a, b):
     """Both are numbers of brackets that begin in one row, in one of the five places that brackets alternate between."""
-    numbers = None not in (a.number, b.number)
-    return numbers and (a.number - b.number) % BRACKET_PLACES == 0 and (a.top, a.left + a.right) == (b.top, b.left + b.right)
+    if None in (a.number, b.number) or (a.number - b.number) % BRACKET_PLACES != 0:
+        return False
+    return (a.top, a.left + a.right) == (b.top, b.left + b.right)
 
 
 def crosses(line, box):
