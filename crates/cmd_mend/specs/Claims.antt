@@ -1,5 +1,5 @@
 -- Whether one of a log's races is claimed (this project's profile): one that isn't begun in the middle.
-use Rattle.std.specs.Prelude.{◌≡◌, ℕ, Bool, ◌&&◌, ◌==◌, not, List, [], ◌∷◌, ◌++◌, length, nat_lt, if◌then◌else◌}
+use Rattle.std.specs.Prelude.{◌≡◌, ℕ, Bool, false, ◌&&◌, ◌==◌, not, List, [], ◌∷◌, ◌++◌, if◌then◌else◌}
 use Rattle.std.specs.List.{list_any}
 use Rattle.chart.specs.declared.instance.EventNo.{EventNo}
 use Rattle.chart.specs.Charts.{LineView}
@@ -29,7 +29,8 @@ pub data AreAllVerdicts (is : EventNo → EventNo → Verdict → Type 0) : List
 
 -- there are races with these verdicts, and none of them is claimed: each is begun in the middle
 abbrev pub is_unclaimed : List Verdict → Bool
-is_unclaimed verdicts = nat_lt 0 (length verdicts) && not (list_any is_claimed verdicts)
+is_unclaimed [] = false
+is_unclaimed (verdict ∷ verdicts) = not (list_any is_claimed (verdict ∷ verdicts))
 
 -- so it is with the races of these reports
 abbrev pub AreUnclaimed : (EventNo → EventNo → Verdict → Type 0) → List ReportView → Bool → Type 0

@@ -20,7 +20,7 @@ abbrev pub none : Stored
 none = record { bytes = []; failures = 0 }
 
 -- the line of a command that ran out of memory
-unfoldable pub out_of_memory : List ℕ
+abbrev pub out_of_memory : List ℕ
 out_of_memory = codes "refused: F6 Memory\n"
 
 -- no put failed, and the command didn't report that memory ran out

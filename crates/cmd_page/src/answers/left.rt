@@ -1,5 +1,5 @@
 //! The results of the commands for two events: their output, their text on standard error, and their status.
-ghost use Rattle.std.specs.Prelude.{ℕ, ◌↔◌, List, IfOk, IsTrue};
+ghost use Rattle.std.specs.Prelude.{ℕ, List, IfOk, IsTrue};
 ghost use Rattle.cmd_base.specs.Texts.{ComesFrom, IsReadAs};
 ghost use Rattle.cmd_page.specs.Answers.Leaving.{IsWhole, IsWhy, IsWitness, IsMend};
 
@@ -23,9 +23,16 @@ const OUT_OF_MEMORY: &[u8] = b"refused: F6 Memory\n";
 
 /// Whether the result is complete: no put failed, and memory didn't run out otherwise.
 fn is_all(left: &Left) -> bool
-    ensures { IsTrue result ↔ IsWhole left.now }
+    ensures whole { IsTrue result → IsWhole left.now }
+    ensures all { IsWhole left.now → IsTrue result }
 {
-    left.out.is_whole() && left.err.is_whole() && left.err.as_bytes() != OUT_OF_MEMORY
+    if !left.out.is_whole() {
+        return false;
+    }
+    if !left.err.is_whole() {
+        return false;
+    }
+    left.err.as_bytes() != OUT_OF_MEMORY
 }
 
 /// The result of `why` for the file of a chart.

@@ -24,8 +24,8 @@ loop-report-preserved c =
     let is = verdict_in c.args.judge.now.lines c.args.judge.now.recording in
     let one : take (i + 1) reports ≡ take i reports ++ r ∷ [] = take_more reports i r (omega arith) ∙ ap (λ x. take i reports ++ x ∷ []) (sym c.report-item.is) in
     let before = c.loop-report.invariant in
-    let last = c.in_ok-with_report.ensures in
-    subst (λ (l : List ReportView). SumsAll is l c.in_ok-with_report.with_report) (sym one) (
+    let last = c.in_ok-sum.ensures in
+    subst (λ (l : List ReportView). SumsAll is l c.in_ok-sum.sum) (sym one) (
       before.0 ++ last.0,
       report_push r last.0 last.1 before.1,
       last.2 ∙ ap (λ (s : RaceSummary). summary_after_all s last.0) before.2 ∙ sym (after_both summary_of_none before.0 last.0),
