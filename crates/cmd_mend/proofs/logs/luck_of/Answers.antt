@@ -1,4 +1,4 @@
-use Rattle.std.proofs.Common.{Bool, List, All, ap, ◌∙◌, sym, subst, subst₂}
+use Rattle.std.proofs.Common.{List, All, ap, ◌∙◌, sym, subst, subst₂}
 use Rattle.chart.specs.Charts.{LineView, IsNumbered}
 use Rattle.chart.specs.Reports.{ReportView, AreReports}
 use Rattle.cmd_import_log.specs.Recording.{lent_of}

@@ -5,10 +5,10 @@ returns g c = (
   c.print_claims.new.err,
   c.args.luck.reports.items,
   c.args.luck.is_unclaimed,
-  c.status-mend_all_luck.result,
+  c.mend_all_luck-status.result,
   c.print_claims.ensures,
   c.requires.luck,
   c.requires.claims,
-  c.mend_all_luck.ensures,
+  c.mend_all_luck-status.ensures,
   c.known_status.ensures,
 )
