@@ -1,6 +1,6 @@
 """Times `mscview import` of logs of 131,072 lines, and reports its peak memory: 32 hosts have 4,096 events each, so that all
-lines of the chart are full. Each time is the median of five runs, with what is written thrown away. With the path of another
-mscview both take turns, and the ratios of each turn's times are reported by their median.
+lines of the chart are full. Each time is the median of five runs, with what is written thrown away. With the path of
+another mscview both take turns, and the ratios of each turn's times are reported by their median.
 
 A token is passed round the hosts. The log says it in plain words, with an id for each message; by an expression; in the
 words of a log for ShiViz, with a clock of three hosts in each line; and in a file for each host. In the log that begins

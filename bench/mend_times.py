@@ -1,7 +1,7 @@
 """Times `mscview mend` of one race of a chart of nearly 131,072 events, and `mscview mend --all` of a chart of 8 instances
 with 200 events each and about 100 ranges of races. Then it times both for a server with a full line, and its two
-clients. Each time is the median of five runs, with what is written thrown away. With the path of another mscview both take
-turns, and the ratios of each turn's times are reported by their median.
+clients. Each time is the median of five runs, with what is written thrown away. With the path of another mscview both
+take turns, and the ratios of each turn's times are reported by their median.
 
 In the first chart a token is passed round 32 instances until each line has 4,000 events, and then each of two instances
 sends to a third: its second receive has the first as a race. In the second one a token is passed on at random, and
@@ -86,7 +86,8 @@ def main(mscview, other=None):
         ranges = lines_of([mscview, "races", chart], "stdout")
         messages = lines_of([mscview, "mend", "--all", chart], "stderr")
         seen, beside = timed_beside(mscview, other, "mend", "--all", chart)
-        print(f"mend --all, {ranges} ranges: {seen.seconds:.3f} s, status {seen.status}, {messages} messages added{beside}")
+        took = f"{seen.seconds:.3f} s, status {seen.status}"
+        print(f"mend --all, {ranges} ranges: {took}, {messages} messages added{beside}")
         with open(chart, "w", encoding="ascii") as file:
             file.write(server(2047))
         seen, beside = timed_beside(mscview, other, "mend", chart, "n0", "1999", "2000")

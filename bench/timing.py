@@ -53,8 +53,8 @@ def ratio(one, other):
 
 
 def timed_beside(program, other, *words):
-    """A program that is run again and again with these words, and what to report of another one, which takes turns if it is
-    named."""
+    """A program that is run again and again with these words, and what to report of another one, if it is named: then
+    both take turns."""
     if other is None:
         return timed(program, *words), ""
     seen = timed_in_turn({"this": [program, *words], "other": [other, *words]})

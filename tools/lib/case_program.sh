@@ -9,8 +9,8 @@ program_of() {
   echo "${PROGRAMS-out/bin}/$name"
 }
 
-# Unpacks the cases, or these alone, a folder for each, as $unpacked/cases/mscview/why/a_race.case. Without them the script
-# ends.
+# Unpacks the cases, or these alone, a folder for each, as $unpacked/cases/mscview/why/a_race.case. Without them the
+# script ends.
 unpack_cases() {
   unpacked=$room/unpacked
   tools/lib/read_cases "$unpacked" "$@" || { echo "FAILED cases/: not all of it can be read"; exit 1; }
