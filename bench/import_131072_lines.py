@@ -1,5 +1,6 @@
 """Times `mscview import` of logs of 131,072 lines, and reports its peak memory: 32 hosts have 4,096 events each, so that all
-lines of the chart are full. Each time is the median of five runs, with what is written thrown away.
+lines of the chart are full. Each time is the median of five runs, with what is written thrown away. With the path of
+another mscview both take turns, and the ratios of each turn's times are reported by their median.
 
 A token is passed round the hosts. The log says it in plain words, with an id for each message; by an expression; in the
 words of a log for ShiViz, with a clock of three hosts in each line; and in a file for each host. In the log that begins
@@ -12,7 +13,7 @@ import random
 import sys
 import tempfile
 
-from timing import timed
+from timing import timed_beside
 
 HOSTS = 32
 ROUNDS = 2048
@@ -104,7 +105,7 @@ def by_host(folder, name, rounds, missing):
     return paths
 
 
-def main(mscview):
+def main(mscview, other=None):
     with tempfile.TemporaryDirectory() as folder:
         logs = {
             "plain words": (["--from", "log"], in_one(folder, "plain", plain_line)),
@@ -117,11 +118,11 @@ def main(mscview):
             "100,000 lines by clocks": by_clocks(folder, 100_000, 8_000),
         }
         for name, (words, paths) in logs.items():
-            seen = timed(mscview, "import", *words, *paths)
+            seen, beside = timed_beside(mscview, other, "import", *words, *paths)
             size = sum(map(os.path.getsize, paths)) / 1e6
             took = f"{seen.seconds:.3f} s, at most {seen.megabytes:.0f} MB, status {seen.status}"
-            print(f"{name}, {size:.1f} MB: {took}", flush=True)
+            print(f"{name}, {size:.1f} MB: {took}{beside}", flush=True)
 
 
 if __name__ == "__main__":
-    main(sys.argv[1])
+    main(*sys.argv[1:])

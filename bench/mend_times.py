@@ -1,6 +1,7 @@
 """Times `mscview mend` of one race of a chart of nearly 131,072 events, and `mscview mend --all` of a chart of 8 instances
 with 200 events each and about 100 ranges of races. Then it times both for a server with a full line, and its two
-clients. Each time is the median of five runs, with what is written thrown away.
+clients. Each time is the median of five runs, with what is written thrown away. With the path of another mscview both
+take turns, and the ratios of each turn's times are reported by their median.
 
 In the first chart a token is passed round 32 instances until each line has 4,000 events, and then each of two instances
 sends to a third: its second receive has the first as a race. In the second one a token is passed on at random, and
@@ -12,7 +13,7 @@ import subprocess
 import sys
 import tempfile
 
-from timing import timed
+from timing import timed_beside
 
 
 def chart_text(lines):
@@ -72,27 +73,28 @@ def lines_of(words, stream):
     return getattr(subprocess.run(words, capture_output=True, check=False), stream).count(b"\n")
 
 
-def main(mscview):
+def main(mscview, other=None):
     with tempfile.TemporaryDirectory() as folder:
         chart = os.path.join(folder, "chart")
         text, earlier, receive = ring(32, 2000)
         with open(chart, "w", encoding="ascii") as file:
             file.write(text)
-        seen = timed(mscview, "mend", chart, "n0", str(earlier), str(receive))
-        print(f"mend, {len(text) / 1e6:.1f} MB of text: {seen.seconds:.3f} s, status {seen.status}")
+        seen, beside = timed_beside(mscview, other, "mend", chart, "n0", str(earlier), str(receive))
+        print(f"mend, {len(text) / 1e6:.1f} MB of text: {seen.seconds:.3f} s, status {seen.status}{beside}")
         with open(chart, "w", encoding="ascii") as file:
             file.write(tokens(8, 200, 0.1))
         ranges = lines_of([mscview, "races", chart], "stdout")
         messages = lines_of([mscview, "mend", "--all", chart], "stderr")
-        seen = timed(mscview, "mend", "--all", chart)
-        print(f"mend --all, {ranges} ranges: {seen.seconds:.3f} s, status {seen.status}, {messages} messages added")
+        seen, beside = timed_beside(mscview, other, "mend", "--all", chart)
+        took = f"{seen.seconds:.3f} s, status {seen.status}"
+        print(f"mend --all, {ranges} ranges: {took}, {messages} messages added{beside}")
         with open(chart, "w", encoding="ascii") as file:
             file.write(server(2047))
-        seen = timed(mscview, "mend", chart, "n0", "1999", "2000")
-        print(f"mend on a full line: {seen.seconds:.3f} s, status {seen.status}")
-        seen = timed(mscview, "mend", "--all", chart)
-        print(f"mend --all on a full line: {seen.seconds:.3f} s, status {seen.status}")
+        seen, beside = timed_beside(mscview, other, "mend", chart, "n0", "1999", "2000")
+        print(f"mend on a full line: {seen.seconds:.3f} s, status {seen.status}{beside}")
+        seen, beside = timed_beside(mscview, other, "mend", "--all", chart)
+        print(f"mend --all on a full line: {seen.seconds:.3f} s, status {seen.status}{beside}")
 
 
 if __name__ == "__main__":
-    main(sys.argv[1])
+    main(*sys.argv[1:])

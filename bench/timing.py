@@ -50,3 +50,12 @@ def timed_in_turn(words_of):
 def ratio(one, other):
     """The median of the ratios of two programs' times, turn by turn."""
     return statistics.median(mine.seconds / its.seconds for mine, its in zip(one.runs, other.runs))
+
+
+def timed_beside(program, other, *words):
+    """A program that is run again and again with these words, and what to report of another one, if it is named: then
+    both take turns."""
+    if other is None:
+        return timed(program, *words), ""
+    seen = timed_in_turn({"this": [program, *words], "other": [other, *words]})
+    return seen["this"], f", relative to the other program {ratio(seen['this'], seen['other']):.2f}"

@@ -16,6 +16,20 @@ five_times() {
   done | awk '{ printf "%.3f\n", $1 / 1e9 }'
 }
 
+# Five turns of two programs with the same words: the seconds of both, a line for each turn.
+five_turns() {
+  local one=$1 other=$2 program began ended
+  shift 2
+  for _ in 1 2 3 4 5; do
+    for program in "$one" "$other"; do
+      began=$(date +%s%N)
+      "$program" "$@" >/dev/null || true
+      ended=$(date +%s%N)
+      echo $((ended - began))
+    done
+  done | awk '{ printf "%.6f%s", $1 / 1e9, NR % 2 ? " " : "\n" }'
+}
+
 # The schedule in which each second of so many instances sends 4,096 messages to the one behind it, 64 at a time: all lines
 # are full in the end, and no receive has a race.
 pairs() {

@@ -9,10 +9,11 @@ program_of() {
   echo "${PROGRAMS-out/bin}/$name"
 }
 
-# Unpacks the cases, a folder for each, as $unpacked/cases/mscview/why/a_race.case. Without them the script ends.
+# Unpacks the cases, or these alone, a folder for each, as $unpacked/cases/mscview/why/a_race.case. Without them the
+# script ends.
 unpack_cases() {
   unpacked=$room/unpacked
-  tools/lib/read_cases "$unpacked" || { echo "FAILED cases/: not all of it can be read"; exit 1; }
+  tools/lib/read_cases "$unpacked" "$@" || { echo "FAILED cases/: not all of it can be read"; exit 1; }
 }
 
 # What a case is called that is unpacked, or a file of it: its place in the repository. Any other file is called as it is.

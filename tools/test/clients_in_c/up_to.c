@@ -1,5 +1,6 @@
 /* msc_receive_up_to: what comes and why no more does, each message asked for by its place, cut buffers, misuse, a line that
- * is full behind some messages, and three threads that send to a fourth. */
+ * is full behind some messages, and three threads that send to a fourth. Then null pointers for the calls of msc.h that
+ * misuse.c leaves out. */
 #include <msc.h>
 #include <pthread.h>
 #include <sched.h>
@@ -42,6 +43,21 @@ static void misuse(void) {
     is("races of none", msc_races_of(NULL, 0, &race, 1, &count), MSC_MISUSE);
     is("races without room", msc_races_of(&post, 0, NULL, 1, &count), MSC_MISUSE);
     is("races of an empty one", msc_races_of(&post, 0, &race, 1, &count), MSC_MISUSE);
+}
+
+static void other_misuse(void) {
+    msc_post post = MSC_POST_INIT;
+    msc_arrival came;
+    msc_event event;
+    is("at once by none", msc_receive_into(NULL, 1, &came, NULL, 0, NULL, 0), MSC_MISUSE);
+    is("at once into none", msc_receive_into(&post, 1, NULL, NULL, 0, NULL, 0), MSC_MISUSE);
+    is("at once without room for a name", msc_receive_into(&post, 1, &came, NULL, 1, NULL, 0), MSC_MISUSE);
+    is("at once without room for a body", msc_receive_into(&post, 1, &came, NULL, 0, NULL, 1), MSC_MISUSE);
+    is("a coregion opened by none", msc_open_coregion(NULL), MSC_MISUSE);
+    is("a coregion closed by none", msc_close_coregion(NULL), MSC_MISUSE);
+    is("an event of none", msc_line_event(NULL, 1, &event, NULL, 0), MSC_MISUSE);
+    is("an event into none", msc_line_event(&post, 1, NULL, NULL, 0), MSC_MISUSE);
+    is("an event without room for a name", msc_line_event(&post, 1, &event, NULL, 1), MSC_MISUSE);
 }
 
 /* Three messages that wait, by two calls: each has its own name, body and races. */
@@ -229,6 +245,7 @@ static void threads(void) {
 
 int main(void) {
     misuse();
+    other_misuse();
     in_parts();
     full_line();
     threads();
