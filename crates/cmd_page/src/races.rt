@@ -93,6 +93,7 @@ fn named_answers<'a>(
     above: u64,
 ) -> Result<Answers, AllocError>
     requires read_as { IsReadAs file.bytes.now file.source.now }
+    requires range { IsRange race.now.earlier }
     requires name { name.now ≡ name_at names.now race.now.receive.instance }
     ensures { IfOk result (IsAnswered file.entry.bytes.now names.now events.now race.now above) }
 {
@@ -134,7 +135,8 @@ fn full_answers(
     race: &RaceRange,
     above: u64,
 ) -> Result<Answers, AllocError>
-    requires { IsReadAs file.bytes.now file.source.now }
+    requires read_as { IsReadAs file.bytes.now file.source.now }
+    requires range { IsRange race.now.earlier }
     ensures { IfOk result (IsAnswered file.entry.bytes.now names.now events.now race.now above) }
 {
     let name = name_bytes(alloc, names, race.receive.instance)?;
@@ -151,7 +153,8 @@ fn answers_if(
     above: u64,
     is_explained: bool,
 ) -> Result<Option<Answers>, AllocError>
-    requires { IsReadAs file.bytes.now file.source.now }
+    requires read_as { IsReadAs file.bytes.now file.source.now }
+    requires range { IsRange race.now.earlier }
     ensures { IfOk result (HasAnswers is_explained file.entry.bytes.now names.now events.now race.now above) }
 {
     if is_explained {
