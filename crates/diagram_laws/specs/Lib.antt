@@ -1,0 +1,5 @@
+pub mod Arrows
+pub mod Counts
+pub mod Imports
+pub mod Lanes
+pub mod Plain
