@@ -1,7 +1,10 @@
 pub mod CountLemmas
+pub mod HistoryTurns
 pub mod ImportLemmas
 pub mod KeptLemmas
 pub mod LaneLemmas
 pub mod Lists
 pub mod MovedLemmas
 pub mod NumberedLemmas
+pub mod Orders
+pub mod ReplayTurns

@@ -3,3 +3,4 @@ pub mod Counts
 pub mod Imports
 pub mod Lanes
 pub mod Plain
+pub mod Turns
