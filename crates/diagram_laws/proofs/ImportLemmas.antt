@@ -125,13 +125,13 @@ abbrev value_or : {A E : Type 0} → A → Result A E → A
 value_or d (Ok x) = x
 value_or d (Err e) = d
 
-record Built (d : DiagramView) (w : DiagramChartView) : Type 0 where
+pub record Built (d : DiagramView) (w : DiagramChartView) : Type 0 where
   pub stays : List Message × List LeftOut
   pub is : staying (collected (names_from [] d.participants) d.items d.left_out).fault (collected (names_from [] d.participants) d.items d.left_out).messages
       (collected (names_from [] d.participants) d.items d.left_out).left_out ≡ Ok stays
   pub chart : w ≡ chart_built d.participants d.items (names_from [] d.participants) stays
 
-built_is : (d : DiagramView) (w : DiagramChartView) → built d ≡ Ok w → Built d w
+pub built_is : (d : DiagramView) (w : DiagramChartView) → built d ≡ Ok w → Built d w
 unfolding built built_by
 built_is d w is = go (has_no_chart (length d.participants)) (staying c.fault c.messages c.left_out) refl is
   where
@@ -144,7 +144,7 @@ built_is d w is = go (has_no_chart (length d.participants)) (staying c.fault c.m
     go false (Err x) e f = absurd (cc f)
     go false (Ok s) e f = record { stays = s; is = e; chart = sym (ap (value_or w) f) }
 
-stay_is : (fault : Option ℕ) (messages : List Message) (left_out : List LeftOut) (s : List Message × List LeftOut) → staying fault messages left_out ≡ Ok s
+pub stay_is : (fault : Option ℕ) (messages : List Message) (left_out : List LeftOut) (s : List Message × List LeftOut) → staying fault messages left_out ≡ Ok s
     → (fault_from fault [] messages ≡ None) × (s ≡ (kept messages, with_lost left_out messages))
 unfolding staying
 stay_is fault messages left_out s is = go (fault_from fault [] messages) refl (full_from [] (kept messages)) is

@@ -1,4 +1,5 @@
 pub mod CountLemmas
+pub mod DiagramTurns
 pub mod HistoryTurns
 pub mod ImportLemmas
 pub mod KeptLemmas
@@ -8,3 +9,4 @@ pub mod MovedLemmas
 pub mod NumberedLemmas
 pub mod Orders
 pub mod ReplayTurns
+pub mod RowTurns

@@ -1,6 +1,6 @@
 //! The laws.
 ghost use Rattle.diagram_laws.specs.Imports.{ImportLaw};
-ghost use Rattle.diagram_laws.specs.Turns.{HistoryTurnsLaw, ReplayTurnsLaw};
+ghost use Rattle.diagram_laws.specs.Turns.{DiagramTurnsLaw, HistoryTurnsLaw, ReplayTurnsLaw};
 
 /// The chart of a diagram has exactly its kept arrows on each lane, in the order of the text, with their names. It counts
 /// what it lacks.
@@ -18,4 +18,9 @@ pub fn history_turns_law()
 /// line.
 pub fn replay_turns_law()
     ensures { ReplayTurnsLaw }
+{}
+
+/// The turns of a diagram without joined lines are those of a run of its chart.
+pub fn diagram_turns_law()
+    ensures { DiagramTurnsLaw }
 {}

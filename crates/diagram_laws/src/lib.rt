@@ -3,4 +3,4 @@
 
 mod laws;
 
-pub use laws::{history_turns_law, import_law, replay_turns_law};
+pub use laws::{diagram_turns_law, history_turns_law, import_law, replay_turns_law};
