@@ -1,6 +1,6 @@
 -- Counts of skipped constructs, one more at a time.
 use Rattle.std.proofs.Common.{◌≡◌, ℕ, suc, ◌+◌, ◌-◌, ◌^◌, ◌<◌, ◌≤◌, ◌==◌, ◌&&◌, not, Bool, true, false, cond, List, [], ◌∷◌, ◌++◌, length, map, filter, min, None, Some, refl, sym, ap, ◌∙◌, subst, arith, eqb-true, lt-ltb}
-use Rattle.std.specs.Prelude.{nat_lt, slice_set, slice_index_or}
+use Rattle.std.specs.Prelude.{nat_lt}
 use Rattle.std.specs.List.{list_any, position_or_len}
 use Rattle.std.proofs.lemmas.Bool.{eqb-false, ltb-true, ltb-false}
 use Rattle.diagrams.specs.Diagrams.{ArrowView, ItemView, AnArrow, ANote}
@@ -111,10 +111,10 @@ unfolding passed with_lost is_received_later
 lost_added at left_out [] = adds_none kinds.LostMessage left_out
 lost_added at left_out (x ∷ xs) =
     subst (λ b. Adds kinds.LostMessage (length (cond (x.1.is_lost && list_any (arrives at (at x.1.sender) (at x.1.receiver)) (map arrow xs)) (x.1 ∷ passed at (map arrow xs)) (passed at (map arrow xs)))) left_out
-        (cond (x.1.is_lost && b) (with_one (with_lost left_out (map (to at) xs)) kinds.LostMessage x.1.place) (with_lost left_out (map (to at) xs))))
+    (cond (x.1.is_lost && b) (with_one (with_lost left_out (map (to at) xs)) kinds.LostMessage x.1.place) (with_lost left_out (map (to at) xs))))
     (sym (any_map (to at) (crossing.is_received (at x.1.sender) (at x.1.receiver)) xs))
     (subst (λ b. Adds kinds.LostMessage (length (cond (x.1.is_lost && b) (x.1 ∷ passed at (map arrow xs)) (passed at (map arrow xs)))) left_out
-        (cond (x.1.is_lost && list_any (λ y. arrives at (at x.1.sender) (at x.1.receiver) y.1) xs) (with_one (with_lost left_out (map (to at) xs)) kinds.LostMessage x.1.place) (with_lost left_out (map (to at) xs))))
+    (cond (x.1.is_lost && list_any (λ y. arrives at (at x.1.sender) (at x.1.receiver) y.1) xs) (with_one (with_lost left_out (map (to at) xs)) kinds.LostMessage x.1.place) (with_lost left_out (map (to at) xs))))
     (sym (any_map arrow (arrives at (at x.1.sender) (at x.1.receiver)) xs))
     (go (x.1.is_lost && list_any (λ y. arrives at (at x.1.sender) (at x.1.receiver) y.1) xs) (lost_added at left_out xs)))
   where

@@ -1,45 +1,40 @@
 -- The turns of messages are those of a run of their chart: each row is cut into as many as there are messages, so that no
 -- two events of different messages are in one.
-use Rattle.std.proofs.Common.{◌≡◌, ◌≢◌, ℕ, zero, suc, ◌+◌, ◌*◌, ◌<◌, ◌≤◌, ◌==◌, ◌&&◌, ◌||◌, ◌⊎◌, inl, inr, Bool, true, false, cond, List, [], ◌∷◌, ◌++◌, Option, None, Some, length, map, filter, refl, sym, ap, ◌∙◌, subst, arith, append_assoc, append-nil, eqb-true, eq-eqb}
-use Rattle.std.specs.Prelude.{nat_lt, slice_index_or}
-use Rattle.std.specs.List.{flat_map, list_any}
-use Rattle.std.proofs.lemmas.Bool.{cases_lt, ltb-true, ltb-false}
+use Rattle.std.proofs.Common.{◌≡◌, ℕ, zero, suc, ◌+◌, ◌*◌, ◌<◌, ◌≤◌, ◌==◌, inl, inr, Bool, true, false, cond, List, [], ◌∷◌, ◌++◌, Option, None, Some, length, map, filter, refl, sym, ap, ◌∙◌, subst, arith, append_assoc, append-nil}
+use Rattle.std.specs.Prelude.{nat_lt}
+use Rattle.std.specs.List.{flat_map}
+use Rattle.std.proofs.lemmas.Bool.{cases_lt}
 use Rattle.std.proofs.lemmas.List.{length-map, map-append, get_or_past}
 use Rattle.std.proofs.lemmas.List.Elements.{filter_agree}
-use Rattle.std.proofs.lemmas.List.Folds.{list_any-append}
-use Rattle.std.proofs.lemmas.Nat.{mul-le}
 use Rattle.chart.specs.declared.event.Event.{Event}
 use Rattle.chart.specs.declared.event.Event.TheVariants as events
 use Rattle.chart.specs.declared.history.Occurrence.{Occurrence}
 use Rattle.chart.specs.declared.history.Occurrence.TheVariants.{Send, Receive}
-use Rattle.chart.specs.declared.line.TheConstants.{MAX_EVENTS}
 use Rattle.chart.specs.Charts.{Chart, LineView, chart_lines}
 use Rattle.chart.specs.Events.{greatest_region}
 use Rattle.chart.specs.HistoryLines.{history_lines}
 use Rattle.chart.specs.Histories.{chart_of, AreTwo, IsLegal}
 use Rattle.chart.specs.StableOrder.Order.{in_order_by}
 use Rattle.chart.proofs.HistoryLines.{chart-is, length-history_lines}
-use Rattle.chart.proofs.StableOrderLemmas.MappedLemmas.{order_mapped}
 use Rattle.chart.proofs.StableOrderLemmas.OrderLemmas.{order_length}
 use Rattle.chart_layout.specs.KeptTurns.Runs.{IsRun}
 use Rattle.diagrams.specs.Messages.Each.{Each, Pairs}
-use Rattle.diagrams.specs.Messages.Following.{Follows, IsMessage, AreBuildable}
+use Rattle.diagrams.specs.Messages.Following.{IsMessage, AreBuildable}
 use Rattle.diagrams.specs.Messages.Regions.{region_of, event_of, with_ends}
 use Rattle.diagrams.specs.Messages.Turns.{send_end, receive_end, all_ends, own_ends, in_turn}
-use Rattle.diagrams.specs.Naming.{named_as}
 use Rattle.diagrams.specs.declared.message.Message.{Message}
 use Rattle.diagrams.specs.declared.messages.end.End.{End}
 use Rattle.diagrams.specs.declared.messages.message.Named.{Named}
-use Rattle.diagrams.proofs.MessagesLemmas.EachLemmas.{each_weaker, each_passing}
+use Rattle.diagrams.proofs.MessagesLemmas.EachLemmas.{each_weaker}
 use Rattle.diagrams.proofs.MessagesLemmas.FifoLemmas.{own_in_turn, turn_each, lane_fifo}
 use Rattle.diagrams.proofs.MessagesLemmas.HistoryLemmas.{Stands, happening, with_last, history_from, history_legal, history_chart}
 use Rattle.diagrams.proofs.MessagesLemmas.LineLemmas.{open_none}
 use Rattle.diagrams.proofs.MessagesLemmas.PossibleLemmas.{ends_two}
-use Rattle.diagram_join.specs.Turns.Turns.{is_sent, sends_in, sent, received, moments_of, turns_of}
+use Rattle.diagram_join.specs.Turns.Turns.{sends_in, sent, received, moments_of, turns_of}
 use Rattle.diagram_laws.specs.Turns.{history_turns}
 use Rattle.diagram_laws.proofs.HistoryTurns.{bare, AreAlike, history_run, run_alike}
-use Rattle.diagram_laws.proofs.Lists.{map_map, filter_map}
-use Rattle.diagram_laws.proofs.Orders.{same_test, pairs_of, Agree, same_order, order_agrees, order_view, map_agrees, finer, finer_own}
+use Rattle.diagram_laws.proofs.Lists.{filter_map}
+use Rattle.diagram_laws.proofs.Orders.{Agree, order_agrees, order_view, map_agrees, finer, finer_own}
 
 -- The events of messages, with the messages' numbers.
 

@@ -1,6 +1,6 @@
 -- The turns of a legal history are those of a run of its chart.
-use Rattle.std.proofs.Common.{◌≡◌, ℕ, zero, suc, ◌+◌, ◌<◌, ◌≤◌, ◌==◌, ◌⊎◌, inl, inr, Bool, true, false, cond, List, [], ◌∷◌, ◌++◌, length, take, map, Option, None, Some, refl, sym, ap, ◌∙◌, subst, arith, append-nil, eq-eqb}
-use Rattle.std.specs.Prelude.{slice_get, count_by, fold, option_map}
+use Rattle.std.proofs.Common.{◌≡◌, ℕ, zero, suc, ◌+◌, ◌<◌, ◌≤◌, ◌==◌, ◌⊎◌, inl, inr, Bool, true, false, cond, List, [], ◌∷◌, ◌++◌, length, take, map, Some, refl, sym, ap, ◌∙◌, subst, arith, append-nil, eq-eqb}
+use Rattle.std.specs.Prelude.{slice_get, fold, option_map}
 use Rattle.std.proofs.lemmas.List.{length_push, length-map}
 use Rattle.std.proofs.lemmas.Option.{same_Some}
 use Rattle.chart.specs.declared.event.Event.{Event}
@@ -8,7 +8,7 @@ use Rattle.chart.specs.declared.event.Event.TheVariants as events
 use Rattle.chart.specs.declared.history.Occurrence.{Occurrence}
 use Rattle.chart.specs.declared.history.Occurrence.TheVariants.{Send, Receive, Close}
 use Rattle.chart.specs.Messages.{Content}
-use Rattle.chart.specs.Charts.{Chart, Place, at, chart_event, BelongsTo}
+use Rattle.chart.specs.Charts.{Chart, Place, at, BelongsTo}
 use Rattle.chart.specs.Events.{ith, tally, is_send_to, is_receive_from, send_event}
 use Rattle.chart.specs.Histories.{by, waiting, receive_of, line_gets, chart_of, MayFollow, IsLegal}
 use Rattle.chart.proofs.Belongs.{IsEvent-from_passes}

@@ -1,9 +1,8 @@
 -- The chart of a diagram has its kept arrows, and counts the rest.
-use Rattle.std.proofs.Common.{◌≡◌, ◌≢◌, ℕ, suc, ◌+◌, ◌^◌, ◌<◌, ◌≤◌, ◌==◌, not, Bool, true, false, cond, List, [], ◌∷◌, ◌++◌, Option, None, Some, Result, Ok, Err, length, map, filter, refl, sym, ap, ◌∙◌, subst, arith, ne_eqb}
+use Rattle.std.proofs.Common.{◌≡◌, ℕ, suc, ◌+◌, ◌^◌, ◌<◌, ◌≤◌, not, Bool, true, false, cond, List, [], ◌∷◌, Option, None, Some, Result, Ok, Err, length, map, filter, refl, sym, ap, ◌∙◌, subst, arith, ne_eqb}
 use Rattle.std.proofs.lemmas.List.{length-map}
 use Rattle.std.proofs.lemmas.List.Elements.{filter_agree}
 use Rattle.std.specs.Prelude.{nat_lt}
-use Rattle.chart.specs.Charts.{chart_lines}
 use Rattle.diagram_labels.specs.Labels.{Labelling, none, with_label, name_of}
 use Rattle.diagrams.specs.Building.{◌>>=◌, possible, within, staying, DiagramChartView, chart_built, built_by, has_no_chart, built}
 use Rattle.diagrams.specs.Collecting.{CollectedView, nothing, collected}
@@ -13,8 +12,6 @@ use Rattle.diagrams.specs.Full.{full_from}
 use Rattle.diagrams.specs.Losing.{kept, with_lost}
 use Rattle.diagrams.specs.Messages.Each.{Each}
 use Rattle.diagrams.specs.Messages.Following.{AreBuildable}
-use Rattle.diagrams.specs.Messages.Lines.{lines_from}
-use Rattle.diagrams.specs.Messages.Turns.{all_ends}
 use Rattle.diagrams.specs.Naming.{names_from, label_at, named_as, named_from}
 use Rattle.diagrams.specs.Placing.{first_misplaced}
 use Rattle.diagrams.specs.declared.built.BuildError.{BuildError}
@@ -24,9 +21,8 @@ use Rattle.diagrams.specs.declared.left_out.Kind.TheVariants as kinds
 use Rattle.diagrams.specs.declared.left_out.LeftOut.{LeftOut}
 use Rattle.diagrams.specs.declared.message.Message.{Message}
 use Rattle.diagrams.specs.declared.messages.message.Named.{Named}
-use Rattle.diagrams.specs.declared.place.Place.{Place}
 use Rattle.diagrams.proofs.ChartLemmas.{items_sound, messages_built}
-use Rattle.diagrams.proofs.PlacedLemmas.{IsCollected, AreCollected}
+use Rattle.diagrams.proofs.PlacedLemmas.{IsCollected}
 use Rattle.diagrams.proofs.StayingLemmas.{none_overtakes}
 use Rattle.diagram_join.specs.Building.{JoinedChartView, alone, unless, checked, joined_chart_of, joined_by, lines_joined, built_joined}
 use Rattle.diagram_join.specs.Coregions.{cut, cut_from}
@@ -41,7 +37,7 @@ use Rattle.diagram_join.proofs.PossibleLemmas.{rows_built}
 use Rattle.diagram_laws.specs.Arrows.{arrows_of, notes_in, across, in_order, overtaking, not_passed, passed, kept_arrows, named}
 use Rattle.diagram_laws.specs.Arrows as arrows
 use Rattle.diagram_laws.specs.Counts.{count_of, skipped}
-use Rattle.diagram_laws.specs.Imports.{processes_in, instance_in, kept_in, HasArrows, CountsRest, ImportLaw}
+use Rattle.diagram_laws.specs.Imports.{processes_in, instance_in, HasArrows, CountsRest, ImportLaw}
 use Rattle.diagram_laws.specs.Plain.{StatesNone}
 use Rattle.diagram_laws.proofs.CountLemmas.{Adds, adds_nothing, notes_added, lost_added, items_size, across_size, order_size, passed_size}
 use Rattle.diagram_laws.proofs.KeptLemmas.{to, between, ordered, firsts, stay, order_arrows, stay_arrows, each_stay, firsts_messages, all_ordered}
@@ -116,7 +112,7 @@ all_told : (at : ℕ → ℕ) (told : List ArrowView) (reported : List Overtakin
     → length told ≡ length (kept_arrows at told) + length (passed at (in_order at [] (across at told))) + length (arrows.within at told) + length reported
 all_told at told reported same =
     let many : length reported ≡ length (overtaking at [] (across at told)) =
-        sym (length-map reported (λ (o : Overtaking). o.place)) ∙ ap length same ∙ length-map (overtaking at [] (across at told)) (λ (a : ArrowView). a.place) in
+    sym (length-map reported (λ (o : Overtaking). o.place)) ∙ ap length same ∙ length-map (overtaking at [] (across at told)) (λ (a : ArrowView). a.place) in
     omega (arith, many, across_size at told, order_size at [] (across at told), passed_size at (in_order at [] (across at told)))
 
 -- A diagram without joins, step by step.

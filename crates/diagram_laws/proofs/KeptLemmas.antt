@@ -1,5 +1,5 @@
 -- The messages of arrows that stay: those between instances, those in order, and those that none passes.
-use Rattle.std.proofs.Common.{◌≡◌, ℕ, ◌+◌, ◌&&◌, ◌||◌, not, Bool, true, false, cond, List, [], ◌∷◌, ◌++◌, length, map, filter, None, refl, sym, ap, ◌∙◌, arith, add-one}
+use Rattle.std.proofs.Common.{◌≡◌, ℕ, ◌&&◌, ◌||◌, not, Bool, true, false, cond, List, [], ◌∷◌, ◌++◌, map, filter, None, refl, sym, ap, ◌∙◌}
 use Rattle.std.specs.List.{list_any}
 use Rattle.std.proofs.lemmas.List.{map-append}
 use Rattle.diagrams.specs.Crossing.{crosses, fault_with, fault_from}
@@ -10,7 +10,7 @@ use Rattle.diagrams.specs.declared.message.Message.{Message}
 use Rattle.diagrams.specs.Messages.Each.{Each}
 use Rattle.diagrams.proofs.MessagesLemmas.EachLemmas.{each_filter}
 use Rattle.diagrams.proofs.StayingLemmas.{none_overtakes}
-use Rattle.diagram_laws.specs.Arrows.{arrives, is_within, overtakes, across, within, in_order, overtaking, not_passed, passed, kept_arrows}
+use Rattle.diagram_laws.specs.Arrows.{arrives, is_within, overtakes, across, in_order, not_passed, kept_arrows}
 use Rattle.diagram_laws.proofs.Lists.{any_map, filter_map}
 use Rattle.diagram_laws.proofs.NumberedLemmas.{Numbered, arrow, message}
 
@@ -115,4 +115,4 @@ module _ (at : ℕ → ℕ) where
   all_ordered fault earlier (x ∷ xs) none =
       ap (λ b. cond b (ordered (earlier ++ x ∷ []) xs) (x ∷ ordered (earlier ++ x ∷ []) xs)) (each_none x earlier (none_overtakes fault (map to earlier) (to x ∷ map to xs) none).before.0)
       ∙ ap (λ l. x ∷ l) (all_ordered (fault_with fault (to x) (map to earlier)) (earlier ++ x ∷ []) xs
-        (ap (λ l. fault_from (fault_with fault (to x) (map to earlier)) l (map to xs)) (sym (more to earlier x)) ∙ none))
+      (ap (λ l. fault_from (fault_with fault (to x) (map to earlier)) l (map to xs)) (sym (more to earlier x)) ∙ none))

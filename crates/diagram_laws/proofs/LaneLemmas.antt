@@ -1,6 +1,6 @@
 -- The lanes of the lines that are made of messages: the sends are those of the lane's messages, in order, and so are the
 -- receives.
-use Rattle.std.proofs.Common.{◌≡◌, ℕ, zero, suc, ◌+◌, ◌*◌, ◌<◌, ◌≤◌, ◌==◌, ◌&&◌, not, Bool, true, false, cond, List, [], ◌∷◌, ◌++◌, length, map, filter, Option, None, Some, refl, sym, ap, ◌∙◌, subst, arith, append_assoc, eqb-true, add-one}
+use Rattle.std.proofs.Common.{◌≡◌, ℕ, zero, suc, ◌+◌, ◌*◌, ◌<◌, ◌≤◌, ◌==◌, ◌&&◌, not, Bool, true, false, cond, List, [], ◌∷◌, ◌++◌, map, filter, Option, None, Some, refl, sym, ap, ◌∙◌, subst, arith, append_assoc, eqb-true}
 use Rattle.std.specs.Prelude.{slice_index_or}
 use Rattle.std.proofs.lemmas.Bool.{and_parts}
 use Rattle.std.proofs.lemmas.List.{append-nil, map-append}
@@ -9,8 +9,7 @@ use Rattle.chart.specs.declared.event.Event.{Event}
 use Rattle.chart.specs.declared.event.Event.TheVariants.{Send, Receive}
 use Rattle.chart.specs.Charts.{LineView, chart_lines}
 use Rattle.chart.specs.Events.{greatest_region, is_send_to, is_receive_from, name_of}
-use Rattle.chart.specs.StableOrder.Order.{in_order_by}
-use Rattle.chart.proofs.StableOrderLemmas.OrderLemmas.{Least, Rising, of_key, rising_filter, order_rises, order_kept, same_by_key}
+use Rattle.chart.proofs.StableOrderLemmas.OrderLemmas.{Least, Rising, rising_filter, order_rises, order_kept, same_by_key}
 use Rattle.diagrams.specs.Messages.Each.{Each, Pairs}
 use Rattle.diagrams.specs.Messages.Following.{Follows, AreBuildable}
 use Rattle.diagrams.specs.Messages.Lines.{lines_from}

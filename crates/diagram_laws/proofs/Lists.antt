@@ -1,6 +1,6 @@
 -- Lists that are mapped, filtered and searched.
-use Rattle.std.proofs.Common.{◌≡◌, ℕ, suc, ◌+◌, ◌||◌, Bool, true, false, cond, List, [], ◌∷◌, ◌++◌, length, map, filter, refl, ap, ◌∙◌}
-use Rattle.std.specs.Prelude.{fold, slice_get, Some, not}
+use Rattle.std.proofs.Common.{◌≡◌, ◌||◌, Bool, true, false, cond, List, [], ◌∷◌, ◌++◌, length, map, filter, refl, ap}
+use Rattle.std.specs.Prelude.{fold, slice_get, Some}
 use Rattle.std.specs.List.{list_any}
 
 pub map_map : {A B C : Type 0} (f : A → B) (g : B → C) (xs : List A) → map g (map f xs) ≡ map (λ x. g (f x)) xs

@@ -1,6 +1,6 @@
 -- The messages of arrows whose participants are joined.
-use Rattle.std.proofs.Common.{◌≡◌, ℕ, suc, ◌<◌, ◌==◌, not, inl, inr, Bool, true, false, cond, List, [], ◌∷◌, ◌++◌, length, map, filter, None, Some, refl, sym, ap, ◌∙◌, subst, arith, lt-ltb}
-use Rattle.std.specs.Prelude.{position, slice_get, option_map}
+use Rattle.std.proofs.Common.{◌≡◌, ℕ, not, inl, inr, Bool, true, false, cond, List, [], ◌∷◌, ◌++◌, length, map, filter, Some, refl, sym, ap, ◌∙◌, arith, lt-ltb}
+use Rattle.std.specs.Prelude.{position, option_map}
 use Rattle.std.specs.List.{list_any, position_or_len}
 use Rattle.std.proofs.lemmas.List.{map-append}
 use Rattle.std.proofs.lemmas.Option.{slice_get_cases}
@@ -62,8 +62,8 @@ module _ (at : ℕ → ℕ) where
   overtaking_places earlier (x ∷ xs) =
       map-append place_of (cond (list_any (λ n. crossing.overtakes (to at x) n) (map (to at) earlier)) (overtakings (to at x) (overtaken_in (map (to at) earlier) (to at x))) []) (overtaking_from (map (to at) earlier ++ to at x ∷ []) (map (to at) xs))
       ∙ go (list_any (λ n. crossing.overtakes (to at x) n) (map (to at) earlier)) refl
-        (any_map arrow (overtakes at x.1) earlier ∙ sym (any_map (to at) (crossing.overtakes (to at x)) earlier))
-        (ap (λ l. map place_of (overtaking_from l (map (to at) xs))) (more (to at) earlier x) ∙ overtaking_places (earlier ++ x ∷ []) xs ∙ ap (λ l. map spot (overtaking at l (map arrow xs))) (sym (more arrow earlier x)))
+      (any_map arrow (overtakes at x.1) earlier ∙ sym (any_map (to at) (crossing.overtakes (to at x)) earlier))
+      (ap (λ l. map place_of (overtaking_from l (map (to at) xs))) (more (to at) earlier x) ∙ overtaking_places (earlier ++ x ∷ []) xs ∙ ap (λ l. map spot (overtaking at l (map arrow xs))) (sym (more arrow earlier x)))
     where
       go : (its : Bool) → list_any (λ n. crossing.overtakes (to at x) n) (map (to at) earlier) ≡ its
           → list_any (overtakes at x.1) (map arrow earlier) ≡ list_any (λ n. crossing.overtakes (to at x) n) (map (to at) earlier)

@@ -1,21 +1,19 @@
 -- The arrows of a diagram with their items' numbers, and the messages that they are.
-use Rattle.std.proofs.Common.{◌≡◌, ℕ, ◌+◌, ◌||◌, Bool, true, false, cond, List, [], ◌∷◌, ◌++◌, length, map, filter, None, Some, refl, sym, ap, ◌∙◌, subst, arith, append_assoc, append-nil}
-use Rattle.std.specs.Prelude.{fold, slice_get, bytes_eq, Option}
+use Rattle.std.proofs.Common.{◌≡◌, ℕ, ◌+◌, ◌||◌, Bool, true, false, List, [], ◌∷◌, ◌++◌, length, map, Some, refl, sym, ap, ◌∙◌, arith, append_assoc, append-nil}
+use Rattle.std.specs.Prelude.{slice_get, bytes_eq}
 use Rattle.std.proofs.lemmas.List.{length_push}
 use Rattle.std.proofs.lemmas.List.Folds.{list_any-append}
 use Rattle.std.proofs.lemmas.Slice.Eq.{bytes_eq-Decides}
 use Rattle.std.specs.List.{list_any}
-use Rattle.diagram_labels.specs.Labels.{Labelling, labelled, none, with_label, name_of, has_label}
+use Rattle.diagram_labels.specs.Labels.{labelled, none, with_label, name_of, has_label}
 use Rattle.diagram_labels.proofs.Labelled.{labels_keep}
 use Rattle.diagrams.specs.Collecting.{CollectedView, message_of, with_event, with_item, with_items}
-use Rattle.diagrams.specs.Diagrams.{ArrowView, NoteView, ItemView, AnArrow, ANote}
+use Rattle.diagrams.specs.Diagrams.{ArrowView, ItemView, AnArrow, ANote}
 use Rattle.diagrams.specs.LeftOuts.{with_one}
 use Rattle.diagrams.specs.Naming.{label_of, label_by, label_at, named_as, named_from}
-use Rattle.diagrams.specs.NoteEvents.{note_event}
 use Rattle.diagrams.specs.declared.left_out.Kind.TheVariants as kinds
 use Rattle.diagrams.specs.declared.left_out.LeftOut.{LeftOut}
 use Rattle.diagrams.specs.declared.message.Message.{Message}
-use Rattle.diagrams.specs.declared.messages.message.Named.{Named}
 use Rattle.diagrams.specs.Messages.Each.{Each}
 use Rattle.diagram_laws.specs.Arrows.{arrows_of}
 use Rattle.diagram_laws.specs.Plain.{StatesNone}

@@ -1,5 +1,5 @@
 -- Orders by numbers that compare alike.
-use Rattle.std.proofs.Common.{◌≡◌, ℕ, ◌+◌, ◌*◌, ◌<◌, ◌≤◌, Bool, true, false, cond, List, [], ◌∷◌, map, filter, refl, sym, ap, ◌∙◌, subst, arith, lt-ltb}
+use Rattle.std.proofs.Common.{◌≡◌, ℕ, ◌+◌, ◌*◌, ◌<◌, ◌≤◌, Bool, true, false, cond, List, [], ◌∷◌, map, refl, sym, ap, ◌∙◌, arith}
 use Rattle.std.specs.Prelude.{nat_lt, fold}
 use Rattle.std.proofs.lemmas.Bool.{ltb-true, ltb-false}
 use Rattle.std.proofs.lemmas.Nat.{mul-le}
@@ -87,7 +87,7 @@ map_agrees f g same (x ∷ xs) = ap (λ y. y ∷ map f xs) (same x) ∙ ap (λ l
 pub finer : (a b i j W f g : ℕ) → i < j → j < W → 2 * (a * W + i) ≤ f → f ≤ 2 * (a * W + i) + 1 → 2 * (b * W + j) ≤ g → g ≤ 2 * (b * W + j) + 1 → nat_lt b a ≡ nat_lt g f
 finer a b i j W f g less within f_low f_high g_low g_high = same_test b a g f
     (λ lt. let up : (b + 1) * W ≤ a * W = mul-le (b + 1) W a W (omega (arith, lt)) (omega arith) in
-        let out : (b + 1) * W ≡ b * W + W = omega arith in omega (arith, up, out, less, within, f_low, g_high))
+    let out : (b + 1) * W ≡ b * W + W = omega arith in omega (arith, up, out, less, within, f_low, g_high))
     (λ le. let up : a * W ≤ b * W = mul-le a W b W le (omega arith) in omega (arith, up, less, f_high, g_low))
 
 pub finer_own : (a b i W : ℕ) → a ≤ b → nat_lt b a ≡ nat_lt (2 * (b * W + i) + 1) (2 * (a * W + i))

@@ -1,5 +1,5 @@
 -- The turns of a schedule's commands are those of the history that they make.
-use Rattle.std.proofs.Common.{◌≡◌, ◌≢◌, ℕ, ◌+◌, ◌<◌, ◌==◌, ◌&&◌, ◌||◌, not, Bool, true, false, cond, List, [], ◌∷◌, ◌++◌, length, map, filter, Option, None, Some, Result, Ok, Err, refl, sym, ap, ◌∙◌, subst, append_assoc, append-nil, eq-eqb, ne_eqb}
+use Rattle.std.proofs.Common.{◌≡◌, ◌≢◌, ℕ, ◌+◌, ◌==◌, ◌&&◌, ◌||◌, not, Bool, true, false, cond, List, [], ◌∷◌, ◌++◌, length, map, filter, Option, None, Some, Result, Ok, Err, refl, sym, ap, ◌∙◌, subst, append_assoc, append-nil, eq-eqb, ne_eqb}
 use Rattle.std.specs.Prelude.{fold, nat_lt, nat_le}
 use Rattle.std.specs.List.{list_any}
 use Rattle.std.proofs.lemmas.List.Elements.{filter_agree}
@@ -7,14 +7,13 @@ use Rattle.std.proofs.lemmas.List.Folds.{list_any-append}
 use Rattle.chart.specs.Charts.{chart_lines}
 use Rattle.chart.specs.Events.{greatest_region}
 use Rattle.chart.specs.declared.history.Occurrence.TheVariants as events
-use Rattle.chart.specs.HistoryLines.{history_lines}
 use Rattle.chart.specs.Histories.{waiting, is_closed, chart_of}
 use Rattle.chart.proofs.HistoryLines.{chart-is}
 use Rattle.chart_layout.specs.KeptTurns.Runs.{IsRun}
 use Rattle.diagrams.specs.Messages.Each.{Each, Pairs}
 use Rattle.diagrams.proofs.MessagesLemmas.EachLemmas.{each_weaker}
 use Rattle.schedule.proofs.Legal.{legal}
-use Rattle.schedule.specs.Meaning.{Run, State, start, has_waiting, is_line_full, changed, happens, takes, receives, first_waiting, are_closed, receives_any, acts, noted, step, meaning}
+use Rattle.schedule.specs.Meaning.{Run, State, start, has_waiting, is_line_full, changed, happens, takes, first_waiting, are_closed, receives_any, acts, noted, step, meaning}
 use Rattle.schedule.specs.Outcomes.Outcomes.{AreByLine}
 use Rattle.schedule.specs.Turns.Turns.{is_noted, makes_event, has_turn, turns_of}
 use Rattle.schedule.specs.declared.command.Action.{Action}
@@ -71,7 +70,7 @@ module _ (n k : ℕ) (r s : Run) (p : ℕ) where
 
   acted : (action : Action) → acts n k r p action ≡ Ok s → Made r s (cond (makes_event action) (p ∷ []) [])
   unfolding history_turns
-  acted (actions.Send q name) e = 
+  acted (actions.Send q name) e =
       ap (λ (x : Run). history_turns x.history) (sym (only_ok (nat_le k (length (waiting r.history p q))) words.Full (happens r (events.Send p q (record { name = name; body = [] }))) s
       (peel (is_line_full r.history p) words.LineFull _ s (peel (is_closed r.history p q) words.Closed _ s (peel (nat_lt 0 (r.region p)) words.InCoregion _ s e)))))
   acted (actions.Receive q) e = taken_or q (has_waiting r.history q p) (is_closed r.history q p) e
@@ -156,7 +155,7 @@ module _ (n k : ℕ) where
           let last : List Note = (fold (step n k) t commands).notes in
           let own : is_noted last c.line ≡ true = notes_else commands t c.line behind ∙ pushed_note s.notes c.line word c.line true (eq-eqb c.line c.line refl) ∙ or_true (is_noted s.notes c.line) in
           next t (each_two (λ (d : Command). is_noted s.notes d.line ≡ false) (λ (d : Command). c.line ≢ d.line) (λ (d : Command). is_noted t.notes d.line ≡ false)
-              (λ d was ne. pushed_note s.notes c.line word d.line false (ne_eqb c.line d.line ne) ∙ ap (λ b. b || false) was) commands apart.1 lines.0)
+          (λ d was ne. pushed_note s.notes c.line word d.line false (ne_eqb c.line d.line ne) ∙ ap (λ b. b || false) was) commands apart.1 lines.0)
           ∙ ap (λ b. history_turns s.run.history ++ map (λ (d : Command). d.actor) (cond b (c ∷ filter (has_turn last) commands) (filter (has_turn last) commands))) (sym (never (makes_event c.action) (is_noted last c.line) own))
 
 -- Notes by line.
@@ -189,6 +188,6 @@ replay_run plan o keeps numbered lines is =
     let it = legal plan keeps numbered in
     let turns : history_turns h ≡ turns_of plan.commands (meaning plan).notes = walk (length plan.names) plan.capacity plan.commands start (none_noted plan.commands) lines in
     let same : turns_of plan.commands (meaning plan).notes ≡ turns_of plan.commands o.notes =
-        ap (map (λ (c : Command). c.actor)) (filter_agree (has_turn (meaning plan).notes) (has_turn o.notes) (λ c. ap (λ b. makes_event c.action && not b) (noted_same (meaning plan).notes o.notes is.notes c.line)) plan.commands) in
+    ap (map (λ (c : Command). c.actor)) (filter_agree (has_turn (meaning plan).notes) (has_turn o.notes) (λ c. ap (λ b. makes_event c.action && not b) (noted_same (meaning plan).notes o.notes is.notes c.line)) plan.commands) in
     let chart : chart_of h ≡ chart_lines o.chart = chart-is (length plan.names) plan.capacity h it ∙ ap chart_lines (sym is.chart) in
     subst (λ c. IsRun c (turns_of plan.commands o.notes)) chart (subst (IsRun (chart_of h)) (turns ∙ same) (history_run (length plan.names) plan.capacity h it))

@@ -1,5 +1,5 @@
 -- The turns of a diagram without joined lines are those of a run of its chart.
-use Rattle.std.proofs.Common.{◌≡◌, ℕ, suc, ◌+◌, ◌*◌, ◌<◌, ◌≤◌, ◌==◌, ◌&&◌, ◌||◌, inl, inr, Bool, true, false, cond, List, [], ◌∷◌, ◌++◌, Result, Ok, Err, length, map, filter, refl, sym, ap, ap₂, ◌∙◌, subst, arith, append_assoc, eqb-true, eq-eqb}
+use Rattle.std.proofs.Common.{◌≡◌, ℕ, ◌+◌, ◌*◌, ◌<◌, ◌≤◌, ◌==◌, ◌&&◌, ◌||◌, inl, inr, Bool, true, false, cond, List, [], ◌∷◌, ◌++◌, Result, Ok, Err, length, map, filter, refl, sym, ap, ap₂, ◌∙◌, subst, arith, append_assoc, eqb-true, eq-eqb}
 use Rattle.std.specs.Prelude.{nat_lt}
 use Rattle.std.specs.List.{list_any}
 use Rattle.std.proofs.lemmas.Bool.{cases_lt}
@@ -12,9 +12,9 @@ use Rattle.chart.specs.Charts.{chart_lines}
 use Rattle.chart.specs.StableOrder.Order.{in_order_by}
 use Rattle.chart.proofs.StableOrderLemmas.MappedLemmas.{order_mapped}
 use Rattle.chart_layout.specs.KeptTurns.Runs.{IsRun}
-use Rattle.diagram_labels.specs.Labels.{Labelling, none, with_label, name_of}
-use Rattle.diagrams.specs.Building.{◌>>=◌, DiagramChartView, staying, chart_built, built_by, has_no_chart, built}
-use Rattle.diagrams.specs.Collecting.{CollectedView, collected}
+use Rattle.diagram_labels.specs.Labels.{Labelling, none, with_label}
+use Rattle.diagrams.specs.Building.{DiagramChartView, chart_built, has_no_chart, built}
+use Rattle.diagrams.specs.Collecting.{collected}
 use Rattle.diagrams.specs.Diagrams.{ItemView, DiagramView}
 use Rattle.diagrams.specs.Messages.Each.{Each, Pairs}
 use Rattle.diagrams.specs.Messages.Following.{Follows, IsMessage, AreBuildable}
@@ -36,7 +36,7 @@ use Rattle.diagram_join.proofs.CutLemmas.{pairs_back}
 use Rattle.diagram_laws.specs.Turns.{DiagramTurnsLaw}
 use Rattle.diagram_laws.proofs.DiagramTurns.{Source, send_of, receive_of, sources, who, shown, plain, turn_of, bare_line, view_line, view_count, ends_run, after, after_one, moment, turns_are, fine, fines, fine_end, fine_turn, fine_ends, fine_turns, fine_instances, fine_events, in_moments}
 use Rattle.diagram_laws.proofs.HistoryTurns.{bare}
-use Rattle.diagram_laws.proofs.ImportLemmas.{Built, built_is, stay_is}
+use Rattle.diagram_laws.proofs.ImportLemmas.{built_is, stay_is}
 use Rattle.diagram_laws.proofs.LaneLemmas.{line_events}
 use Rattle.diagram_laws.proofs.Lists.{map_map, filter_map}
 use Rattle.diagram_laws.proofs.Orders.{same_test, pairs_of, Agree, same_order, order_agrees, order_view, map_agrees}
@@ -149,7 +149,7 @@ module _ (all : List Message) where
       rows : m.ends ≤ k.ends → m.receiver ≡ k.receiver → (2 * m.ends + after all m.ends m.receiver) * length all + i ≤ (2 * k.ends + after all k.ends k.receiver) * length all + j
       rows le to =
           let up : (2 * m.ends + after all m.ends m.receiver) * length all ≤ (2 * k.ends + after all k.ends k.receiver) * length all =
-              mul-le (2 * m.ends + after all m.ends m.receiver) (length all) (2 * k.ends + after all k.ends k.receiver) (length all) (above le to) (omega arith) in
+          mul-le (2 * m.ends + after all m.ends m.receiver) (length all) (2 * k.ends + after all k.ends k.receiver) (length all) (above le to) (omega arith) in
           omega (arith, up, less)
 
   follow_later : (i j : ℕ) (m : Message) (ms : List Message) → i < j → Each (Flow m) ms → Each (Follows (fine all (length all) i m)) (fines all (length all) j ms)
