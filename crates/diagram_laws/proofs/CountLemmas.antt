@@ -78,7 +78,7 @@ pub record Adds (kind : Kind) (n : ℕ) (old new : List LeftOut) : Type 0 where
   pub own : (k : Kind) → (number_of k == number_of kind) ≡ true → count_of k old + n < 2 ^ 64 → count_of k new ≡ count_of k old + n
   pub other : (k : Kind) → (number_of k == number_of kind) ≡ false → count_of k new ≡ count_of k old
 
-adds_none : (kind : Kind) (ls : List LeftOut) → Adds kind 0 ls ls
+pub adds_none : (kind : Kind) (ls : List LeftOut) → Adds kind 0 ls ls
 adds_none kind ls = record { own = λ k e few. omega arith; other = λ k e. refl }
 
 -- one more after these
@@ -89,7 +89,7 @@ adds_after kind n place old new adds = record {
 }
 
 -- one more before these
-adds_before : (kind : Kind) (n : ℕ) (place : Place) (old new : List LeftOut) → Adds kind n (with_one old kind place) new → Adds kind (suc n) old new
+pub adds_before : (kind : Kind) (n : ℕ) (place : Place) (old new : List LeftOut) → Adds kind n (with_one old kind place) new → Adds kind (suc n) old new
 adds_before kind n place old new adds = record {
   own = λ k e few. let first = one_more k e (omega (arith, few)) in let rest = adds.own k e (omega (arith, few, first)) in omega (arith, rest, first);
   other = λ k e. adds.other k e ∙ ap (count_of k) (found kind place old) ∙ count_plus k kind place old ∙ ap (λ b. raised b (count_of k old)) e;
@@ -123,12 +123,6 @@ lost_added at left_out (x ∷ xs) =
         (cond its (with_one (with_lost left_out (map (to at) xs)) kinds.LostMessage x.1.place) (with_lost left_out (map (to at) xs)))
     go true rest = adds_after kinds.LostMessage (length (passed at (map arrow xs))) x.1.place left_out (with_lost left_out (map (to at) xs)) rest
     go false rest = rest
-
-pub adds_one_before : (kind : Kind) (n : ℕ) (place : Place) (old new : List LeftOut) → Adds kind n (with_one old kind place) new → Adds kind (suc n) old new
-adds_one_before = adds_before
-
-pub adds_nothing : (kind : Kind) (ls : List LeftOut) → Adds kind 0 ls ls
-adds_nothing = adds_none
 
 -- Sizes.
 

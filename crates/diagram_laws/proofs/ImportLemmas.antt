@@ -39,7 +39,7 @@ use Rattle.diagram_laws.specs.Arrows as arrows
 use Rattle.diagram_laws.specs.Counts.{count_of, skipped}
 use Rattle.diagram_laws.specs.Imports.{processes_in, instance_in, HasArrows, CountsRest, ImportLaw}
 use Rattle.diagram_laws.specs.Plain.{StatesNone}
-use Rattle.diagram_laws.proofs.CountLemmas.{Adds, adds_nothing, notes_added, lost_added, items_size, across_size, order_size, passed_size}
+use Rattle.diagram_laws.proofs.CountLemmas.{Adds, adds_none, notes_added, lost_added, items_size, across_size, order_size, passed_size}
 use Rattle.diagram_laws.proofs.KeptLemmas.{to, between, ordered, firsts, stay, order_arrows, stay_arrows, each_stay, firsts_messages, all_ordered}
 use Rattle.diagram_laws.proofs.LaneLemmas.{goes, arrives, lane_sent, lane_received}
 use Rattle.diagram_laws.proofs.Lists.{map_map, filter_map}
@@ -158,7 +158,7 @@ all_between n row (x ∷ xs) all =
 
 -- A diagram with joins, step by step.
 
-joined_same : (participants : List ParticipantView) (lines : List (List ℕ)) (js : List JoinView) (messages : List Message) (left_out : List LeftOut) (j : JoinedView)
+pub joined_same : (participants : List ParticipantView) (lines : List (List ℕ)) (js : List JoinView) (messages : List Message) (left_out : List LeftOut) (j : JoinedView)
     → joined participants lines js messages left_out ≡ Ok j → j ≡ joined_of (map (process_of js) lines) messages left_out
 unfolding joined
 joined_same participants lines js messages left_out j is = go (is_misnamed lines js) (taken_from js lines participants js) is
@@ -179,14 +179,14 @@ checked_same fault messages j k is = go (fault_from fault [] messages) (full_fro
     go None None true e = absurd (cc e)
     go None None false e = ap (value_or k) e
 
-record Joined (d : DiagramView) (js : List JoinView) (v : JoinedChartView) : Type 0 where
+pub record Joined (d : DiagramView) (js : List JoinView) (v : JoinedChartView) : Type 0 where
   pub stays : JoinedView
   pub is : joined d.participants (names_from [] d.participants) js (collected (names_from [] d.participants) d.items d.left_out).messages
       (collected (names_from [] d.participants) d.items d.left_out).left_out ≡ Ok stays
   pub checks : checked (collected (names_from [] d.participants) d.items d.left_out).fault (collected (names_from [] d.participants) d.items d.left_out).messages stays ≡ Ok stays
   pub chart : v ≡ joined_chart_of d.participants d.items (names_from [] d.participants) stays
 
-joined_is : (d : DiagramView) (js : List JoinView) (v : JoinedChartView) → lines_joined d js ≡ Ok v → Joined d js v
+pub joined_is : (d : DiagramView) (js : List JoinView) (v : JoinedChartView) → lines_joined d js ≡ Ok v → Joined d js v
 unfolding lines_joined joined_by
 joined_is d js v is = go (has_no_chart (length d.participants)) (joined d.participants lines js c.messages c.left_out) refl is
   where
@@ -295,7 +295,7 @@ module _ (d : DiagramView) (plain : Each (StatesNone (names_from [] d.participan
     unfolding chart_built
     alone_rest = record {
       counted = counts suc d.items d.left_out then then parts.stays.1 (notes_added d.left_out d.items)
-          (subst (λ n. Adds kinds.MessageWithin n then then) (sym few.0) (adds_nothing kinds.MessageWithin then))
+          (subst (λ n. Adds kinds.MessageWithin n then then) (sym few.0) (adds_none kinds.MessageWithin then))
           (subst (λ ls. Adds kinds.LostMessage (length (passed suc (in_order suc [] (across suc (arrows_of d.items))))) then ls) (sym left_is)
           (subst (λ l. Adds kinds.LostMessage (length (passed suc l)) then (with_lost then (map (to suc) xs))) (sym in_order_all) (lost_added suc then xs)));
       reported = sym (ap (map (λ (a : ArrowView). a.place)) (none_left (overtaking suc [] (across suc (arrows_of d.items))) few.1));

@@ -19,7 +19,7 @@ use Rattle.diagram_laws.specs.Arrows.{is_within, overtakes, within, overtaking}
 use Rattle.diagram_laws.proofs.Lists.{any_map, filter_map}
 use Rattle.diagram_laws.proofs.NumberedLemmas.{Numbered, arrow}
 use Rattle.diagram_laws.proofs.KeptLemmas.{to, between, ordered}
-use Rattle.diagram_laws.proofs.CountLemmas.{Adds, adds_nothing, adds_one_before}
+use Rattle.diagram_laws.proofs.CountLemmas.{Adds, adds_none, adds_before}
 
 abbrev place_of : Overtaking → Place
 place_of o = o.place
@@ -77,12 +77,12 @@ module _ (at : ℕ → ℕ) where
 
   pub within_added : (left_out : List LeftOut) (xs : List Numbered) → Adds kinds.MessageWithin (length (within at (map arrow xs))) left_out (with_within left_out (map (to at) xs))
   unfolding with_within
-  within_added left_out [] = adds_nothing kinds.MessageWithin left_out
+  within_added left_out [] = adds_none kinds.MessageWithin left_out
   within_added left_out (x ∷ xs) = go (is_within at x.1) (λ ls. within_added ls xs)
     where
       go : (its : Bool) → ((ls : List LeftOut) → Adds kinds.MessageWithin (length (within at (map arrow xs))) ls (with_within ls (map (to at) xs)))
           → Adds kinds.MessageWithin (length (cond its (x.1 ∷ within at (map arrow xs)) (within at (map arrow xs)))) left_out
           (with_within (cond (not its) left_out (with_one left_out kinds.MessageWithin x.1.place)) (map (to at) xs))
-      go true rest = adds_one_before kinds.MessageWithin (length (within at (map arrow xs))) x.1.place left_out (with_within (with_one left_out kinds.MessageWithin x.1.place) (map (to at) xs))
+      go true rest = adds_before kinds.MessageWithin (length (within at (map arrow xs))) x.1.place left_out (with_within (with_one left_out kinds.MessageWithin x.1.place) (map (to at) xs))
           (rest (with_one left_out kinds.MessageWithin x.1.place))
       go false rest = rest left_out

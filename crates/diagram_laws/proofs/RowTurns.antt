@@ -1,5 +1,5 @@
--- The turns of a diagram without joined lines are those of a run of its chart.
-use Rattle.std.proofs.Common.{◌≡◌, ℕ, ◌+◌, ◌*◌, ◌<◌, ◌≤◌, ◌==◌, ◌&&◌, ◌||◌, inl, inr, Bool, true, false, cond, List, [], ◌∷◌, ◌++◌, Result, Ok, Err, length, map, filter, refl, sym, ap, ap₂, ◌∙◌, subst, arith, append_assoc, eqb-true, eq-eqb}
+-- The turns of messages are those of a run of any lines that have their events in the order of the rows.
+use Rattle.std.proofs.Common.{◌≡◌, ℕ, ◌+◌, ◌*◌, ◌<◌, ◌≤◌, ◌==◌, ◌&&◌, ◌||◌, inl, inr, Bool, true, false, cond, List, [], ◌∷◌, ◌++◌, length, map, filter, refl, sym, ap, ap₂, ◌∙◌, subst, arith, append_assoc, eqb-true, eq-eqb}
 use Rattle.std.specs.Prelude.{nat_lt}
 use Rattle.std.specs.List.{list_any}
 use Rattle.std.proofs.lemmas.Bool.{cases_lt}
@@ -8,51 +8,42 @@ use Rattle.std.proofs.lemmas.List.{length-map}
 use Rattle.std.proofs.lemmas.Nat.{mul-le}
 use Rattle.chart.specs.declared.event.Event.TheVariants as events
 use Rattle.chart.specs.declared.line.TheConstants.{MAX_EVENTS}
-use Rattle.chart.specs.Charts.{chart_lines}
+use Rattle.chart.specs.Charts.{LineView, chart_lines}
 use Rattle.chart.specs.StableOrder.Order.{in_order_by}
 use Rattle.chart.proofs.StableOrderLemmas.MappedLemmas.{order_mapped}
 use Rattle.chart_layout.specs.KeptTurns.Runs.{IsRun}
-use Rattle.diagram_labels.specs.Labels.{Labelling, none, with_label}
-use Rattle.diagrams.specs.Building.{DiagramChartView, chart_built, has_no_chart, built}
-use Rattle.diagrams.specs.Collecting.{collected}
-use Rattle.diagrams.specs.Diagrams.{ItemView, DiagramView}
+use Rattle.diagram_labels.specs.Labels.{Labelling, with_label}
+use Rattle.diagrams.specs.Diagrams.{ItemView}
 use Rattle.diagrams.specs.Messages.Each.{Each, Pairs}
 use Rattle.diagrams.specs.Messages.Following.{Follows, IsMessage, AreBuildable}
 use Rattle.diagrams.specs.Messages.Lines.{lines_from}
 use Rattle.diagrams.specs.Messages.Turns.{send_end, receive_end, all_ends, own_ends, in_turn}
-use Rattle.diagrams.specs.Naming.{names_from, label_at, named_as, named_from}
-use Rattle.diagrams.specs.declared.built.BuildError.{BuildError}
-use Rattle.diagrams.specs.declared.built.BuildError.TheVariants as build
-use Rattle.diagrams.specs.declared.left_out.LeftOut.{LeftOut}
+use Rattle.diagrams.specs.Naming.{label_at, named_as, named_from}
 use Rattle.diagrams.specs.declared.message.Message.{Message}
 use Rattle.diagrams.specs.declared.messages.end.End.{End}
 use Rattle.diagrams.specs.declared.messages.message.Named.{Named}
-use Rattle.diagrams.proofs.ChartLemmas.{messages_built}
 use Rattle.diagrams.proofs.MessagesLemmas.EachLemmas.{each_passing, pairs_filter}
 use Rattle.diagrams.proofs.MessagesLemmas.LinesLemmas.{length-lines}
-use Rattle.diagram_join.specs.Turns.Diagrams.{messages_named, messages_of}
 use Rattle.diagram_join.specs.Turns.Turns.{is_sent, sends_in, turns_of}
 use Rattle.diagram_join.proofs.CutLemmas.{pairs_back}
-use Rattle.diagram_laws.specs.Turns.{DiagramTurnsLaw}
 use Rattle.diagram_laws.proofs.DiagramTurns.{Source, send_of, receive_of, sources, who, shown, plain, turn_of, bare_line, view_line, view_count, ends_run, after, after_one, moment, turns_are, fine, fines, fine_end, fine_turn, fine_ends, fine_turns, fine_instances, fine_events, in_moments}
 use Rattle.diagram_laws.proofs.HistoryTurns.{bare}
-use Rattle.diagram_laws.proofs.ImportLemmas.{built_is, stay_is}
 use Rattle.diagram_laws.proofs.LaneLemmas.{line_events}
 use Rattle.diagram_laws.proofs.Lists.{map_map, filter_map}
 use Rattle.diagram_laws.proofs.Orders.{same_test, pairs_of, Agree, same_order, order_agrees, order_view, map_agrees}
 
-abbrev anon : Message → Named
+abbrev pub anon : Message → Named
 anon m = named_as m []
 
-abbrev unnamed : End → End
+abbrev pub unnamed : End → End
 unnamed e = record e { name = [] }
 
-abbrev Flow : Message → Message → Type 0
+abbrev pub Flow : Message → Message → Type 0
 Flow m k = Follows (anon m) (anon k)
 
 -- Messages with names.
 
-unnamed_ends : (labels : Labelling) (items : List ItemView) (ms : List Message) → map unnamed (all_ends (named_from labels items ms)) ≡ all_ends (map anon ms)
+pub unnamed_ends : (labels : Labelling) (items : List ItemView) (ms : List Message) → map unnamed (all_ends (named_from labels items ms)) ≡ all_ends (map anon ms)
 unfolding named_from all_ends
 unnamed_ends labels items [] = refl
 unnamed_ends labels items (m ∷ ms) = go m.is_lost _ _ (unnamed_ends (with_label labels (label_at items m.item)) items ms)
@@ -69,7 +60,7 @@ each_unnamed n labels items [] all = tt
 each_unnamed n labels items (m ∷ ms) all = (record { two = all.0.two; down = all.0.down }, each_unnamed n (with_label labels (label_at items m.item)) items ms all.1)
 
 -- ends without their names are in the same order
-unnamed_line : (p : ℕ) (ends : List End) → map plain (in_turn (own_ends p ends)) ≡ map plain (in_turn (own_ends p (map unnamed ends)))
+pub unnamed_line : (p : ℕ) (ends : List End) → map plain (in_turn (own_ends p ends)) ≡ map plain (in_turn (own_ends p (map unnamed ends)))
 unnamed_line p ends =
     sym (map_map unnamed plain (in_turn (own_ends p ends)))
     ∙ ap (map plain) (order_mapped unnamed turn_of (own_ends p ends))
@@ -114,7 +105,7 @@ plain_events x = go x.sends
     go false = refl
 
 module _ (all : List Message) where
-  same_after : (e f p q : ℕ) → e ≡ f → p ≡ q → after all e p ≡ after all f q
+  pub same_after : (e f p q : ℕ) → e ≡ f → p ≡ q → after all e p ≡ after all f q
   same_after e f p q rows instances = ap₂ (after all) rows instances
 
   -- Messages in cut rows have a chart.
@@ -162,11 +153,11 @@ module _ (all : List Message) where
 
   -- The order of an instance's line is that of the moments.
 
-  record Own (p : ℕ) (x : Source) : Type 0 where
+  pub record Own (p : ℕ) (x : Source) : Type 0 where
     pub is : who x ≡ p
     pub known : x.sends ≡ true → sends_in all x.message.begins p ≡ true
 
-  members : (before rest : List Message) → all ≡ before ++ rest → Each (λ (m : Message). sends_in all m.begins m.sender ≡ true) rest
+  pub members : (before rest : List Message) → all ≡ before ++ rest → Each (λ (m : Message). sends_in all m.begins m.sender ≡ true) rest
   members before [] is = tt
   members before (m ∷ rest) is = (
     ap (list_any (is_sent m.begins m.sender)) is ∙ list_any-append (is_sent m.begins m.sender) before (m ∷ rest) ∙ here (list_any (is_sent m.begins m.sender) before),
@@ -177,7 +168,7 @@ module _ (all : List Message) where
       here true = refl
       here false = rw (eq-eqb m.begins m.begins refl, eq-eqb m.sender m.sender refl) refl
 
-  owns : (p k : ℕ) (ms : List Message) → Each (λ (m : Message). sends_in all m.begins m.sender ≡ true) ms → Each (λ x. (who x == p) ≡ true → Own p x) (sources k ms)
+  pub owns : (p k : ℕ) (ms : List Message) → Each (λ (m : Message). sends_in all m.begins m.sender ≡ true) ms → Each (λ x. (who x == p) ≡ true → Own p x) (sources k ms)
   owns p k [] there = tt
   owns p k (m ∷ ms) there = go m.is_lost (owns p (k + 1) ms there.1)
     where
@@ -266,27 +257,12 @@ module _ (all : List Message) where
         ∙ map_agrees (λ x. (fine_end all (length all) x).instance) who (fine_instances all (length all)) (in_order_by (moment all) (sources 0 all))
         ∙ sym (turns_are all)
 
-    pub rows_run : IsRun (chart_lines (lines_from (all_ends (named_from labels items all)) 1 n)) (turns_of all)
-    rows_run = subst (IsRun (chart_lines (lines_from (all_ends (named_from labels items all)) 1 n))) cut_turns
-        (ends_run n (fines all (length all) 0 all) cut (lines_from (all_ends (named_from labels items all)) 1 n) (length-lines (all_ends (named_from labels items all)) 1 n)
-        (λ p low high. ap (map bare) (line_events (all_ends (named_from labels items all)) n p low high) ∙ bare_line _ [] (in_turn (own_ends p (all_ends (named_from labels items all)))) ∙ line p ∙ sym (cut_line p)))
+    pub rows_run : (lines : List LineView) → length lines ≡ n
+        → ((p : ℕ) → 1 ≤ p → p ≤ n → map bare (chart_lines lines p) ≡ map shown (in_order_by (moment all) (filter (λ x. who x == p) (sources 0 all))))
+        → IsRun (chart_lines lines) (turns_of all)
+    rows_run lines many same = subst (IsRun (chart_lines lines)) cut_turns
+        (ends_run n (fines all (length all) 0 all) cut lines many (λ p low high. same p low high ∙ sym (cut_line p)))
 
--- a diagram with a chart has neither too few participants nor too many
-has_chart : (d : DiagramView) (v : DiagramChartView) → built d ≡ Ok v → has_no_chart (length d.participants) ≡ false
-unfolding built
-has_chart d v is = go (has_no_chart (length d.participants)) _ is
-  where
-    go : (b : Bool) (r : Result DiagramChartView BuildError) → cond b (Err build.Instances) r ≡ Ok v → b ≡ false
-    go true r e = absurd (cc e)
-    go false r e = refl
-
-pub diagram_run : DiagramTurnsLaw
-unfolding chart_built messages_of
-diagram_run d v is =
-    let parts = built_is d v is in
-    let lines = names_from [] d.participants in
-    let c = collected lines d.items d.left_out in
-    let so = stay_is c.fault c.messages c.left_out parts.stays parts.is in
-    let same : messages_of d [] ≡ parts.stays.0 = ap (λ b. cond b [] (messages_named d [] lines)) (has_chart d v is) ∙ sym (ap (λ (s : List Message × List LeftOut). s.0) so.1) in
-    let run = rows_run parts.stays.0 (length lines) none d.items (messages_built lines d.items d.left_out c parts.stays refl parts.is) in
-    subst (λ ms. IsRun (chart_lines v.lines) (turns_of ms)) (sym same) (subst (λ (w : DiagramChartView). IsRun (chart_lines w.lines) (turns_of parts.stays.0)) (sym parts.chart) run)
+    pub plain_run : IsRun (chart_lines (lines_from (all_ends (named_from labels items all)) 1 n)) (turns_of all)
+    plain_run = rows_run (lines_from (all_ends (named_from labels items all)) 1 n) (length-lines (all_ends (named_from labels items all)) 1 n)
+        (λ p low high. ap (map bare) (line_events (all_ends (named_from labels items all)) n p low high) ∙ bare_line _ [] (in_turn (own_ends p (all_ends (named_from labels items all)))) ∙ line p)

@@ -5,9 +5,10 @@ use Rattle.chart.specs.Histories.{IsLegal, chart_of}
 use Rattle.chart.specs.declared.history.Occurrence.{Occurrence}
 use Rattle.chart.specs.declared.history.Occurrence.TheVariants.{Send, Receive, Close}
 use Rattle.chart_layout.specs.KeptTurns.Runs.{IsRun}
-use Rattle.diagrams.specs.Building.{DiagramChartView, built}
 use Rattle.diagrams.specs.Diagrams.{DiagramView}
 use Rattle.diagrams.specs.Messages.Each.{Pairs}
+use Rattle.diagram_join.specs.Building.{JoinedChartView, built_joined}
+use Rattle.diagram_join.specs.Joins.{JoinView}
 use Rattle.diagram_join.specs.Turns.Diagrams.{turns_in}
 use Rattle.schedule.specs.Outcomes.Outcomes.{OutcomeView, IsOutcome}
 use Rattle.schedule.specs.Plans.{Plan, IsPlan, IsNumbered}
@@ -24,9 +25,10 @@ history_turns (Close p q ∷ h) = history_turns h
 abbrev pub HistoryTurnsLaw : Type 0
 HistoryTurnsLaw = (n k : ℕ) (h : List Occurrence) → IsLegal n k h → IsRun (chart_of h) (history_turns h)
 
--- the turns of a diagram without joined lines are those of a run of its chart
+-- the turns of a diagram, whose lines may be joined, are those of a run of its chart
 abbrev pub DiagramTurnsLaw : Type 0
-DiagramTurnsLaw = (d : DiagramView) (v : DiagramChartView) → built d ≡ Ok v → IsRun (chart_lines v.lines) (turns_in d [])
+DiagramTurnsLaw = (d : DiagramView) (joins : List JoinView) (v : JoinedChartView) → built_joined d joins ≡ Ok v
+    → IsRun (chart_lines v.built.lines) (turns_in d joins)
 
 -- the turns of a schedule whose commands are on different lines are those of a run of its outcome's chart
 abbrev pub ReplayTurnsLaw : Type 0

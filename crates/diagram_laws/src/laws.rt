@@ -15,7 +15,7 @@ pub fn history_turns_law()
     ensures { HistoryTurnsLaw }
 {}
 
-/// The turns of a diagram without joined lines are those of a run of its chart.
+/// The turns of a diagram, whose lines may be joined, are those of a run of its chart.
 pub fn diagram_turns_law()
     ensures { DiagramTurnsLaw }
 {}

@@ -5,9 +5,10 @@
 //! - A diagram's chart has exactly the arrows that it keeps, on the lanes between their instances, in the order of the
 //!   text and with their names. It counts or reports each other arrow, and each note. This holds for each tool, with
 //!   and without joined lines, if no note states a send or a receive ([`import_law`]).
-//! - The turns of a diagram without joined lines are those of a run of its chart ([`diagram_turns_law`]). So are the
-//!   turns of a schedule whose commands are on different lines ([`replay_turns_law`]), and those of any legal history
-//!   ([`history_turns_law`]). So the layout that a picture has for these turns keeps them (`chart_layout::kept_turns`).
+//! - The turns of a diagram, whose lines may be joined, are those of a run of its chart ([`diagram_turns_law`]). So are
+//!   the turns of a schedule whose commands are on different lines ([`replay_turns_law`]), and those of any legal
+//!   history ([`history_turns_law`]). So the layout that a picture has for these turns keeps them
+//!   (`chart_layout::kept_turns`).
 #![tactic(auto)]
 
 mod laws;
