@@ -1,0 +1,14 @@
+pub mod CountLemmas
+pub mod DiagramTurns
+pub mod HistoryTurns
+pub mod ImportLemmas
+pub mod JoinedTurns
+pub mod KeptLemmas
+pub mod LaneLemmas
+pub mod Lists
+pub mod MovedLemmas
+pub mod NumberedLemmas
+pub mod Orders
+pub mod PlaceLemmas
+pub mod ReplayTurns
+pub mod RowTurns
