@@ -13,4 +13,4 @@ mod words;
 
 pub use error::CommandLineError;
 pub use request::{Request, requested};
-pub use words::{Word, program_of};
+use words::Word;
