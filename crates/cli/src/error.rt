@@ -1,6 +1,7 @@
 //! Why a command line makes no request.
 ghost use Rattle.std.specs.Prelude.{◌≡◌};
 ghost use Rattle.cli.specs.Reading.{IsFault};
+ghost use Rattle.cli.specs.declared.error.CommandLineError.TheVariants.{Memory};
 
 use clap::Error;
 use clap::error::ErrorKind;
@@ -26,7 +27,7 @@ pub(crate) fn fault(error: &Error) -> CommandLineError
 }
 
 impl From<AllocError> for CommandLineError {
-    ghost from_gives = { λ _ fault. fault ≡ CommandLineError.Memory };
+    ghost from_gives = { λ _ fault. fault ≡ Memory };
 
     fn from(_error: AllocError) -> CommandLineError {
         CommandLineError::Memory

@@ -13,7 +13,7 @@ use Rattle.mscrun.specs.declared.asking.Asked.{Asked}
 use Rattle.mscrun.specs.declared.asking.Asked.TheVariants.{Task, Threads}
 
 -- the bytes of a file, or the cause of the refusal
-abbrev pub given_in : Result Vec ProgramError → Result (List ℕ) ProgramError
+abbrev pub given_in : Result (Vec ℕ) ProgramError → Result (List ℕ) ProgramError
 given_in (Ok bytes) = Ok bytes.items
 given_in (Err error) = Err error
 
@@ -28,13 +28,16 @@ module _ {S V : Type 0} (sink : S → Sink) (old new : S) (diagnostics : V → S
   abbrev pub Refuses : ProgramError → Type 0
   Refuses error = (status ≡ 2) × (new ≡ old) × Tried diagnostics before after (refusal_text error)
 
-  -- the same for what may be given for the file: its bytes, or the cause of the refusal
-  abbrev pub Does : Asked → Result (List ℕ) ProgramError → Type 0
-  Does asked (Ok bytes) = Performs asked bytes
-  Does asked (Err error) = Refuses error
+  -- the same for what was given for the file: its bytes, or the cause of the refusal
+  abbrev pub DoesWith : Asked → Result (List ℕ) ProgramError → Type 0
+  DoesWith asked (Ok bytes) = Performs asked bytes
+  DoesWith asked (Err error) = Refuses error
 
-  -- what the words ask for was done with what was given for the file that they name; or the words are refused
+  -- what is asked for was done with what may be given for the file
+  abbrev pub Does : (List ℕ → Result (List ℕ) ProgramError → Type 0) → Asked → List ℕ → Type 0
+  Does gives asked file = (given : Result (List ℕ) ProgramError) × gives file given × DoesWith asked given
+
+  -- what the words ask for was done, with the file that they name; or the words are refused
   abbrev pub Runs : (List ℕ → Result (List ℕ) ProgramError → Type 0) → List (List ℕ) → Type 0
-  Runs gives words =
-      ((asked : Asked) × (file : List ℕ) × (given : Result (List ℕ) ProgramError) × AreAsking words asked file × gives file given × Does asked given)
+  Runs gives words = ((asked : Asked) × (file : List ℕ) × AreAsking words asked file × Does gives asked file)
       ⊎ ((error : ProgramError) × RefusesWords words error × Refuses error)

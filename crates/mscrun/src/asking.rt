@@ -30,7 +30,7 @@ fn refusal(error: CommandLineError) -> ProgramError
 
 /// What a request asks for, and its file. G1: the seed or the number of turns isn't valid.
 fn asked_by(request: Request) -> Result<(Asked, &str), ProgramError>
-    ensures { Asks (wish request) result }
+    ensures { Asks (wish request.entry) result }
 {
     match request {
         Request::Replay { file } => Ok((Asked::Task(Task::Replay), file)),

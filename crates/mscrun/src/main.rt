@@ -22,7 +22,14 @@ fn main(rt: HostRuntime) -> ExitCode {
     let mut err = StreamOut::new(io::writer(&stderr));
     let system = System { rt: &rt };
     let status = match words_of(&rt) {
-        Ok(words) => run(&rt, rt.alloc(), words.as_slice(), &system, &mut out, &mut err),
+        Ok(words) => run(
+            &rt,
+            rt.alloc(),
+            words.as_slice(),
+            &system,
+            &mut out,
+            &mut err,
+        ),
         Err(error) => refused(&error, &mut err),
     };
     ExitCode::from(status)

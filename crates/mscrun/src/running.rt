@@ -38,6 +38,24 @@ fn perform_asked<R: Threads + Sync, W: Out, V: Out>(
     }
 }
 
+/// Reads the file, and does what is asked for with its bytes.
+fn run_asked<R: Threads + Sync, G: Giver, W: Out, V: Out>(
+    rt: &R,
+    alloc: Global,
+    asked: &Asked,
+    file: &str,
+    giver: &G,
+    out: &mut W,
+    err: &mut V,
+) -> u8
+    ensures { Does W.sink out.old out.new V.sink err.old err.new result (G.gives giver.now) asked.now file.now }
+{
+    match giver.bytes_of(file) {
+        Ok(bytes) => perform_asked(rt, alloc, asked, bytes.as_slice(), out, err),
+        Err(error) => refused(&error, err),
+    }
+}
+
 /// Reads the words and the file that they name, and does what they ask for. The first word is the program's name.
 /// Returns the exit status: that of the task, or 2 if the words or the file are refused. Such a refusal writes nothing
 /// to `out`, and its line to `err`. A failed write to `err` changes nothing.
@@ -55,10 +73,7 @@ pub fn run<R: Threads + Sync, S: AsStr, G: Giver, W: Out, V: Out>(
         (map S.text words.now) }
 {
     match asked_in(alloc, words) {
-        Ok((asked, file)) => match giver.bytes_of(file) {
-            Ok(bytes) => perform_asked(rt, alloc, &asked, bytes.as_slice(), out, err),
-            Err(error) => refused(&error, err),
-        },
+        Ok((asked, file)) => run_asked(rt, alloc, &asked, file, giver, out, err),
         Err(error) => refused(&error, err),
     }
 }
