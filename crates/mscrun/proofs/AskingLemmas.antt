@@ -1,5 +1,5 @@
 -- What words ask for, by the request that they make.
-use Rattle.std.proofs.Common.{◌≡◌, ℕ, List, Some, None, Result, Ok, Err, sym, subst}
+use Rattle.std.proofs.Common.{◌≡◌, ℕ, List, Some, Result, Ok, Err, sym, subst}
 use Rattle.std.specs.Borrow.{Bor}
 use Rattle.cli.specs.Requests.{IsRequested, Wish, request_of}
 use Rattle.cli.specs.declared.error.CommandLineError.{CommandLineError}
