@@ -1,6 +1,7 @@
 //! Why a command line makes no request.
-ghost use Rattle.std.specs.Prelude.{◌≡◌, ◌↔◌, ◌⊎◌};
-ghost use Rattle.clap.specs.Words.{kind_of};
+ghost use Rattle.std.specs.Prelude.{◌≡◌};
+ghost use Rattle.cli.specs.Reading.{IsFault};
+ghost use Rattle.cli.specs.declared.error.CommandLineError.TheVariants.{Memory};
 
 use clap::Error;
 use clap::error::ErrorKind;
@@ -16,9 +17,8 @@ pub enum CommandLineError {
 }
 
 /// The error of a command line that `clap` doesn't parse: a usage mistake, unless memory ran out.
-fn fault(error: &Error) -> CommandLineError
-    ensures memory { (result ≡ CommandLineError.Memory) ↔ (kind_of error.now ≡ ErrorKind.OutOfMemory) }
-    ensures usage { (result ≡ CommandLineError.Usage) ⊎ (result ≡ CommandLineError.Memory) }
+pub(crate) fn fault(error: &Error) -> CommandLineError
+    ensures { IsFault error.now result }
 {
     match error.kind() {
         ErrorKind::OutOfMemory => CommandLineError::Memory,
@@ -26,13 +26,9 @@ fn fault(error: &Error) -> CommandLineError
     }
 }
 
-impl From<Error> for CommandLineError {
-    fn from(error: Error) -> CommandLineError {
-        fault(&error)
-    }
-}
-
 impl From<AllocError> for CommandLineError {
+    ghost from_gives = { λ _ fault. fault ≡ Memory };
+
     fn from(_error: AllocError) -> CommandLineError {
         CommandLineError::Memory
     }

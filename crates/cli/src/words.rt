@@ -1,6 +1,14 @@
 //! Commands as tables of their words.
-use clap::{Arg, ArgAction, Command};
+ghost use Rattle.std.specs.Prelude.{◌≡◌, IfOk, false, map, true};
+ghost use Rattle.clap.specs.Words.{is_simple_and_free, rule_of};
+ghost use Rattle.cli.specs.Reading.{AddsRules, IsProgram, ReadsWords};
+ghost use Rattle.cli.specs.Tables.{command, commands_by, leaf, program, rule_by, rules_in};
+ghost use Rattle.clap.specs.Simple.{shape_of};
+
+use crate::error::{CommandLineError, fault};
+use clap::{Arg, ArgAction, ArgMatches, Command};
 use std::alloc::{AllocError, Global};
+use std::convert::AsStr;
 
 /// A word of a command, by its name.
 #[derive(Clone, Copy)]
@@ -22,7 +30,10 @@ pub enum Word {
 }
 
 /// How `clap` reads the word.
-fn arg_of<'a>(alloc: Global, word: Word) -> Arg<'a> {
+fn arg_of<'a>(alloc: Global, word: Word) -> Arg<'a>
+    ensures rule { rule_of result ≡ rule_by word }
+    ensures local { result.global ≡ false }
+{
     match word {
         Word::Needed(name) => Arg::new(alloc, name).required(true).action(ArgAction::Set),
         Word::Free(name) => Arg::new(alloc, name).action(ArgAction::Set),
@@ -47,7 +58,9 @@ fn with_words<'a>(
     alloc: Global,
     mut command: Command<'a>,
     words: &[Word],
-) -> Result<Command<'a>, AllocError> {
+) -> Result<Command<'a>, AllocError>
+    ensures { IfOk result (AddsRules command.entry (map rule_by words.now)) }
+{
     for word in words {
         command = command.arg(arg_of(alloc, *word))?;
     }
@@ -59,7 +72,9 @@ fn command_of<'a>(
     alloc: Global,
     name: &'static str,
     lists: &[&[Word]],
-) -> Result<Command<'a>, AllocError> {
+) -> Result<Command<'a>, AllocError>
+    ensures { IfOk result (λ made. IsProgram made (leaf (command name.entry.now (rules_in lists.now)))) }
+{
     let mut command = Command::new(alloc, name).disable_help_flag(true);
     for words in lists {
         command = with_words(alloc, command, words)?;
@@ -67,15 +82,20 @@ fn command_of<'a>(
     Ok(command)
 }
 
+/// A command of a table: its name, and the lists of its words.
+pub type Row = (&'static str, &'static [&'static [Word]]);
+
 /// A program of this name with these commands, one of which is required. Each command has the words of all of its
 /// lists.
 ///
 /// F6: a growth was refused.
-pub fn program_of<'a>(
+fn program_of<'a>(
     alloc: Global,
     name: &'static str,
-    commands: &[(&'static str, &'static [&'static [Word]])],
-) -> Result<Command<'a>, AllocError> {
+    commands: &[Row],
+) -> Result<Command<'a>, AllocError>
+    ensures { IfOk result (λ made. IsProgram made (program name.entry.now (commands_by commands.now))) }
+{
     let mut program = Command::new(alloc, name)
         .disable_help_flag(true)
         .disable_help_subcommand(true)
@@ -84,4 +104,28 @@ pub fn program_of<'a>(
         program = program.subcommand(command_of(alloc, name, lists)?)?;
     }
     Ok(program)
+}
+
+/// What the words of a command line name, of which the first is the program's name: a command of this table, and its
+/// words.
+///
+/// G1: they aren't a command line of such a program. F6: a growth was refused.
+#[tactic(none)]
+pub fn matches_in<'a, S: AsStr>(
+    alloc: Global,
+    name: &'static str,
+    commands: &[Row],
+    words: &'a [S],
+) -> Result<ArgMatches<'a>, CommandLineError>
+    requires { is_simple_and_free (program name.now (commands_by commands.now)) ≡ true }
+    ensures { ReadsWords (program name.entry.now (commands_by commands.now)) (map S.text words.entry.now) result }
+{
+    let program = match program_of(alloc, name, commands) {
+        Ok(program) => program,
+        Err(AllocError) => return Err(CommandLineError::Memory),
+    };
+    match program.try_get_matches_from(words) {
+        Ok(matches) => Ok(matches),
+        Err(error) => Err(fault(&error)),
+    }
 }

@@ -13,7 +13,7 @@
 //!   fails. The exit status is 2.
 //!
 //! What is promised of [`view`]: it does what some request asks for, or the words form no request. No contract states
-//! which request it is, since none states how `clap` reads the words.
+//! which request it is. For the words of `mscrun` one does (`cli::requested`).
 //!
 //! [`words`] reads the values of some options.
 #![tactic(auto)]

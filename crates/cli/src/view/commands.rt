@@ -1,6 +1,6 @@
 //! The commands, their options and their words.
-use crate::Word;
 use crate::view::showing::SHOWING;
+use crate::words::{Row, Word};
 
 /// An optional file.
 const FILE: &[Word] = &[Word::Free("FILE")];
@@ -55,7 +55,7 @@ const MENDING: &[Word] = &[
 const TWO_FILES: &[Word] = &[Word::Flag("json"), Word::Needed("A"), Word::Needed("B")];
 
 /// The commands and their words. Help, the version, no command and an unknown one are all mistakes.
-pub(crate) const COMMANDS: [(&str, &[&[Word]]); 11] = [
+pub(crate) const COMMANDS: [Row; 11] = [
     ("witness", &[TOOLS, LOGS, WORDS]),
     ("why", &[TOOLS, LOGS, WORDS]),
     ("draw", &[DRAWING, TOOLS, FILE]),

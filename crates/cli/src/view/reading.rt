@@ -1,4 +1,5 @@
 //! The requests of a command line's words.
+use crate::CommandLineError;
 use crate::view::commands::COMMANDS;
 use crate::view::questions::race_question;
 use crate::view::request::{
@@ -6,7 +7,7 @@ use crate::view::request::{
     Request, Rows,
 };
 use crate::view::showing::showing_of;
-use crate::{CommandLineError, program_of};
+use crate::words::matches_in;
 use clap::ArgMatches;
 use std::alloc::{AllocError, Global};
 use std::convert::AsStr;
@@ -290,7 +291,7 @@ pub fn requested<'a, S: AsStr>(
     alloc: Global,
     words: &'a [S],
 ) -> Result<Request<'a>, CommandLineError> {
-    let matches = program_of(alloc, "mscview", &COMMANDS)?.try_get_matches_from(words)?;
+    let matches = matches_in(alloc, "mscview", &COMMANDS, words)?;
     let (command, words) = matches.subcommand().ok_or(CommandLineError::Usage)?;
     request_of(alloc, command, words)
 }

@@ -1,0 +1,4 @@
+mod TableLemmas
+mod ReadingLemmas
+mod RequestLemmas
+mod FormLemmas
