@@ -68,12 +68,6 @@ pairs_with {A} P R S f (x ∷ xs) each pairs = (beside xs each.1 pairs.0, pairs_
     beside (y ∷ ys) its all = (f x y each.0 its.0 all.0, beside ys its.1 all.1)
 
 module _ (all : List Message) where
-  abbrev L : ℕ
-  L = length all
-
-  abbrev place : Source → ℕ
-  place x = place_in all x.number x.message
-
   abbrev cut_end : Source → End
   cut_end x = cond x.sends (send_end (anon (cut all x.number x.message))) (receive_end (anon (cut all x.number x.message)))
 
