@@ -1,5 +1,6 @@
 pub mod CountLemmas
 pub mod DiagramTurns
+pub mod DrawnLemmas
 pub mod HistoryTurns
 pub mod ImportLemmas
 pub mod JoinedTurns
@@ -9,6 +10,8 @@ pub mod Lists
 pub mod MovedLemmas
 pub mod NumberedLemmas
 pub mod Orders
+pub mod PastLemmas
 pub mod PlaceLemmas
 pub mod ReplayTurns
 pub mod RowTurns
+pub mod TimeLemmas

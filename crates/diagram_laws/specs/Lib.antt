@@ -4,3 +4,4 @@ pub mod Imports
 pub mod Lanes
 pub mod Plain
 pub mod Turns
+pub mod VectorTime
