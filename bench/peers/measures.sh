@@ -1,7 +1,7 @@
 # shellcheck shell=bash
 # Read by the scripts that time rounds; they set `folder` to a folder of theirs, `messages` to how many a round passes, and
 # `command` to what runs rounds of a peer.
-. "${BASH_SOURCE[0]%/*}/../timing"
+. "${BASH_SOURCE[0]%/*}/../timing.sh"
 
 # Threads that wait for each other measure other work beside them, so they come ahead of it where the system lets them.
 ahead=()
