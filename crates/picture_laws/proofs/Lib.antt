@@ -1,0 +1,3 @@
+pub mod ArrowLemmas
+pub mod RowLemmas
+pub mod Standing

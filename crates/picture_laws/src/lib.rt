@@ -1,0 +1,11 @@
+//! The laws of pictures: where the events of a chart are in its picture.
+//!
+//! What is promised:
+//!
+//! - The arrow of a message leads from the place of its send to that of its receive, if both are drawn. An event's place
+//!   is on the line of its instance's column, at the height of its row ([`arrow_law`]).
+#![tactic(auto)]
+
+mod laws;
+
+pub use laws::arrow_law;
