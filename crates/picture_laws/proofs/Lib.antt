@@ -1,3 +1,9 @@
 pub mod ArrowLemmas
+pub mod CountLemmas
+pub mod FrameLemmas
+pub mod MarkLemmas
+pub mod MarkRows
+pub mod QuietLemmas
 pub mod RowLemmas
 pub mod Standing
+pub mod TextLemmas

@@ -1,8 +1,15 @@
 //! The laws.
 ghost use Rattle.picture_laws.specs.Arrows.{ArrowLaw};
+ghost use Rattle.picture_laws.specs.Marks.{MarkLaw};
 
 /// If both ends of a message are drawn, the picture has an arrow from the place of its send to the place of its receive.
 /// The label with the message's name and the mark of the send come directly after it.
 pub fn arrow_law()
     ensures { ArrowLaw }
+{}
+
+/// Each event that is drawn has one mark in the picture's text, and its circle is at the event's place. No other event
+/// has a mark.
+pub fn mark_law()
+    ensures { MarkLaw }
 {}

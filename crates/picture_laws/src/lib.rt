@@ -4,8 +4,10 @@
 //!
 //! - The arrow of a message leads from the place of its send to that of its receive, if both are drawn. An event's place
 //!   is on the line of its instance's column, at the height of its row ([`arrow_law`]).
+//! - Each event that is drawn has one mark in the picture's text, at the event's place, and no other event has a mark
+//!   ([`mark_law`]).
 #![tactic(auto)]
 
 mod laws;
 
-pub use laws::arrow_law;
+pub use laws::{arrow_law, mark_law};
