@@ -1,5 +1,6 @@
 pub mod ArrowLemmas
 pub mod CountLemmas
+pub mod CounterpartLemmas
 pub mod FrameLemmas
 pub mod MarkLemmas
 pub mod MarkRows
@@ -7,3 +8,5 @@ pub mod QuietLemmas
 pub mod RowLemmas
 pub mod Standing
 pub mod TextLemmas
+pub mod WholeLemmas
+pub mod WitnessLemmas

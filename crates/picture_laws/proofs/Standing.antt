@@ -60,7 +60,7 @@ module _ (v : PictureView) (is : Stands v) where
   abbrev c : Chart
   c = chart_lines v.lines
 
-  many : (p : ℕ) → length (laid_out v.choice.rows p) ≡ length (c p)
+  pub many : (p : ℕ) → length (laid_out v.choice.rows p) ≡ length (c p)
   many p = ap length (is.drawing.order p) ∙ length_range 1 (length (c p))
 
   pub in_order : AreInOrder v.choice.rows

@@ -1,6 +1,7 @@
 //! The laws.
 ghost use Rattle.picture_laws.specs.Arrows.{ArrowLaw};
 ghost use Rattle.picture_laws.specs.Marks.{MarkLaw};
+ghost use Rattle.picture_laws.specs.Witnesses.{WitnessLaw};
 
 /// If both ends of a message are drawn, the picture has an arrow from the place of its send to the place of its receive.
 /// The label with the message's name and the mark of the send come directly after it.
@@ -12,4 +13,10 @@ pub fn arrow_law()
 /// has a mark.
 pub fn mark_law()
     ensures { MarkLaw }
+{}
+
+/// In the picture of a chart beside its witness both events of the pair are drawn and marked, if their instance has a
+/// column. So are the events of the same lanes and turns in the picture of the witness.
+pub fn witness_law()
+    ensures { WitnessLaw }
 {}
