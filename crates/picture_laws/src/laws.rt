@@ -3,8 +3,8 @@ ghost use Rattle.picture_laws.specs.Arrows.{ArrowLaw};
 ghost use Rattle.picture_laws.specs.Marks.{MarkLaw};
 ghost use Rattle.picture_laws.specs.Witnesses.{WitnessLaw};
 
-/// If both ends of a message are drawn, the picture has an arrow from the place of its send to the place of its receive.
-/// The label with the message's name and the mark of the send come directly after it.
+/// If both ends of a message are drawn, the picture has an arrow from the place of its send to that of its receive. The
+/// label with the message's name and the mark of the send come directly after it.
 pub fn arrow_law()
     ensures { ArrowLaw }
 {}

@@ -2,8 +2,8 @@
 //!
 //! What is promised:
 //!
-//! - The arrow of a message leads from the place of its send to that of its receive, if both are drawn. An event's place
-//!   is on the line of its instance's column, at the height of its row ([`arrow_law`]).
+//! - The arrow of a message leads from the place of its send to that of its receive, if both are drawn. An event's
+//!   place is on the line of its instance's column, at the height of its row ([`arrow_law`]).
 //! - Each event that is drawn has one mark in the picture's text, at the event's place, and no other event has a mark
 //!   ([`mark_law`]).
 //! - In the picture of a chart beside its witness, both marked events are drawn on both sides, if their instance has a
