@@ -1,0 +1,12 @@
+pub mod ArrowLemmas
+pub mod CountLemmas
+pub mod CounterpartLemmas
+pub mod FrameLemmas
+pub mod MarkLemmas
+pub mod MarkRows
+pub mod QuietLemmas
+pub mod RowLemmas
+pub mod Standing
+pub mod TextLemmas
+pub mod WholeLemmas
+pub mod WitnessLemmas
