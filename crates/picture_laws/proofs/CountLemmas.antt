@@ -1,18 +1,20 @@
 -- How often a layout's rows have an event: once, if the chart has it.
-use Rattle.std.proofs.Common.{◌≡◌, ℕ, zero, suc, ◌+◌, ◌<◌, ◌≤◌, ◌==◌, ◌&&◌, inl, inr, Bool, true, false, cond, List, [], ◌∷◌, ◌++◌, Option, None, Some, refl, sym, ap, ◌∙◌, subst, arith, append_assoc}
+use Rattle.std.proofs.Common.{◌≡◌, ℕ, zero, suc, ◌+◌, ◌<◌, ◌≤◌, ◌==◌, ◌&&◌, inl, inr, Bool, true, false, cond, List, [], ◌∷◌, ◌++◌, Option, None, Some, refl, sym, ap, ◌∙◌, subst, arith, append_assoc, length, fold, count_by}
 use Rattle.std.specs.Prelude.{option_map}
-use Rattle.std.specs.List.{range_with_len}
+use Rattle.std.specs.List.{range_with_len, flat_map}
 use Rattle.std.proofs.lemmas.Bool.{or_cases, or_left, or_right, ne_eqb, eqb-true}
 use Rattle.std.proofs.lemmas.Option.{none-some}
 use Rattle.chart.specs.declared.instance.EventNo.{EventNo}
-use Rattle.chart.specs.Charts.{Chart, Place, at}
+use Rattle.chart.specs.Charts.{Chart, Place, at, chart_lines}
 use Rattle.chart.specs.Places.{IsEvent}
 use Rattle.closure.specs.Faults.{place_of}
 use Rattle.chart_layout.specs.declared.row.Row.{Row}
 use Rattle.chart_layout.specs.declared.row.Row.TheVariants.{Message, Event}
 use Rattle.chart_layout.specs.Layouts.{number_on, row_on, laid_out, is_at, has_event, row_of}
 use Rattle.chart_layout.proofs.IndexLemmas.{is_at-same}
-use Rattle.picture_laws.specs.Marks.{and_one}
+use Rattle.picture_laws.specs.Marks.{and_one, events_in}
+use Rattle.pictures.specs.Pictures.{PictureView}
+use Rattle.picture_laws.proofs.Standing.{Stands}
 
 -- one more for each event of a row, or of rows, that passes
 abbrev pub row_marks : (EventNo → Bool) → Row → ℕ → ℕ
@@ -127,3 +129,30 @@ are_good c (row ∷ rows) all = (go row first, are_good c rows later)
     go : (its : Row) → ((x : EventNo) → has_event (place_of x) its ≡ true → IsEvent c (place_of x)) → IsGood c its
     go (Event x) each = each x (is_at-same (place_of x) x refl refl)
     go (Message s r) each = (each s (or_left (is_at (place_of s) s) (is_at (place_of s) r) (is_at-same (place_of s) s refl refl)), each r (or_right (is_at (place_of r) s) (is_at (place_of r) r) (is_at-same (place_of r) r refl refl)))
+
+-- so are those of a picture's rows
+pub rows_good : (v : PictureView) → Stands v → AreGood (chart_lines v.lines) v.choice.rows
+rows_good v is =
+    are_good (chart_lines v.lines) v.choice.rows
+    (λ p k some. let bounds = occurs_within k 1 (length (chart_lines v.lines p)) (subst (λ xs. 1 ≤ occurs k xs) (is.drawing.order p) some) in (bounds.0, omega (arith, bounds.1)))
+
+-- how many pass a test
+abbrev pub passing : {X : Type 0} → (X → Bool) → List X → ℕ
+passing test [] = 0
+passing test (x ∷ xs) = and_one (test x) (passing test xs)
+
+fold_is : {X : Type 0} (test : X → Bool) (n : ℕ) (xs : List X) → fold (λ a x. a + cond {A = ℕ} (test x) 1 0) n xs ≡ n + passing test xs
+fold_is test n [] = omega arith
+fold_is test n (x ∷ xs) = fold_is test (n + cond {A = ℕ} (test x) 1 0) xs ∙ go (test x)
+  where
+    go : (b : Bool) → n + cond {A = ℕ} b 1 0 + passing test xs ≡ n + and_one b (passing test xs)
+    go true = omega arith
+    go false = omega arith
+
+pub count_is : {X : Type 0} (test : X → Bool) (xs : List X) → count_by test xs ≡ passing test xs
+count_is test xs = let all = fold_is test 0 xs in omega (arith, all)
+
+pub counted_rows : (test : EventNo → Bool) (rows : List Row) → rows_marks test rows 0 ≡ passing test (flat_map events_in rows)
+counted_rows test [] = refl
+counted_rows test (Message s r ∷ rows) = ap (λ n. and_one (test s) (and_one (test r) n)) (counted_rows test rows)
+counted_rows test (Event x ∷ rows) = ap (λ n. and_one (test x) n) (counted_rows test rows)

@@ -1,5 +1,5 @@
 -- Each event of a chart has its counterpart in the chart of a run with the same events.
-use Rattle.std.proofs.Common.{◌≡◌, ℕ, suc, ◌+◌, ◌-◌, ◌<◌, ◌≤◌, ◌==◌, Bool, true, false, cond, List, [], ◌∷◌, length, take, Some, refl, sym, ap, ◌∙◌, arith, count_by, fold, take_all, eq-eqb}
+use Rattle.std.proofs.Common.{◌≡◌, ℕ, suc, ◌+◌, ◌-◌, ◌<◌, ◌≤◌, ◌==◌, Bool, true, false, cond, List, [], ◌∷◌, length, take, Some, refl, sym, ap, ◌∙◌, arith, count_by, take_all, eq-eqb}
 use Rattle.std.specs.Prelude.{option_map}
 use Rattle.std.proofs.lemmas.Bool.{eqb-false}
 use Rattle.chart.specs.declared.event.Event.{Event}
@@ -17,22 +17,7 @@ use Rattle.cmd_draw.specs.Witness.Counterparts.{is_like, turn_of, nth, counterpa
 use Rattle.reordering.specs.OtherRuns.OtherRuns.{IsRunWithin, names_to}
 use Rattle.reordering.proofs.OtherRunsLemmas.Counted.{names_sent}
 use Rattle.picture_laws.specs.Marks.{and_one}
-
--- how many pass a test
-abbrev passing : (Event → Bool) → List Event → ℕ
-passing test [] = 0
-passing test (x ∷ xs) = and_one (test x) (passing test xs)
-
-fold_is : (test : Event → Bool) (n : ℕ) (xs : List Event) → fold (λ a x. a + cond {A = ℕ} (test x) 1 0) n xs ≡ n + passing test xs
-fold_is test n [] = omega arith
-fold_is test n (x ∷ xs) = fold_is test (n + cond {A = ℕ} (test x) 1 0) xs ∙ go (test x)
-  where
-    go : (b : Bool) → n + cond {A = ℕ} b 1 0 + passing test xs ≡ n + and_one b (passing test xs)
-    go true = omega arith
-    go false = omega arith
-
-count_is : (test : Event → Bool) (xs : List Event) → count_by test xs ≡ passing test xs
-count_is test xs = let all = fold_is test 0 xs in omega (arith, all)
+use Rattle.picture_laws.proofs.CountLemmas.{passing, count_is}
 
 -- the event of a turn that is reached
 nth_there : (m : Event) (n i : ℕ) (line : List Event) → 1 ≤ n → n ≤ passing (is_like m) line → (j : ℕ) × (nth m n i line ≡ Some j) × (i ≤ j) × (j < i + length line)

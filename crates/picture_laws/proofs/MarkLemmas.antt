@@ -1,8 +1,8 @@
 -- Each event that is drawn has one mark.
-use Rattle.std.proofs.Common.{◌≡◌, ℕ, ◌+◌, ◌<◌, ◌≤◌, ◌^◌, ◌&&◌, Bool, true, false, cond, List, [], ◌++◌, ◌*◌, length, take, Option, None, Some, refl, sym, ap, ◌∙◌, subst, arith, append_assoc, append-nil, decimal}
-use Rattle.std.specs.Prelude.{codes, is_some, option_map}
+use Rattle.std.proofs.Common.{◌≡◌, ℕ, ◌+◌, ◌<◌, ◌≤◌, ◌^◌, ◌&&◌, Bool, true, false, List, [], ◌++◌, ◌*◌, length, take, Option, None, Some, refl, sym, ap, ◌∙◌, subst, arith, append_assoc, append-nil, decimal}
+use Rattle.std.specs.Prelude.{count_by, codes, is_some, option_map}
 use Rattle.std.specs.List.{flat_map, list_all}
-use Rattle.std.proofs.lemmas.Bool.{and_from, and_right, both_ways, false_from_ne_true, true≢false}
+use Rattle.std.proofs.lemmas.Bool.{and_from, and_right, both_ways, false_from_ne_true}
 use Rattle.std.proofs.lemmas.Option.{same_Some}
 use Rattle.chart.specs.declared.event.Event.{Event as Occurs}
 use Rattle.chart.specs.declared.instance.EventNo.{EventNo}
@@ -17,34 +17,41 @@ use Rattle.closure.proofs.ReadLemmas.{instance_within, line_short}
 use Rattle.chart_layout.specs.Layouts.{is_at, row_of}
 use Rattle.chart_layout.proofs.IndexLemmas.{is_at-true, is_at-same}
 use Rattle.texts.specs.Instances.{name_at}
-use Rattle.picture_parts.specs.declared.columns.columns.Column.{Column}
 use Rattle.picture_parts.specs.declared.elements.spot.Spot.{Spot}
-use Rattle.picture_parts.specs.Columns.Choices.{is_shown, is_in_picture, count_from}
+use Rattle.picture_parts.specs.Columns.Choices.{ChoiceView, is_in_picture, count_from}
 use Rattle.picture_parts.specs.Elements.Elements.{point_start}
-use Rattle.pictures.specs.Pictures.{PictureView, column_of, cell_from, place_from, cell_of, row_at, spot_of, event_of}
+use Rattle.pictures.specs.Pictures.{PictureView, cell_of, spot_of, event_of}
 use Rattle.pictures.specs.PictureText.{picture_text, ground, remarks, bottom}
+use Rattle.pictures.specs.Preparing.{SourceView, PartView}
 use Rattle.pictures.specs.RowText.{name_in, message_name, row_text}
 use Rattle.pictures.specs.Spots.{on_line}
-use Rattle.picture_laws.specs.Marks.{begins, times_in, tag, HasItsMark, MarkLaw}
-use Rattle.picture_laws.specs.Places.{IsDrawn}
+use Rattle.picture_laws.specs.Marks.{begins, times_in, tag, HasPlainNames, HasItsMark, MarkLaw, OnlyMarksLaw, events_in}
+use Rattle.picture_laws.specs.Places.{IsOfChart}
 use Rattle.picture_laws.proofs.ArrowLemmas.{text_is}
-use Rattle.picture_laws.proofs.CountLemmas.{rows_marks, rows_same, rows_none, occurs, laid_marked, occurs_range, occurs_within, rows_have, AreGood, are_good}
+use Rattle.picture_laws.proofs.CountLemmas.{rows_good, counted_rows, count_is, rows_marks, rows_same, rows_none, occurs, laid_marked, occurs_range, rows_have}
 use Rattle.picture_laws.proofs.FrameLemmas.{top-quiet, bottom-quiet, ground-quiet, remarks-quiet}
 use Rattle.picture_laws.proofs.MarkRows.{circle, body, rows-adds}
 use Rattle.picture_laws.proofs.QuietLemmas.{word}
-use Rattle.picture_laws.proofs.Standing.{Stands, stands, one_event, cell_there}
+use Rattle.picture_laws.proofs.Standing.{Stands, stands, one_event, cell_there, no_cell}
 use Rattle.picture_laws.proofs.TextLemmas.{Lacks, name_lacks, begins_same, begins_number}
 
 whole : (p rest : List ℕ) → begins p (p ++ rest) ≡ true
 whole p rest = ap (λ q. begins q (p ++ rest)) (sym (append-nil p)) ∙ begins_same p [] rest
 
+-- a picture has the words that its rows have
+total : (w : List ℕ) (hit : EventNo → Bool) (v : PictureView) → Stands v → ((p : ℕ) → Lacks 60 (name_at v.names p)) → ((e : EventNo) → Lacks 60 (message_name v e))
+    → ((x : EventNo) (a : Spot) → spot_of v x ≡ Some a → IsEvent (chart_lines v.lines) (place_of x) → (rest : List ℕ) → begins w (body x a ++ rest) ≡ hit x)
+    → times_in (word w) (picture_text v) ≡ rows_marks (λ x. is_some (cell_of v x) && hit x) v.choice.rows 0
+total w hit v is names messages ready =
+    ap (times_in (word w)) (text_is v) ∙ top-quiet w v (ground v ++ (flat_map (row_text v) v.choice.rows ++ (remarks v ++ bottom v)))
+    ∙ ground-quiet w v names (flat_map (row_text v) v.choice.rows ++ (remarks v ++ bottom v))
+    ∙ rows-adds w hit v names messages ready v.choice.rows (rows_good v is) (remarks v ++ bottom v)
+    ∙ ap (rows_marks (λ x. is_some (cell_of v x) && hit x) v.choice.rows) (remarks-quiet w v (bottom v) ∙ ap (times_in (word w)) (sym (append-nil (bottom v))) ∙ bottom-quiet w v [])
+
 module _ (v : PictureView) (is : Stands v) (chart : IsChart v.lines) (names : (p : ℕ) → Lacks 60 (name_at v.names p)) (messages : (e : EventNo) → Lacks 60 (message_name v e))
     (e : EventNo) (low_p : e.instance < 2 ^ 64) (low_i : e.index < 2 ^ 64) where
   abbrev c : Chart
   c = chart_lines v.lines
-
-  good : AreGood c v.choice.rows
-  good = are_good c v.choice.rows (λ p k some. let bounds = occurs_within k 1 (length (c p)) (subst (λ xs. 1 ≤ occurs k xs) (is.drawing.order p) some) in (bounds.0, omega (arith, bounds.1)))
 
   -- numbers of events are small
   small_p : (x : EventNo) → IsEvent c (place_of x) → x.instance < 2 ^ 64
@@ -94,11 +101,7 @@ module _ (v : PictureView) (is : Stands v) (chart : IsChart v.lines) (names : (p
     own x = is_some (cell_of v x) && is_at (place_of e) x
 
     counted : times_in (word (after u)) (picture_text v) ≡ rows_marks own v.choice.rows 0
-    counted =
-        ap (times_in (word (after u))) (text_is v) ∙ top-quiet (after u) v (ground v ++ (flat_map (row_text v) v.choice.rows ++ (remarks v ++ bottom v)))
-        ∙ ground-quiet (after u) v names (flat_map (row_text v) v.choice.rows ++ (remarks v ++ bottom v))
-        ∙ rows-adds (after u) (is_at (place_of e)) v names messages ready v.choice.rows good (remarks v ++ bottom v)
-        ∙ ap (rows_marks own v.choice.rows) (remarks-quiet (after u) v (bottom v) ∙ ap (times_in (word (after u))) (sym (append-nil (bottom v))) ∙ bottom-quiet (after u) v [])
+    counted = total (after u) (is_at (place_of e)) v is names messages ready
 
     -- once, if the event has a cell
     counted_once : (row : ℕ) → row_of v.choice.rows (place_of e) ≡ Some row → is_some (cell_of v e) ≡ true → times_in (word (after u)) (picture_text v) ≡ 1
@@ -134,15 +137,6 @@ module _ (v : PictureView) (is : Stands v) (chart : IsChart v.lines) (names : (p
   unfolding point_start
   mark_is a = refl
 
-  no_cell : (IsDrawn v e → ⊥) → cell_of v e ≡ None
-  no_cell hidden = go (column_of v e.instance) (is_shown v.choice e) (false_from_ne_true (is_in_picture v.choice e) hidden)
-    where
-      go : (column : Option Column) (shown : Bool) → (is_some column && shown) ≡ false → cond shown (cell_from column (place_from v (row_at v e))) None ≡ None
-      go None true none = refl
-      go None false none = refl
-      go (Some column) true none = absurd (true≢false none)
-      go (Some column) false none = refl
-
   pub has_mark : HasItsMark v e
   has_mark = record {
     drawn = λ drawn. let cell = cell_there v is e drawn in
@@ -153,21 +147,43 @@ module _ (v : PictureView) (is : Stands v) (chart : IsChart v.lines) (names : (p
           ap (λ word. times_in word (picture_text v)) (mark_is a) ∙ counted_once (circle a) (λ b at_b rest. its_circle b a rest at_b spot) cell.row cell.of_event (ap is_some cell.cell),
           ap (λ word. times_in word (picture_text v)) tag_is ∙ counted_once [] (λ a at_a rest. refl) cell.row cell.of_event (ap is_some cell.cell),
         );
-    hidden = λ hidden. ap (λ word. times_in word (picture_text v)) tag_is ∙ counted_never [] (λ a at_a rest. refl) (no_cell hidden);
+    hidden = λ hidden. ap (λ word. times_in word (picture_text v)) tag_is ∙ counted_never [] (λ a at_a rest. refl) (no_cell v e hidden);
   }
     where
       its_circle : (a b : Spot) (rest : List ℕ) → spot_of v e ≡ Some a → spot_of v e ≡ Some b → begins (circle b) (circle a ++ rest) ≡ true
       its_circle a b rest at_a at_b = subst (λ x. begins (circle x) (circle a ++ rest) ≡ true) (same_Some a b (sym at_a ∙ at_b)) (whole (circle a) rest)
 
+-- the names in a picture of a chart with plain names
+module _ (source : SourceView) (part : PartView) (v : PictureView) (of_chart : IsOfChart source part v) (plain_names : HasPlainNames source) where
+  names_lack : (p : ℕ) → Lacks 60 (name_at v.names p)
+  names_lack p = name_lacks (name_at v.names p) (subst (λ names. list_all is_name_byte (name_at names p) ≡ true) (sym of_chart.picture.names_are) (plain_names.instances p))
+
+  messages_lack : (x : EventNo) → Lacks 60 (message_name v x)
+  messages_lack x = go (event_of v x) refl
+    where
+      go : (m : Option Occurs) → event_of v x ≡ m → Lacks 60 (name_in m)
+      go None at_x = refl
+      go (Some m) at_x = name_lacks (name_of m) (plain_names.messages (place_of x) m (subst (λ lines. chart_event (chart_lines lines) (place_of x) ≡ Some m) of_chart.picture.lines_are at_x))
+
 pub mark_law : MarkLaw
 mark_law source part v of_chart chart plain_names e low_p low_i =
-    has_mark v (stands source part v of_chart) (subst IsChart (sym lines_are) chart)
-    (λ p. name_lacks (name_at v.names p) (subst (λ names. list_all is_name_byte (name_at names p) ≡ true) (sym of_chart.picture.names_are) (plain_names.instances p)))
-    (λ x. by_event x (event_of v x) refl) e (omega (arith, low_p)) (omega (arith, low_i))
-  where
-    lines_are : v.lines ≡ source.lines
-    lines_are = of_chart.picture.lines_are
+    has_mark v (stands source part v of_chart) (subst IsChart (sym of_chart.picture.lines_are) chart) (names_lack source part v of_chart plain_names) (messages_lack source part v of_chart plain_names) e
+    (omega (arith, low_p)) (omega (arith, low_i))
 
-    by_event : (x : EventNo) (m : Option Occurs) → event_of v x ≡ m → Lacks 60 (name_in m)
-    by_event x None at_x = refl
-    by_event x (Some m) at_x = name_lacks (name_of m) (plain_names.messages (place_of x) m (subst (λ lines. chart_event (chart_lines lines) (place_of x) ≡ Some m) lines_are at_x))
+-- an event has a cell if it is drawn
+shown_is : (v : PictureView) → Stands v → (x : EventNo) → (is_some (cell_of v x) && true) ≡ is_in_picture v.choice x
+shown_is v is x = go (is_in_picture v.choice x) refl
+  where
+    go : (b : Bool) → is_in_picture v.choice x ≡ b → (is_some (cell_of v x) && true) ≡ b
+    go true drawn = ap (λ o. is_some o && true) (cell_there v is x drawn).cell
+    go false hidden = ap (λ o. is_some o && true) (no_cell v x (λ drawn. both_ways (is_in_picture v.choice x) hidden drawn))
+
+pub only_marks_law : OnlyMarksLaw
+only_marks_law source part v of_chart plain_names =
+    total [] (λ x. true) v is (names_lack source part v of_chart plain_names) (messages_lack source part v of_chart plain_names) (λ x a at_a event rest. refl)
+    ∙ rows_same (λ x. is_some (cell_of v x) && true) (is_in_picture v.choice) (shown_is v is) v.choice.rows 0
+    ∙ counted_rows (is_in_picture v.choice) v.choice.rows ∙ sym (count_is (is_in_picture v.choice) (flat_map events_in v.choice.rows))
+    ∙ ap (λ rows. count_by (is_in_picture v.choice) (flat_map events_in rows)) (ap (λ (c : ChoiceView). c.rows) of_chart.picture.choice_is)
+  where
+    is : Stands v
+    is = stands source part v of_chart

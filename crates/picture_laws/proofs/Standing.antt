@@ -2,7 +2,7 @@
 use Rattle.std.proofs.Common.{◌≡◌, ℕ, inl, inr, Bool, true, false, ◌&&◌, cond, length, take, Option, None, Some, refl, sym, ap, ◌∙◌, subst, arith}
 use Rattle.std.specs.Prelude.{slice_get, is_some}
 use Rattle.std.specs.List.{range_with_len}
-use Rattle.std.proofs.lemmas.Bool.{and_parts, or_cases, false≢true}
+use Rattle.std.proofs.lemmas.Bool.{false_from_ne_true, and_parts, or_cases, false≢true}
 use Rattle.chart.specs.declared.instance.EventNo.{EventNo}
 use Rattle.chart.specs.Charts.{Chart, Place, BelongsTo, chart_lines}
 use Rattle.chart.specs.Places.{IsEvent}
@@ -15,7 +15,7 @@ use Rattle.chart_layout.proofs.BegunLemmas.{row_of_laid_out}
 use Rattle.chart_layout.proofs.RowLemmas.{row_of-within}
 use Rattle.picture_parts.specs.declared.columns.columns.Column.{Column}
 use Rattle.picture_parts.specs.Columns.Choices as choices
-use Rattle.picture_parts.specs.Columns.Choices.{ChoiceView, is_shown, is_chosen, is_chosen_end, is_row_chosen, is_between, places_from, count_from}
+use Rattle.picture_parts.specs.Columns.Choices.{ChoiceView, is_in_picture, is_shown, is_chosen, is_chosen_end, is_row_chosen, is_between, places_from, count_from}
 use Rattle.pictures.specs.Pictures.{PictureView, column_of, cell_from, place_from, cell_of, row_at}
 use Rattle.pictures.specs.Preparing.{SourceView, PartView}
 use Rattle.picture_laws.specs.Places.{IsOfChart, IsDrawn}
@@ -123,3 +123,13 @@ module _ (v : PictureView) (is : Stands v) where
             ∙ ap (λ o. cell_from o (place_from v (row_at v e))) column.1 ∙ ap (λ o. cell_from (Some column.0) (place_from v o)) row.1
             ∙ ap (cell_from (Some column.0)) place;
       }
+
+-- an event that isn't drawn has none
+pub no_cell : (v : PictureView) (e : EventNo) → (IsDrawn v e → ⊥) → cell_of v e ≡ None
+no_cell v e hidden = go (column_of v e.instance) (is_shown v.choice e) (false_from_ne_true (is_in_picture v.choice e) hidden)
+  where
+    go : (column : Option Column) (shown : Bool) → (is_some column && shown) ≡ false → cond shown (cell_from column (place_from v (row_at v e))) None ≡ None
+    go None true none = refl
+    go None false none = refl
+    go (Some column) true none = absurd (false≢true (sym none))
+    go (Some column) false none = refl

@@ -33,7 +33,7 @@ use Rattle.pictures.specs.Pictures.{PictureView}
 use Rattle.pictures.specs.Preparing.{SourceView, PartView, plan_of}
 use Rattle.picture_laws.specs.Places.{IsOfChart, IsDrawn}
 use Rattle.picture_laws.specs.Witnesses.{is_instance, HasColumn}
-use Rattle.picture_laws.proofs.CountLemmas.{occurs, occurs_within, IsGood, AreGood, are_good}
+use Rattle.picture_laws.proofs.CountLemmas.{IsGood, AreGood, rows_good}
 use Rattle.picture_laws.proofs.Standing.{Stands, stands, event_row, many}
 
 -- Columns.
@@ -140,9 +140,8 @@ module _ (v : PictureView) (is : Stands v) (chart : IsChart v.lines) where
 
   pub few_rows : length v.choice.rows ≤ 131072
   few_rows =
-      let good : AreGood (chart_lines v.lines) v.choice.rows = are_good (chart_lines v.lines) v.choice.rows (λ p k some. let bounds = occurs_within k 1 (length (chart_lines v.lines p)) (subst (λ xs. 1 ≤ occurs k xs) (is.drawing.order p) some) in (bounds.0, omega (arith, bounds.1))) in
       let limit : MAX_INSTANCES ≤ 32 = omega arith in
-      omega (arith, rows_few v.lines v.choice.rows good, sum_small (length v.lines) (omega arith), chart.limit, limit)
+      omega (arith, rows_few v.lines v.choice.rows (rows_good v is), sum_small (length v.lines) (omega arith), chart.limit, limit)
 
 all_three : (a b d : Bool) → a ≡ true → b ≡ true → d ≡ true → (a && b && d) ≡ true
 all_three a b d p q r = rw (p, q, r) refl

@@ -1,12 +1,15 @@
 -- The marks of events in the text of a picture (SVG 1.1). The mark of an event is a group with its id, e, the number of
 -- its instance, - and its own number. The group begins with a circle (this project's profile).
-use Rattle.std.specs.Prelude.{◌≡◌, ℕ, suc, ◌^◌, ◌<◌, ◌==◌, ◌&&◌, Bool, true, false, List, [], ◌∷◌, ◌++◌, Some, codes, decimal}
-use Rattle.std.specs.List.{list_all}
+use Rattle.std.specs.Prelude.{◌≡◌, ℕ, suc, ◌^◌, ◌<◌, ◌==◌, ◌&&◌, Bool, true, false, List, [], ◌∷◌, ◌++◌, Some, codes, decimal, count_by}
+use Rattle.std.specs.List.{list_all, flat_map}
 use Rattle.chart.specs.declared.event.Event.{Event}
 use Rattle.chart.specs.declared.instance.EventNo.{EventNo}
 use Rattle.chart.specs.Charts.{Place, IsChart, chart_event, chart_lines}
 use Rattle.chart.specs.Events.{name_of}
 use Rattle.chart.specs.Names.{is_name_byte}
+use Rattle.chart_layout.specs.declared.row.Row.{Row}
+use Rattle.chart_layout.specs.declared.row.Row.TheVariants as variants
+use Rattle.picture_parts.specs.Columns.Choices.{is_in_picture}
 use Rattle.picture_parts.specs.declared.elements.spot.Spot.{Spot}
 use Rattle.picture_parts.specs.Elements.Elements.{point_start}
 use Rattle.pictures.specs.Pictures.{PictureView}
@@ -50,3 +53,12 @@ pub record HasItsMark (v : PictureView) (e : EventNo) : Type 0 where
 abbrev pub MarkLaw : Type 0
 MarkLaw = (source : SourceView) (part : PartView) (v : PictureView) → IsOfChart source part v → IsChart source.lines
     → HasPlainNames source → (e : EventNo) → e.instance < 2 ^ 32 → e.index < 2 ^ 32 → HasItsMark v e
+
+abbrev pub events_in : Row → List EventNo
+events_in (variants.Message send receive) = send ∷ receive ∷ []
+events_in (variants.Event event) = event ∷ []
+
+-- no other mark is there: as many marks as events of the chart's rows that are drawn
+abbrev pub OnlyMarksLaw : Type 0
+OnlyMarksLaw = (source : SourceView) (part : PartView) (v : PictureView) → IsOfChart source part v → HasPlainNames source
+    → times_in (codes "<g id='e") (picture_text v) ≡ count_by (is_in_picture v.choice) (flat_map events_in source.rows)
