@@ -1,5 +1,5 @@
 //! Outputs that take a text.
-ghost use Rattle.std.specs.Prelude.{◌≡◌, ◌≤◌, ◌<◌, [], take, length, Some, IfOk, OnErr};
+ghost use Rattle.std.specs.Prelude.{◌≡◌, ◌==◌, ◌≤◌, ◌<◌, [], take, length, Some, IfOk, OnErr};
 ghost use Rattle.std.specs.Io.KnownBytes.{Appends};
 ghost use Rattle.texts.specs.Outs.{Sink, Stored, Streamed, one_more};
 
@@ -66,6 +66,13 @@ impl MemoryOut {
         ensures { result.now ≡ self.now.bytes }
     {
         &self.bytes
+    }
+
+    /// Whether each put was taken. If not, memory was refused, and the text lacks bytes.
+    pub fn is_whole(&self) -> bool
+        ensures { result ≡ (self.now.failures == 0) }
+    {
+        self.failures == 0
     }
 
     pub fn into_bytes(self) -> Vec<u8>
