@@ -1,0 +1,4 @@
+pub mod Knowing
+pub mod Plays
+pub mod Rule
+pub mod Shelves
