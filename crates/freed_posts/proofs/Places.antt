@@ -10,10 +10,10 @@ use Rattle.board_table.proofs.Carried.{at_append}
 use Rattle.board.specs.Views.{PostView}
 use Rattle.freed_posts.specs.declared.change.Change.{Change}
 use Rattle.freed_posts.specs.declared.knowledge.Right.{Right}
-use Rattle.freed_posts.specs.declared.knowledge.Right.TheVariants.{Nothing, Unissued, Issued}
+use Rattle.freed_posts.specs.declared.knowledge.Right.TheVariants.{Nothing, Unissued, Issued, Taking, Handing}
 use Rattle.freed_posts.specs.declared.knowledge.Knowledge.{Knowledge}
-use Rattle.freed_posts.specs.Shelves.{lying, GoOn}
-use Rattle.freed_posts.specs.Knowing.{witness}
+use Rattle.freed_posts.specs.Shelves.{lying, made_with, GoOn}
+use Rattle.freed_posts.specs.Knowing.{knowledge}
 use Rattle.freed_posts.specs.Rule.{Homes, IsPlace, Lies, HasPlace, AreVacant, IsOwned, Fits}
 use Rattle.freed_posts.proofs.Changes.{go_on_from}
 
@@ -26,17 +26,19 @@ vacant_left : (right : Right) (homes homes' : Homes) → ((place : ℕ) → HasP
 vacant_left Nothing homes homes' same are = tt
 vacant_left (Unissued first end) homes homes' same are = λ place low high. same place (low, high) ∙ are place low high
 vacant_left (Issued mine) homes homes' same are = tt
+vacant_left (Taking mine other) homes homes' same are = tt
+vacant_left (Handing mine other) homes homes' same are = same other (inr refl) ∙ are
 
 -- a seat that makes no step, while the places that aren't its own may change
-pub seat_left : (n : ℕ) (log log' : List Change) (owner owner' : ℕ → ℕ) (homes homes' : Homes) (id : ℕ) (v : Knowledge) → GoOn log log' → ((place : ℕ) → IsOwned n log owner id place → (owner' place ≡ owner place) × (lying log' (suc place) ≡ lying log (suc place)) × (get_elem? homes' place ≡ get_elem? homes place)) → Fits n log owner homes id v → Fits n log' owner' homes' id v
+pub seat_left : (n : ℕ) (log log' : List Change) (owner owner' : ℕ → ℕ) (homes homes' : Homes) (id : ℕ) (v : Knowledge) → GoOn log log' → ((place : ℕ) → IsOwned n log owner id v.seen place → (owner' place ≡ owner place) × (lying log' (suc place) ≡ lying log (suc place)) × (made_with (suc place) log' ≡ made_with (suc place) log) × (get_elem? homes' place ≡ get_elem? homes place)) → Fits n log owner homes id v → Fits n log' owner' homes' id v
 seat_left n log log' owner owner' homes homes' id v later same fits = record {
   seen = go_on_from v.seen log log' fits.seen later;
-  owns = λ place has. let its = fits.owns place has in let left = same place its in record { within = its.within; owner_is = left.0 ∙ its.owner_is; away = left.1 ∙ its.away };
-  vacant = vacant_left v.right homes homes' (λ place has. (same place (fits.owns place has)).2) fits.vacant;
+  owns = λ place has. let its = fits.owns place has in let left = same place its in record { within = its.within; owner_is = left.0 ∙ its.owner_is; away = left.1 ∙ its.away; made = left.2 ∙ its.made };
+  vacant = vacant_left v.right homes homes' (λ place has. (same place (fits.owns place has)).3) fits.vacant;
 }
 
 -- a seat with no place
-pub witness_fits : (n : ℕ) (log : List Change) (owner : ℕ → ℕ) (homes : Homes) (id : ℕ) (seen : List Change) → GoOn seen log → Fits n log owner homes id (witness seen)
+pub witness_fits : (n : ℕ) (log : List Change) (owner : ℕ → ℕ) (homes : Homes) (id : ℕ) (seen : List Change) → GoOn seen log → Fits n log owner homes id (knowledge Nothing seen)
 witness_fits n log owner homes id seen later = record { seen = later; owns = λ place has. absurd has; vacant = tt }
 
 module _ {V : Type 0} where

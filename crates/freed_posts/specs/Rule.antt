@@ -1,6 +1,6 @@
 -- The rule of a shelf (this project's profile). There is always one list of changes that agrees with the words, with
 -- what is in the places at home, and with what the seats know.
-use Rattle.std.specs.Prelude.{◌≡◌, ℕ, suc, ◌<◌, ◌≤◌, List, [], length, slice_index, Option, Some, None}
+use Rattle.std.specs.Prelude.{◌≡◌, ℕ, suc, ◌<◌, ◌≤◌, ◌⊎◌, List, [], length, slice_index, Option, Some, None}
 use mathlib.Core.Option.{some}
 use mathlib.Core.Option as maybe
 use lib.ListN.{get_elem?}
@@ -11,9 +11,9 @@ use Rattle.board.specs.Views.{PostView}
 use Rattle.board.specs.Parked.{IsAtBoard}
 use Rattle.freed_posts.specs.declared.change.Change.{Change}
 use Rattle.freed_posts.specs.declared.knowledge.Right.{Right}
-use Rattle.freed_posts.specs.declared.knowledge.Right.TheVariants.{Nothing, Unissued, Issued}
+use Rattle.freed_posts.specs.declared.knowledge.Right.TheVariants.{Nothing, Unissued, Issued, Taking, Handing}
 use Rattle.freed_posts.specs.declared.knowledge.Knowledge.{Knowledge}
-use Rattle.freed_posts.specs.Shelves.{lying, GoOn}
+use Rattle.freed_posts.specs.Shelves.{lying, made_with, GoOn}
 
 -- the places at home, each with what it has
 abbrev pub Homes : Type 0
@@ -42,23 +42,30 @@ abbrev pub HasPlace : Right → ℕ → Type 0
 HasPlace Nothing place = ⊥
 HasPlace (Unissued first end) place = (first ≤ place) × (place < end)
 HasPlace (Issued mine) place = place ≡ mine
+HasPlace (Taking mine other) place = (place ≡ mine) ⊎ (place ≡ other)
+HasPlace (Handing mine other) place = (place ≡ mine) ⊎ (place ≡ other)
 
--- the places that aren't issued yet are at home, and empty
+-- the places that are to be issued are at home, and empty
 abbrev pub AreVacant : Right → Homes → Type 0
 AreVacant Nothing homes = Unit {0}
 AreVacant (Unissued first end) homes = (place : ℕ) → first ≤ place → place < end → get_elem? homes place ≡ some (some None)
 AreVacant (Issued mine) homes = Unit {0}
+AreVacant (Taking mine other) homes = Unit {0}
+AreVacant (Handing mine other) homes = get_elem? homes other ≡ some (some None)
 
--- the place is this seat's, and so no post of its number is on the shelf
-pub record IsOwned (n : ℕ) (log : List Change) (owner : ℕ → ℕ) (id place : ℕ) : Type 0 where
+-- the place is this seat's, and so no post of its number is on the shelf. The seat has seen all changes that were made
+-- with the place's ticket
+pub record IsOwned (n : ℕ) (log : List Change) (owner : ℕ → ℕ) (id : ℕ) (seen : List Change) (place : ℕ)
+    : Type 0 where
   pub within : place < n
   pub owner_is : owner place ≡ id
   pub away : lying log (suc place) ≡ None
+  pub made : made_with (suc place) log ≡ made_with (suc place) seen
 
 -- what a seat knows agrees with the changes, and its places are no other seat's
 pub record Fits (n : ℕ) (log : List Change) (owner : ℕ → ℕ) (homes : Homes) (id : ℕ) (v : Knowledge) : Type 0 where
   pub seen : GoOn v.seen log
-  pub owns : (place : ℕ) → HasPlace v.right place → IsOwned n log owner id place
+  pub owns : (place : ℕ) → HasPlace v.right place → IsOwned n log owner id v.seen place
   pub vacant : AreVacant v.right homes
 
 pub record IsShelf (key : Shape) (board : TableId) (s : State (Option PostView) Knowledge) : Type 0 where

@@ -30,11 +30,26 @@ pub record ReceiptView : Type 0 where
 abbrev pub lying : List Change → ℕ → Option PostView
 lying [] p = None
 lying (Kept post ∷ changes) p = if post.number == p then Some post else lying changes p
-lying (Taken q ∷ changes) p = if q == p then None else lying changes p
+lying (Taken q by ∷ changes) p = if q == p then None else lying changes p
+
+-- the change was made with the ticket of the post with this number
+abbrev pub maker : Change → ℕ
+maker (Kept post) = post.number
+maker (Taken q by) = by
+
+-- of these changes those that were made with the ticket of the post with this number
+abbrev pub made_with : ℕ → List Change → List Change
+made_with p [] = []
+made_with p (change ∷ changes) = if maker change == p then change ∷ made_with p changes else made_with p changes
 
 -- the later changes are the earlier ones, and newer ones
 abbrev pub GoOn : List Change → List Change → Type 0
 GoOn earlier later = (newer : List Change) × (later ≡ newer ++ earlier)
+
+-- the changes go on from those that were seen, and none of the newer ones was made with the ticket for this number
+pub record AreOthers (number : ℕ) (seen changes : List Change) : Type 0 where
+  pub later : GoOn seen changes
+  pub made : made_with number changes ≡ made_with number seen
 
 -- the post is one of the shelf's board, and the ticket is that of the post on this shelf
 pub record IsTicketOf (shelf : ShelfView) (post : PostView) (ticket : TicketView) : Type 0 where
@@ -57,12 +72,12 @@ pub record IsNewShelf (key : Shape) (board : TableId) (shelf : ShelfView) (ticke
   pub board_is : shelf.board ≡ board
   pub tickets_are : AreFirst key.instances shelf.table tickets
 
--- the post is kept on the shelf, where no post of its number was, directly after changes that go on from those that the
--- ticket had seen
+-- the post is kept on the shelf, where no post of its number was: by one change, directly after others that go on from
+-- those that the ticket had seen
 pub record Keeps (ticket : TicketView) (post : PostView) (receipt : ReceiptView) : Type 0 where
   pub shelf_is : receipt.shelf ≡ ticket.shelf
   pub before : List Change
-  pub later : GoOn ticket.seen before
+  pub others : AreOthers ticket.number ticket.seen before
   pub vacant : lying before post.number ≡ None
   pub seen : receipt.seen ≡ Kept post ∷ before
 
@@ -71,21 +86,21 @@ pub record IsSameTicket (old new : TicketView) : Type 0 where
   pub shelf_is : new.shelf ≡ old.shelf
   pub number_is : new.number ≡ old.number
 
--- no post of this number is on the shelf, after all changes that the ticket has seen now
+-- nothing is changed, and no post of this number is on the shelf, after all changes that the ticket has seen now
 pub record FindsNone (old : TicketView) (number : ℕ) (new : TicketView) : Type 0 where
   pub same : IsSameTicket old new
-  pub later : GoOn old.seen new.seen
+  pub others : AreOthers old.number old.seen new.seen
   pub none : lying new.seen number ≡ None
 
--- the post with this number is taken from the shelf, where it was, and its ticket with it. Both tickets have seen this
--- as the newest change
+-- the post with this number is taken from the shelf, where it was, and its ticket with it: by one change, which both
+-- tickets have seen as the newest
 pub record TakesPost (shelf : ShelfView) (old : TicketView) (number : ℕ) (ticket : TicketView) (post : PostView)
     (new : TicketView) : Type 0 where
   pub same : IsSameTicket old new
   pub before : List Change
-  pub later : GoOn old.seen before
+  pub others : AreOthers old.number old.seen before
   pub lay : lying before number ≡ Some post
-  pub seen : new.seen ≡ Taken number ∷ before
+  pub seen : new.seen ≡ Taken number old.number ∷ before
   pub number_is : post.number ≡ number
   pub ticket_is : IsTicketOf shelf post ticket
   pub ticket_seen : ticket.seen ≡ new.seen

@@ -7,6 +7,6 @@ use chart::InstanceNo;
 pub enum Change {
     /// This post was kept on the shelf.
     Kept(Parked),
-    /// The post with this number was taken from the shelf.
-    Taken(InstanceNo),
+    /// The post with the first number was taken from the shelf, with the ticket of the post with the second.
+    Taken(InstanceNo, InstanceNo),
 }

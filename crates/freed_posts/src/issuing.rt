@@ -1,7 +1,7 @@
-//! How a new shelf's tickets are issued.
-ghost use Rattle.std.specs.Prelude.{◌≡◌, ◌+◌, ◌<◌, [], suc, IfOk};
-ghost use Rattle.freed_posts.specs.Shelves.{AreFirst, new_ticket};
-ghost use Rattle.freed_posts.specs.Knowing.{unissued};
+//! How tickets are issued.
+ghost use Rattle.std.specs.Prelude.{◌≡◌, ◌<◌, [], suc, IfOk};
+ghost use Rattle.freed_posts.specs.Shelves.{AreFirst};
+ghost use Rattle.freed_posts.specs.Knowing.{IsNext, unissued, rest_unissued, ticket_for};
 ghost use Rattle.freed_posts.specs.Rule.{IsShelfTable};
 
 use crate::rule::{First, Issue, Places, Seat};
@@ -29,15 +29,15 @@ pub(crate) fn issue_all(
     Ok(tickets)
 }
 
-/// Issues the ticket for the post with this place, the first that has none.
-fn issue(places: &Places, seat: &mut Seat, place: usize) -> Ticket
+/// Issues the ticket for the post with this place, which is the next to be issued.
+pub(crate) fn issue(places: &Places, seat: &mut Seat, place: usize) -> Ticket
     requires table { seat.old.table_id ≡ places.now.table_id }
     requires shelf { IsShelfTable places.now.key.key places.now.table_id }
     requires place { place < places.now.key.key.instances }
-    requires first { seat.old.me ≡ (unissued place places.now.key.key.instances [], []) }
-    ensures ticket { result ≡ new_ticket places.now.table_id (suc place) }
+    requires next { IsNext seat.old.me.0.right place }
+    ensures ticket { result ≡ ticket_for places.now.table_id (suc place) seat.old.me.0.seen }
     ensures table { seat.new.table_id ≡ seat.old.table_id }
-    ensures rest { seat.new.me ≡ (unissued (place + 1) places.now.key.key.instances [], []) }
+    ensures rest { seat.new.me ≡ (rest_unissued seat.old.me.0, seat.old.me.1) }
 {
     let mut chair = places.split_seat::<First>(seat);
     places.load::<Issue>(&mut chair, place);

@@ -11,6 +11,10 @@ pub enum Right {
     Unissued(usize, usize),
     /// This place, which is out with the seat.
     Issued(usize),
+    /// The first place, and the second one, which is out with the seat too: its post was taken.
+    Taking(usize, usize),
+    /// The first place, and the second one, which is at home and empty, for a new ticket.
+    Handing(usize, usize),
 }
 
 /// What a seat knows: which places are its own, and the changes that it has seen, the newest first.

@@ -1,13 +1,13 @@
 //! The rule of a shelf's table, and what its steps guarantee.
 ghost use Rattle.atomic_table.specs.Seated.{TableId};
 ghost use Rattle.board_table.specs.declared.shape.Shape.{Shape};
-ghost use Rattle.freed_posts.specs.Knowing.{unissued, witness, first_issued, rest_unissued, with_seen};
-ghost use Rattle.freed_posts.specs.Plays.{Issues, KeepsAt, TakesAt};
+ghost use Rattle.freed_posts.specs.Knowing.{unissued, first_issued, rest_unissued};
+ghost use Rattle.freed_posts.specs.Plays.{Issues, KeepsAt, TakesAt, Hands};
 ghost use Rattle.freed_posts.specs.Rule.{IsShelf, no_table};
 ghost use Rattle.std.specs.Prelude.{[], ◌==◌};
 
 use crate::knowledge::Knowledge;
-use atomic_table::{Join, Play, Split, Table, TableRule};
+use atomic_table::{Play, Split, Table, TableRule};
 use board::{Parked, SharedTable};
 use std::alloc::Global;
 use std::marker::{Brand, PhantomData};
@@ -44,7 +44,7 @@ impl Site for Brand {
     ghost board = { no_table };
 }
 
-/// Splits off a seat for the first place that isn't issued yet.
+/// Splits off a seat for the next place that is to be issued.
 pub(crate) struct First;
 
 impl Split<Knowledge> for First {
@@ -53,7 +53,7 @@ impl Split<Knowledge> for First {
     ghost right = { first_issued };
 }
 
-/// Takes the place of a new ticket out.
+/// Takes the place of a ticket out.
 pub(crate) struct Issue;
 
 impl Play<Option<Parked>, Knowledge> for Issue {
@@ -74,20 +74,9 @@ impl<A: Site> Play<Option<Parked>, Knowledge> for Take<A> {
     ghost then = { λ step m found w. TakesAt A.key A.board step.word m (found == 1) w };
 }
 
-/// Splits off a seat that has no place, and knows the same.
-pub(crate) struct Copied;
+/// Gives the empty place of a taken post back, for a new ticket.
+pub(crate) struct Hand;
 
-impl Split<Knowledge> for Copied {
-    ghost left = { λ view. view };
-
-    ghost right = { λ view. witness view.seen };
-}
-
-/// A seat comes to know what the other has seen.
-pub(crate) struct Learned;
-
-impl Join<Knowledge> for Learned {
-    ghost both = { λ view other. with_seen other.seen view };
-
-    ghost spent = { witness [] };
+impl Play<Option<Parked>, Knowledge> for Hand {
+    ghost then = { λ step m found w. Hands step.word m w };
 }

@@ -2,8 +2,8 @@
 ghost use Rattle.std.specs.Prelude.{◌≡◌, ◌≤◌, IfOk};
 ghost use Rattle.freed_posts.specs.Shelves.{IsNewShelf, IsTicketOf, Keeps, Takes};
 
-use crate::issuing::issue_all;
-use crate::rule::{Copied, Keep, Learned, ShelfTable};
+use crate::issuing::{issue, issue_all};
+use crate::rule::{Hand, Keep, ShelfTable};
 use crate::taking::take_out;
 use crate::ticket::{Receipt, Ticket};
 use board::{Parked, SharedTable};
@@ -75,18 +75,16 @@ impl Shelf {
     }
 
     /// Takes the post with this number from the shelf, and its ticket, or finds that it isn't there. The call takes no
-    /// memory. `ticket` may be that of any other post.
+    /// memory. `ticket` may be that of any post.
     pub fn take(&self, ticket: &mut Ticket, number: InstanceNo) -> Option<(Ticket, Parked)>
         requires shelf { ticket.old.shelf ≡ self.now.table }
         requires number { number ≤ self.now.key.instances }
         ensures { Takes self.now ticket.old number result ticket.new }
     {
         let places = &self.table.shared;
-        let mut chair = places.split_seat::<Copied>(&mut ticket.seat);
-        let found = take_out::<Brand>(places, &mut chair, number.place());
-        let note = places.split_seat::<Copied>(&mut chair);
-        places.join_seat::<Learned>(&mut ticket.seat, note);
-        let post = found?;
-        Some((Ticket { seat: chair }, post))
+        let place = number.place();
+        let post = take_out::<Brand>(places, &mut ticket.seat, place)?;
+        places.load::<Hand>(&mut ticket.seat, place);
+        Some((issue(places, &mut ticket.seat, place), post))
     }
 }

@@ -1,26 +1,28 @@
-use Rattle.std.proofs.Common.{◌≡◌, ℕ, suc, ◌<◌, ◌==◌, List, [], ◌∷◌, refl, sym, ap, ◌∙◌, subst, arith}
-use Rattle.std.specs.Prelude.{Some, true, false}
+use Rattle.std.proofs.Common.{◌≡◌, ℕ, ◌==◌, [], ◌∷◌, sym, ◌∙◌, subst, arith}
+use Rattle.std.specs.Prelude.{Some, None, true}
 use Rattle.std.proofs.lemmas.Bool.{eq-eqb, ne_eqb}
 use Rattle.atomic_table.specs.Seated.{TableId}
 use Rattle.atomic_table.specs.Table.{Allows}
 use Rattle.board_table.specs.declared.shape.Shape.{Shape}
-use Rattle.freed_posts.specs.Knowing.{Mine, witness}
+use Rattle.freed_posts.specs.Knowing.{Mine, issued, place_of}
 use Rattle.freed_posts.specs.Plays.{TakesAt}
 use Rattle.freed_posts.specs.Rule.{IsShelf}
 use Rattle.freed_posts.proofs.Steps.{takes_post}
-use Rattle.freed_posts.proofs.Takings.{out_first, content_is, emptied}
+use Rattle.freed_posts.proofs.Takings.{out_first, emptied}
 use Rattle.freed_posts.proofs.taking.take_out.Goals as goal
 
 pub swap-requires : goal.swap-requires
 swap-requires g c =
-    let board = c.args.places.now.key in let place = c.args.place in let slots = c.args.places.now.table_id.slots in let id = c.args.seat.now.id in let seen = c.args.seat.now.me.0.seen in
-    let allows : Shape → TableId → Mine → Type 0 = λ k b m. Allows (IsShelf board.key board.table_id) slots id m place (λ x. 0) (λ x w. TakesAt k b place m (x == 1) w) in (
+    let board = c.args.places.now.key in let place = c.args.place in let slots = c.args.places.now.table_id.slots in let id = c.args.seat.now.id in
+    let view = c.args.seat.now.me.0 in let mine = place_of view.right in
+    let allows : Shape → TableId → Mine → Type 0 = λ k b m. Allows (IsShelf board.key board.table_id) slots id m place (λ x. 0) (λ x w. TakesAt k b place m (x == 1) w) in
+    let ticket : Mine = (issued mine view.seen, (mine, None) ∷ []) in (
       c.requires.table,
       omega (arith, c.requires.shelf.words, c.requires.place),
-      subst (allows g.A.Site.key g.A.Site.board) (sym c.requires.bare)
-          (subst (λ k. allows k g.A.Site.board (witness seen, [])) c.requires.site.0
-          (subst (λ b. allows board.key b (witness seen, [])) c.requires.site.1
-          (takes_post board.key board.table_id slots id place seen c.requires.place))),
+      subst (allows g.A.Site.key g.A.Site.board) (sym c.requires.ticket.is)
+          (subst (λ k. allows k g.A.Site.board ticket) c.requires.site.0
+          (subst (λ b. allows board.key b ticket) c.requires.site.1
+          (takes_post board.key board.table_id slots id mine place view.seen c.requires.place))),
     )
 
 pub returns-then-swap-ne1-clause-none : goal.returns-then-swap-ne1-clause-none
@@ -29,7 +31,7 @@ returns-then-swap-ne1-clause-none g c = subst (λ b. TakesAt g.A.Site.key g.A.Si
 pub exchange-requires : goal.exchange-requires
 exchange-requires g c =
     let found : TakesAt g.A.Site.key g.A.Site.board c.args.place c.args.seat.now.me true c.swap.new.seat.me = subst (λ b. TakesAt g.A.Site.key g.A.Site.board c.args.place c.args.seat.now.me b c.swap.new.seat.me) (eq-eqb c.swap.result 1 c.if-swap-ne1.false) c.swap.ensures.2 in
-    (c.swap.ensures.0 ∙ c.requires.table, (Some found.0, out_first c.swap.new.seat.me _ c.args.place (Some found.0) found.1.2))
+    (c.swap.ensures.0 ∙ c.requires.table, (Some found.0, out_first c.swap.new.seat.me _ c.args.place (Some found.0) _ found.1.2))
 
 pub returns-clause-took : goal.returns-clause-took
 returns-clause-took g c =

@@ -4,7 +4,7 @@ use Rattle.atomic_table.specs.Seated.{TableId}
 use Rattle.atomic_table.specs.Table.{Allows}
 use Rattle.board.specs.Parked.{IsAtBoard}
 use Rattle.freed_posts.specs.declared.change.Change.{Change}
-use Rattle.freed_posts.specs.Shelves.{ShelfView, TicketView, Keeps, GoOn, lying, IsTicketOf}
+use Rattle.freed_posts.specs.Shelves.{ShelfView, TicketView, AreOthers, lying}
 use Rattle.freed_posts.specs.Knowing.{Mine, issued, place_of, ticket_of, IsTicket}
 use Rattle.freed_posts.specs.Plays.{KeepsAt}
 use Rattle.freed_posts.specs.Rule.{IsShelf}
@@ -24,7 +24,7 @@ store-requires c =
       within,
       subst (λ (m : Mine). Allows (IsShelf shelf.key.key shelf.key.table_id) shelf.table_id.slots c.exchange.new.seat.id m place (λ x. 1) (λ x w. KeepsAt place m w))
           (sym (filled me c.exchange.new.seat.me (place_of me.0.right) place me.0.seen (Some c.args.post) c.ticket.invariant.is mine c.exchange.ensures.3))
-          (keeps_post shelf.key.key shelf.key.table_id shelf.table_id.slots c.exchange.new.seat.id place me.0.seen c.args.post (omega (arith, within, c.self.invariant.words)) (subst (λ (s : ShelfView). IsAtBoard s.key s.board c.args.post) (sym c.self.view_is) c.requires.at) number),
+          (keeps_post shelf.key.key shelf.key.table_id shelf.table_id.slots c.exchange.new.seat.id place me.0.seen c.args.post (subst (λ (s : ShelfView). IsAtBoard s.key s.board c.args.post) (sym c.self.view_is) c.requires.at) number),
     )
 
 pub returns : goal.returns
@@ -40,7 +40,7 @@ returns c =
     record {
       shelf_is = c.store.ensures.0 ∙ c.exchange.ensures.0 ∙ ap (λ (t : TicketView). t.shelf) c.ticket.view_is;
       before = kept.before;
-      later = subst (λ (t : TicketView). GoOn t.seen kept.before) c.ticket.view_is kept.later;
+      others = subst (λ (t : TicketView). AreOthers t.number t.seen kept.before) c.ticket.view_is (subst (λ (p : ℕ). AreOthers (suc p) me.0.seen kept.before) (sym mine) kept.others);
       vacant = ap (lying kept.before) number ∙ kept.vacant;
       seen = ap (λ (m : Mine). m.0.seen) kept.is;
     }
