@@ -1,5 +1,5 @@
 -- Places and seats that a step leaves as they are.
-use Rattle.std.proofs.Common.{◌≡◌, ◌≢◌, ℕ, zero, suc, ◌+◌, ◌<◌, ◌≤◌, ◌⊎◌, inl, inr, ⊎_elim, List, [], ◌∷◌, ◌++◌, length, set, refl, sym, ap, ◌∙◌, subst, arith, length-set}
+use Rattle.std.proofs.Common.{◌≡◌, ◌≢◌, ℕ, zero, suc, ◌+◌, inr, ⊎_elim, List, [], ◌∷◌, ◌++◌, length, set, refl, sym, ◌∙◌, subst, arith, length-set}
 use Rattle.std.specs.Prelude.{Option, Some, None, slice_index}
 use mathlib.Core.Option.{some, some-injective, some-ne-none}
 use lib.ListN.{get_elem?}
@@ -14,7 +14,7 @@ use Rattle.freed_posts.specs.declared.knowledge.Right.TheVariants.{Nothing, Unis
 use Rattle.freed_posts.specs.declared.knowledge.Knowledge.{Knowledge}
 use Rattle.freed_posts.specs.Shelves.{lying, made_with, GoOn}
 use Rattle.freed_posts.specs.Knowing.{knowledge}
-use Rattle.freed_posts.specs.Rule.{Homes, IsPlace, Lies, HasPlace, AreVacant, IsOwned, Fits}
+use Rattle.freed_posts.specs.Rule.{Homes, IsPlace, HasPlace, AreVacant, IsOwned, Fits}
 use Rattle.freed_posts.proofs.Changes.{go_on_from}
 
 -- a place that keeps its word, and what is at home in it

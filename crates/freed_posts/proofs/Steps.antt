@@ -1,5 +1,5 @@
 -- The rule of a shelf, after each kind of step.
-use Rattle.std.proofs.Common.{◌≡◌, ◌≢◌, ℕ, zero, suc, ◌+◌, ◌<◌, ◌≤◌, ◌==◌, ⊎_elim, inl, inr, cond, List, [], ◌∷◌, ◌++◌, length, map, set, get_or, get_or-set_same, get_or-set_other, refl, sym, ap, ◌∙◌, subst, arith, length-set}
+use Rattle.std.proofs.Common.{◌≡◌, ◌≢◌, ℕ, zero, suc, ◌+◌, ◌<◌, ◌==◌, ⊎_elim, inl, inr, cond, List, [], ◌∷◌, length, map, set, get_or-set_same, get_or-set_other, refl, sym, ap, ◌∙◌, subst, arith, length-set}
 use Rattle.std.specs.Prelude.{Option, Some, None, replicate, slice_index}
 use Rattle.std.proofs.lemmas.List.{set-get_or, length-map, length-replicate, get_or-replicate}
 use Rattle.std.proofs.lemmas.Bool.{eq-eqb, ne_eqb}
@@ -17,8 +17,8 @@ use Rattle.freed_posts.specs.declared.change.Change.TheVariants.{Kept, Taken}
 use Rattle.freed_posts.specs.declared.knowledge.Right.{Right}
 use Rattle.freed_posts.specs.declared.knowledge.Right.TheVariants.{Nothing, Unissued, Issued, Taking, Handing}
 use Rattle.freed_posts.specs.declared.knowledge.Knowledge.{Knowledge}
-use Rattle.freed_posts.specs.Shelves.{lying, GoOn, AreOthers}
-use Rattle.freed_posts.specs.Knowing.{Mine, knowledge, unissued, issued, next_place, other_places, IsNext}
+use Rattle.freed_posts.specs.Shelves.{lying, AreOthers}
+use Rattle.freed_posts.specs.Knowing.{knowledge, unissued, issued, next_place, other_places, IsNext}
 use Rattle.freed_posts.specs.Rule.{Homes, IsPlace, Lies, HasPlace, AreVacant, IsOwned, Fits, IsShelf}
 use Rattle.freed_posts.specs.Plays.{Issues, Hands, KeepsAt, TakesAt, taken_with}
 use Rattle.freed_posts.proofs.Changes.{go_on_same, go_on_one, kept_here, kept_other, taken_here, taken_other, made_other, not_both}
@@ -140,12 +140,12 @@ module _ (key : Shape) (board : TableId) where
   -- a ticket's place goes out with its seat
   pub issues : (slots id place : ℕ) (seen : List Change) → Allows (IsShelf key board) slots id (unissued place (place + 1) seen, []) place (λ x. x) (λ found w. Issues place (unissued place (place + 1) seen, []) w)
   issues slots id place seen s r size at bound = (
-      issued place seen,
-      takes place None,
-      mine.vacant place (omega arith) (omega arith),
-      subst (λ ws. IsShelf key board record { words = ws; homes = homes; views = set s.views id (issued place seen) }) (sym (set-get_or s.words place 0)) kept,
-      refl,
-    )
+    issued place seen,
+    takes place None,
+    mine.vacant place (omega arith) (omega arith),
+    subst (λ ws. IsShelf key board record { words = ws; homes = homes; views = set s.views id (issued place seen) }) (sym (set-get_or s.words place 0)) kept,
+    refl,
+  )
     where
       homes : Homes
       homes = set s.homes place none
@@ -175,12 +175,12 @@ module _ (key : Shape) (board : TableId) where
   -- the empty place of a taken post comes home
   pub hands : (slots id mine place : ℕ) (seen : List Change) (out : List (ℕ × Option PostView)) → Allows (IsShelf key board) slots id (knowledge (Taking mine place) seen, (place, None) ∷ out) place (λ x. x) (λ found w. Hands place (knowledge (Taking mine place) seen, (place, None) ∷ out) w)
   hands slots id mine place seen out s r size at bound = (
-      knowledge (Handing mine place) seen,
-      gives,
-      tt,
-      subst (λ ws. IsShelf key board record { words = ws; homes = homes; views = set s.views id (knowledge (Handing mine place) seen) }) (sym (set-get_or s.words place 0)) kept,
-      refl,
-    )
+    knowledge (Handing mine place) seen,
+    gives,
+    tt,
+    subst (λ ws. IsShelf key board record { words = ws; homes = homes; views = set s.views id (knowledge (Handing mine place) seen) }) (sym (set-get_or s.words place 0)) kept,
+    refl,
+  )
     where
       homes : Homes
       homes = set s.homes place (some None)
@@ -210,12 +210,12 @@ module _ (key : Shape) (board : TableId) where
   -- a post is kept
   pub keeps_post : (slots id place : ℕ) (seen : List Change) (post : PostView) → IsAtBoard key board post → post.number ≡ suc place → Allows (IsShelf key board) slots id (issued place seen, (place, Some post) ∷ []) place (λ x. 1) (λ found w. KeepsAt place (issued place seen, (place, Some post) ∷ []) w)
   keeps_post slots id place seen post at_board number s r size at bound = (
-      knowledge Nothing log,
-      gives,
-      tt,
-      kept,
-      record { before = r.log; others = record { later = mine.seen; made = its_own.made }; vacant = its_own.away; is = refl },
-    )
+    knowledge Nothing log,
+    gives,
+    tt,
+    kept,
+    record { before = r.log; others = record { later = mine.seen; made = its_own.made }; vacant = its_own.away; is = refl },
+  )
     where
       log : List Change
       log = Kept post ∷ r.log
@@ -286,12 +286,12 @@ module _ (key : Shape) (board : TableId) where
 
       absent : lying r.log (suc place) ≡ None → Takings s id mine place seen
       absent is = (
-          issued mine r.log,
-          keeps,
-          tt,
-          subst (λ ws. IsShelf key board record { words = ws; homes = s.homes; views = set s.views id (issued mine r.log) }) (sym words_same) kept,
-          subst (λ x. TakesAt key board place (issued mine seen, (mine, None) ∷ []) (x == 1) (issued mine r.log, (mine, None) ∷ [])) (sym word) (record { others = others; none = is; is = refl }),
-        )
+        issued mine r.log,
+        keeps,
+        tt,
+        subst (λ ws. IsShelf key board record { words = ws; homes = s.homes; views = set s.views id (issued mine r.log) }) (sym words_same) kept,
+        subst (λ x. TakesAt key board place (issued mine seen, (mine, None) ∷ []) (x == 1) (issued mine r.log, (mine, None) ∷ [])) (sym word) (record { others = others; none = is; is = refl }),
+      )
         where
           word : slice_index s.words place ≡ 0
           word = subst (IsPlace key board place s.words s.homes) is (r.places place within)
@@ -316,13 +316,13 @@ module _ (key : Shape) (board : TableId) where
 
       present : (post : PostView) → lying r.log (suc place) ≡ Some post → Takings s id mine place seen
       present post is = (
-          knowledge (Taking mine place) log,
-          takes place (Some post),
-          there.home,
-          kept,
-          subst (λ x. TakesAt key board place (issued mine seen, (mine, None) ∷ []) (x == 1) (taken_with (Some post) place mine r.log)) (sym there.word)
-          (post, (r.log, record { others = others; lay = is; at = there.at; number = there.number; apart = apart }, refl)),
-        )
+        knowledge (Taking mine place) log,
+        takes place (Some post),
+        there.home,
+        kept,
+        subst (λ x. TakesAt key board place (issued mine seen, (mine, None) ∷ []) (x == 1) (taken_with (Some post) place mine r.log)) (sym there.word)
+            (post, (r.log, record { others = others; lay = is; at = there.at; number = there.number; apart = apart }, refl)),
+      )
         where
           there : Lies key board place s.words s.homes post
           there = subst (IsPlace key board place s.words s.homes) is (r.places place within)

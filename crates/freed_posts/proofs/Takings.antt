@@ -1,17 +1,13 @@
 -- Posts that are taken: out of their places, and with their tickets.
-use Rattle.std.proofs.Common.{◌≡◌, ◌≢◌, ℕ, suc, ◌<◌, List, [], ◌∷◌, refl, sym, ap, ap₂, ◌∙◌, subst, subst₂, arith}
+use Rattle.std.proofs.Common.{◌≡◌, ℕ, List, [], ◌∷◌, refl, sym, ap, ◌∙◌, subst}
 use Rattle.std.specs.Prelude.{Option, Some, None, true}
 use Rattle.atomic_table.specs.Seated.{TableId}
 use Rattle.atomic_table.specs.Table.{rest}
 use Rattle.board_table.specs.declared.shape.Shape.{Shape}
 use Rattle.board.specs.Views.{PostView}
-use Rattle.freed_posts.specs.declared.change.Change.{Change}
-use Rattle.freed_posts.specs.declared.change.Change.TheVariants.{Kept, Taken}
-use Rattle.freed_posts.specs.declared.knowledge.Right.TheVariants.{Handing}
 use Rattle.freed_posts.specs.declared.knowledge.Knowledge.{Knowledge}
-use Rattle.freed_posts.specs.Shelves.{ShelfView, TicketView, AreOthers, IsSameTicket, FindsNone, TakesPost, lying}
-use Rattle.freed_posts.specs.Knowing.{Mine, knowledge, issued, rest_unissued, place_of, ticket_for, ticket_of}
-use Rattle.freed_posts.specs.Plays.{TakesAt, TakesOut, FindsNothing, Hands, taken_with}
+use Rattle.freed_posts.specs.Knowing.{Mine}
+use Rattle.freed_posts.specs.Plays.{TakesAt, TakesOut}
 
 -- the slot that is out first
 pub out_first : (w : Mine) (view : Knowledge) (place : ℕ) (content : Option PostView) (more : List (ℕ × Option PostView)) → ◌≡◌ {A = Mine} w (view, (place, content) ∷ more) → w.1 ≡ (place, content) ∷ rest w.1

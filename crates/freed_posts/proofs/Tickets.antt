@@ -1,5 +1,5 @@
 -- Tickets that are issued one after another, and the tickets of seats.
-use Rattle.std.proofs.Common.{◌≡◌, ℕ, suc, ◌+◌, ◌<◌, List, [], ◌∷◌, ◌++◌, refl, sym, ap, ◌∙◌, subst, arith}
+use Rattle.std.proofs.Common.{◌≡◌, ℕ, suc, ◌<◌, List, [], ◌∷◌, ◌++◌, refl, sym, ap, ◌∙◌, subst, arith}
 use Rattle.std.proofs.lemmas.List.{length_push}
 use Rattle.std.specs.Prelude.{Option, Some, None}
 use Rattle.atomic_table.specs.Seated.{TableId}
@@ -8,7 +8,7 @@ use Rattle.board.specs.Views.{PostView}
 use Rattle.chart.proofs.Places.{each-push}
 use Rattle.freed_posts.specs.declared.change.Change.{Change}
 use Rattle.freed_posts.specs.Shelves.{TicketView, AreFirst, new_ticket}
-use Rattle.freed_posts.specs.Knowing.{Mine, issued, ticket_of, IsTicket}
+use Rattle.freed_posts.specs.Knowing.{Mine, issued, IsTicket}
 
 pub first_none : (table : TableId) → AreFirst 0 table []
 first_none table = record { as_many = refl; each = λ i x at. absurd (none_there x at) }

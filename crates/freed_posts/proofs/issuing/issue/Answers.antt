@@ -1,9 +1,9 @@
-use Rattle.std.proofs.Common.{◌≡◌, ℕ, suc, ◌+◌, ◌<◌, [], ◌∷◌, sym, ap, ap₂, ◌∙◌, subst, arith}
+use Rattle.std.proofs.Common.{◌≡◌, ℕ, ◌+◌, ◌<◌, [], ◌∷◌, sym, ap, ap₂, ◌∙◌, subst, arith}
 use Rattle.std.specs.Prelude.{None}
 use Rattle.atomic_table.specs.Seated.{TableId}
 use Rattle.atomic_table.specs.Table.{Allows}
 use Rattle.freed_posts.specs.declared.knowledge.Right.{Right}
-use Rattle.freed_posts.specs.Knowing.{Mine, knowledge, unissued, issued, next_place, first_issued, IsNext, ticket_of}
+use Rattle.freed_posts.specs.Knowing.{Mine, knowledge, unissued, issued, first_issued, IsNext, ticket_of}
 use Rattle.freed_posts.specs.Plays.{Issues}
 use Rattle.freed_posts.specs.Rule.{IsShelf}
 use Rattle.freed_posts.proofs.Steps.{splits, next_is, issues}

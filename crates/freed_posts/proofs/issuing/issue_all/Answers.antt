@@ -1,4 +1,4 @@
-use Rattle.std.proofs.Common.{◌≡◌, ◌+◌, ℕ, suc, List, [], refl, sym, ap, ◌∙◌, subst, arith}
+use Rattle.std.proofs.Common.{◌≡◌, ◌+◌, ℕ, suc, List, refl, sym, ap, ◌∙◌, subst, arith}
 use Rattle.freed_posts.specs.Shelves.{TicketView, AreFirst}
 use Rattle.freed_posts.specs.Knowing.{Mine, IsNext, ticket_for, rest_unissued}
 use Rattle.freed_posts.proofs.Tickets.{first_none, first_next}

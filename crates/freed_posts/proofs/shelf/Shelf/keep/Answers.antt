@@ -1,11 +1,10 @@
-use Rattle.std.proofs.Common.{◌≡◌, ℕ, suc, ◌<◌, List, [], ◌∷◌, refl, sym, ap, ◌∙◌, subst, arith}
-use Rattle.std.specs.Prelude.{None, Some}
+use Rattle.std.proofs.Common.{◌≡◌, ℕ, suc, ◌<◌, [], ◌∷◌, sym, ap, ◌∙◌, subst, arith}
+use Rattle.std.specs.Prelude.{Some}
 use Rattle.atomic_table.specs.Seated.{TableId}
 use Rattle.atomic_table.specs.Table.{Allows}
 use Rattle.board.specs.Parked.{IsAtBoard}
-use Rattle.freed_posts.specs.declared.change.Change.{Change}
 use Rattle.freed_posts.specs.Shelves.{ShelfView, TicketView, AreOthers, lying}
-use Rattle.freed_posts.specs.Knowing.{Mine, issued, place_of, ticket_of, IsTicket}
+use Rattle.freed_posts.specs.Knowing.{Mine, issued, place_of}
 use Rattle.freed_posts.specs.Plays.{KeepsAt}
 use Rattle.freed_posts.specs.Rule.{IsShelf}
 use Rattle.freed_posts.proofs.Steps.{keeps_post}
@@ -34,9 +33,9 @@ returns c =
     let number : post.number ≡ suc place = sym c.number.ensures ∙ c.place-place.ensures.value in
     let mine : place_of me.0.right ≡ place = omega (arith, ticket_number, c.requires.number_is, number) in
     let kept : KeepsAt place (issued place me.0.seen, (place, Some post) ∷ []) c.store.new.seat.me =
-        subst (λ (m : Mine). KeepsAt place m c.store.new.seat.me)
-        (filled me c.exchange.new.seat.me (place_of me.0.right) place me.0.seen (Some post) c.ticket.invariant.is mine c.exchange.ensures.3)
-        c.store.ensures.2 in
+    subst (λ (m : Mine). KeepsAt place m c.store.new.seat.me)
+    (filled me c.exchange.new.seat.me (place_of me.0.right) place me.0.seen (Some post) c.ticket.invariant.is mine c.exchange.ensures.3)
+    c.store.ensures.2 in
     record {
       shelf_is = c.store.ensures.0 ∙ c.exchange.ensures.0 ∙ ap (λ (t : TicketView). t.shelf) c.ticket.view_is;
       before = kept.before;

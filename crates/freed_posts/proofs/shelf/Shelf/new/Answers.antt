@@ -10,5 +10,5 @@ pub vacant-requires : goal.vacant-requires
 vacant-requires c =
     let key = c.args.board.now.key in let board = c.args.board.now.table_id in let first = unissued 0 key.instances [] in
     subst (λ words. IsShelf key board (opening words (replicate c.args.instances None) first))
-        (sym (c.as_slice.ensures.value ∙ c.in_ok-words.ensures.items_if_clones_equal (λ y same. same)))
-        (subst (λ n. IsShelf key board (opening (replicate n 0) (replicate n None) first)) (sym c.requires) (opens key board))
+    (sym (c.as_slice.ensures.value ∙ c.in_ok-words.ensures.items_if_clones_equal (λ y same. same)))
+    (subst (λ n. IsShelf key board (opening (replicate n 0) (replicate n None) first)) (sym c.requires) (opens key board))
