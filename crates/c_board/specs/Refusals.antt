@@ -12,8 +12,26 @@ use Rattle.board.specs.declared.error.CloseError.{CloseError}
 use Rattle.board.specs.declared.error.CloseError.TheVariants as closing
 use Rattle.board.specs.declared.error.RegionError.{RegionError}
 use Rattle.board.specs.declared.error.RegionError.TheVariants as region
+use Rattle.c_board.specs.declared.misuse.Misuse.{Misuse}
+use Rattle.c_board.specs.declared.misuse.Misuse.TheVariants.{NoPost, NoBoard, InUse, WrongNumber, OtherBoard, NoMessage}
+use Rattle.c_board.specs.declared.misuse.Numbering.{Numbering}
+use Rattle.c_board.specs.declared.misuse.Numbering.TheVariants.{Alike, ByCause}
 use Rattle.c_board.specs.declared.refusal.Refusal.{Refusal}
 use Rattle.c_board.specs.declared.refusal.Refusal.TheVariants as why
+
+-- a misuse by its cause: 101 for what is empty or was freed, 103 for what is in use, 104 for a wrong number, 105 for
+-- posts of two boards, and 100 for what has no cause of its own
+abbrev pub of_cause : Misuse → ℕ
+of_cause NoPost = 101
+of_cause NoBoard = 101
+of_cause InUse = 103
+of_cause WrongNumber = 104
+of_cause OtherBoard = 105
+of_cause NoMessage = 100
+
+abbrev pub of_misuse : Numbering → Misuse → ℕ
+of_misuse Alike _ = 100
+of_misuse ByCause it = of_cause it
 
 abbrev pub of_name : NameError → ℕ
 of_name naming.Empty = 1
