@@ -7,6 +7,7 @@ pub mod Closing
 pub mod Copying
 pub mod EventInfos
 pub mod Gathering
+pub mod KeptBoards
 pub mod Meeting
 pub mod Opening
 pub mod PostStates
@@ -17,4 +18,5 @@ pub mod Regions
 pub mod Reserving
 pub mod Sending
 pub mod SendingAll
+pub mod Wholes
 pub mod Words

@@ -3,7 +3,7 @@ ghost use Rattle.std.specs.Prelude.{◌≡◌, IfOk};
 ghost use Rattle.c_board.specs.declared.kept.Kept.TheVariants as variant;
 
 use crate::post_state::PostState;
-use board::Gathered;
+use crate::whole_board::WholeBoard;
 use std::alloc::{AllocError, Global};
 
 /// What a handle keeps in its box.
@@ -12,7 +12,7 @@ pub enum Kept {
     /// The post of an instance.
     Post(PostState),
     /// The result of gathering a whole board.
-    Board(Gathered),
+    Board(WholeBoard),
     /// Nothing, while it is moved elsewhere.
     Away,
 }
