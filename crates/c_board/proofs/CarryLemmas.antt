@@ -19,17 +19,20 @@ use Rattle.board.specs.LongRuns.CarryingOver.{IsUntouched, MayAllCarry, CarriesO
 use Rattle.board.proofs.LongRunsLemmas.CarriedOver.{first_left}
 use Rattle.c_board.specs.Came.{came_list}
 use Rattle.c_board.specs.declared.chair.Chair.{Chair}
+use Rattle.c_board.specs.declared.chair.Taken.{Taken}
 use Rattle.c_board.specs.declared.kept.Kept.{Kept}
 use Rattle.c_board.specs.declared.kept.Kept.TheVariants.{Post, Board, Away}
 use Rattle.c_board.specs.declared.board_number.BoardNumber.{BoardNumber}
 use Rattle.c_board.specs.declared.carrying.CarryRefusal.{CarryRefusal}
 use Rattle.c_board.specs.declared.carrying.CarryRefusal.TheVariants as why
+use Rattle.c_board.specs.declared.carrying.FitError.{FitError}
+use Rattle.c_board.specs.declared.carrying.FitError.TheVariants as fitting
 use Rattle.c_board.specs.declared.carrying.Misfit.{Misfit}
 use Rattle.c_board.specs.declared.carrying.Misfit.TheVariants.{Size, Used}
 use Rattle.c_board.specs.declared.taking.TakingError.{TakingError}
 use Rattle.c_board.specs.declared.taking.TakingError.TheVariants as taking
 use Rattle.c_board.specs.Chairs.{Fits, AreFit, seats_with, kept_seats, posts_of, KeepPosts, HaveOneNumber, TakesPosts}
-use Rattle.c_board.specs.Carrying.{AreEach, IsOneNot, IsAsLarge, MayTakeOver, KeepAll, IsUncarried, AreSeats, HaveRoomOver, Carries, CarriesParked, ChecksFit, IsUnborne, refusal_of_taking, refusal_of_misfit, refusal_of_cause}
+use Rattle.c_board.specs.Carrying.{AreEach, IsOneNot, IsAsLarge, MayTakeOver, KeepAll, IsUncarried, AreSeats, HaveRoomOver, Carries, CarriesParked, ChecksFit, TakesFit, IsUnborne, refusal_of_fit, refusal_of_cause}
 use Rattle.c_board.specs.Copying.{put_over}
 use Rattle.c_board.specs.PostStates.{PostStateView}
 use Rattle.c_board.specs.Wholes.{WholeView}
@@ -125,9 +128,9 @@ none_each : (P : PostView → Type 0) → AreEach P []
 none_each P i post at = absurd (none_there post at)
 
 -- the posts weren't taken out
-untaken : (it : WholeView) (old : List (Option Kept)) (room : List ℕ) (error : TakingError) (new : List (Option Kept)) → TakesPosts old (Err error) new
-    → Carries (Some (Board it)) old room (Err (refusal_of_taking error)) (Some (Board it)) new room
-untaken it old room taking.NoHandles new its = (
+untaken : (it : WholeView) (old : List (Option Kept)) (room : List ℕ) (error : FitError) (new : List (Option Kept)) → TakesFit (length it.gathered.chart) it.capacity old (Err error) new
+    → Carries (Some (Board it)) old room (Err (refusal_of_fit error)) (Some (Board it)) new room
+untaken it old room (fitting.NotTaken taking.NoHandles) new its = (
   it,
   left_alone it room,
   its.0,
@@ -136,35 +139,25 @@ untaken it old room taking.NoHandles new its = (
   record { large = none_each (IsAsLarge (length it.gathered.chart) it.capacity); untouched = none_each IsUntouched },
   tt,
 )
-untaken it old room taking.NoPost new its = (it, left_alone it room, its.0, its.1)
-untaken it old room taking.Memory new its = (it, left_alone it room, no_lists old new its.0 its.1.0)
-untaken it old room taking.OtherBoard new its = (it, left_alone it room, its.0, its.1.0, its.1.1)
+untaken it old room (fitting.NotTaken taking.NoPost) new its = (it, left_alone it room, its.0, its.1)
+untaken it old room (fitting.NotTaken taking.Memory) new its = (it, left_alone it room, no_lists old new its.0 its.1.0)
+untaken it old room (fitting.NotTaken taking.OtherBoard) new its = (it, left_alone it room, its.0, its.1.0, its.1.1)
+untaken it old room (fitting.Misfit Size) new its = (it, left_alone it room, its.0, its.1, its.2, its.3)
+untaken it old room (fitting.Misfit Used) new its = (it, left_alone it room, its.0, its.1, its.2, its.3.0, its.3.1)
 
-pub carry_refused : (it : WholeView) (old : List (Option Kept)) (room : List ℕ) (result : Result ℕ CarryRefusal) (error : TakingError) (new : List (Option Kept)) → IsErrAnd result (λ e. e ≡ refusal_of_taking error) → TakesPosts old (Err error) new
-    → Carries (Some (Board it)) old room result (Some (Board it)) new room
+pub carry_refused : (it : WholeView) (old : List (Option Kept)) (room : List ℕ) (result : Result ℕ CarryRefusal) (error : FitError) (new : List (Option Kept)) → IsErrAnd result (λ e. e ≡ refusal_of_fit error)
+    → TakesFit (length it.gathered.chart) it.capacity old (Err error) new → Carries (Some (Board it)) old room result (Some (Board it)) new room
 carry_refused it old room (Ok many) error new never its = absurd never
 carry_refused it old room (Err e) error new same its = subst (λ (x : CarryRefusal). Carries (Some (Board it)) old room (Err x) (Some (Board it)) new room) (sym same) (untaken it old room error new its)
 
+pub fit_refused : (n k : ℕ) (old : List (Option Kept)) (result : Result Taken FitError) (error : TakingError) (new : List (Option Kept)) → IsErrAnd result (λ e. e ≡ fitting.NotTaken error) → TakesPosts old (Err error) new → TakesFit n k old result new
+fit_refused n k old (Ok it) error new never its = absurd never
+fit_refused n k old (Err e) error new same its = subst (λ (x : FitError). TakesFit n k old (Err x) new) (sym same) its
+
 -- the posts can't take it over
-pub unfit : (misfit : Misfit) (it : WholeView) (chairs : List Chair) (posts : List PostView) (old new : List (Option Kept)) (room : List ℕ) → AreFit chairs posts → old ≡ kept_seats (seats_with chairs posts) → HaveOneNumber old
-    → ChecksFit (length it.gathered.chart) it.capacity posts (Err misfit) → new ≡ kept_seats (seats_with chairs posts) → Carries (Some (Board it)) old room (Err (refusal_of_misfit misfit)) (Some (Board it)) new room
-unfit Size it chairs posts old new room fit kept one its put = (
-  it,
-  left_alone it room,
-  put ∙ sym kept,
-  seats_with chairs posts,
-  record { kept = kept; one = one },
-  subst (λ (ps : List PostView). IsOneNot (IsAsLarge (length it.gathered.chart) it.capacity) ps) (sym (posts-same chairs posts fit)) its,
-)
-unfit Used it chairs posts old new room fit kept one its put = (
-  it,
-  left_alone it room,
-  put ∙ sym kept,
-  seats_with chairs posts,
-  record { kept = kept; one = one },
-  subst (λ (ps : List PostView). AreEach (IsAsLarge (length it.gathered.chart) it.capacity) ps) (sym (posts-same chairs posts fit)) its.0,
-  subst (λ (ps : List PostView). IsOneNot IsUntouched ps) (sym (posts-same chairs posts fit)) its.1,
-)
+pub unfit : (n k : ℕ) (misfit : Misfit) (chairs : List Chair) (posts : List PostView) (old new : List (Option Kept)) → AreFit chairs posts → old ≡ kept_seats (seats_with chairs posts) → HaveOneNumber old
+    → ChecksFit n k posts (Err misfit) → new ≡ kept_seats (seats_with chairs posts) → TakesFit n k old (Err (fitting.Misfit misfit)) new
+unfit n k misfit chairs posts old new fit kept one its put = (put ∙ sym kept, seats_with chairs posts, record { kept = kept; one = one }, subst (λ (ps : List PostView). ChecksFit n k ps (Err misfit)) (sym (posts-same chairs posts fit)) its)
 
 -- they can
 pub may_take : (it : WholeView) (chairs : List Chair) (posts : List PostView) → AreFit chairs posts → ChecksFit (length it.gathered.chart) it.capacity posts (Ok tt) → MayTakeOver it (posts_of (seats_with chairs posts))

@@ -15,9 +15,12 @@ use Rattle.c_board.specs.declared.kept.Kept.TheVariants.{Post}
 use Rattle.c_board.specs.declared.gathering.GatherRefusal.{GatherRefusal}
 use Rattle.c_board.specs.declared.taking.TakingError.{TakingError}
 use Rattle.c_board.specs.declared.taking.TakingError.TheVariants as taking
-use Rattle.c_board.specs.Chairs.{kept_seats, posts_of, HaveOneNumber, TakesPosts}
+use Rattle.c_board.specs.declared.chair.Chair.{Chair}
+use Rattle.c_board.specs.Chairs.{AreFit, seats_with, kept_seats, posts_of, HaveOneNumber, TakesPosts}
 use Rattle.c_board.specs.Gathering.{Gathers, IsUngathered, LackPosts, refusal_of_taking, refusal_of_cause}
 use Rattle.c_board.specs.PostStates.{PostStateView}
+use Rattle.c_board.proofs.Lists.{first_of}
+use Rattle.c_board.proofs.ChairLemmas.{length-seats, length-fit}
 
 -- no posts are of one board, and posts are missing
 pub none_one : (olds : List (Option Kept)) → olds ≡ [] → HaveOneNumber olds
@@ -47,9 +50,16 @@ pub back_again : (why_not : GatherCause) (olds news : List (Option Kept)) (board
 back_again cause.NotAllPosts olds news board seats posts kept of one its same none = (record { same = same; vacant = none; unmade = none }, record { seats = seats; kept = kept; lacking = subst AreNotAll (sym of) its }, one)
 back_again cause.Memory olds news board seats posts kept of one its same none = record { same = same; vacant = none; unmade = none }
 
--- the posts' lanes have as many slots as those of the first
-pub slots_same : (posts : List PostView) (first : PostView) → AreOfOneBoard posts → slice_get posts 0 ≡ Some first → (i : ℕ) (post : PostView) → slice_get posts i ≡ Some post → post.board.capacity ≡ first.board.capacity
-slots_same posts first one there i post at = ap (λ (b : BoardView). b.capacity) (one i 0 post first at there)
+-- handles that keep something keep posts
+pub some_posts : (olds : List (Option Kept)) (chairs : List Chair) (posts : List PostView) → (length olds ≡ 0 → ⊥) → olds ≡ kept_seats (seats_with chairs posts) → AreFit chairs posts → length posts ≡ 0 → ⊥
+some_posts olds chairs posts some seats fit none = some (ap length seats ∙ length-seats chairs posts fit ∙ sym (length-fit chairs posts fit) ∙ none)
+
+-- all lanes have as many slots as those of the first post
+pub slots_same : (posts : List PostView) (k : ℕ) → AreOfOneBoard posts → (length posts ≡ 0 → ⊥) → ((post : PostView) → slice_get posts 0 ≡ Some post → post.board.capacity ≡ k)
+    → (i : ℕ) (post : PostView) → slice_get posts i ≡ Some post → post.board.capacity ≡ k
+slots_same posts k one some slots i post at =
+    let first = first_of posts some in
+    ap (λ (b : BoardView). b.capacity) (one i 0 post first.0 at first.1) ∙ slots first.0 first.1
 
 -- what was gathered was left on such lanes
 pub whole_left : (posts : List PostView) (it : Gathered) (k : ℕ) → IsWhole posts it → ((i : ℕ) (post : PostView) → slice_get posts i ≡ Some post → post.board.capacity ≡ k)

@@ -13,17 +13,19 @@ use Rattle.board.specs.declared.long_runs.carrying.CarryError.{CarryError}
 use Rattle.board.specs.LongRuns.CarryingOver.{IsUntouched, CarriesOver, HaveMoreRoom}
 use Rattle.c_board.specs.declared.carrying.CarryRefusal.{CarryRefusal}
 use Rattle.c_board.specs.declared.carrying.CarryRefusal.TheVariants as why
+use Rattle.c_board.specs.declared.carrying.FitError.{FitError}
+use Rattle.c_board.specs.declared.carrying.FitError.TheVariants as fitting
 use Rattle.c_board.specs.declared.carrying.Misfit.{Misfit}
 use Rattle.c_board.specs.declared.carrying.Misfit.TheVariants.{Size, Used}
+use Rattle.c_board.specs.declared.chair.Taken.{Taken}
 use Rattle.c_board.specs.declared.kept.Kept.{Kept}
 use Rattle.c_board.specs.declared.kept.Kept.TheVariants.{Board}
 use Rattle.c_board.specs.declared.misuse.Misuse.TheVariants as misuse
 use Rattle.c_board.specs.declared.misuse.Numbering.{Numbering}
-use Rattle.c_board.specs.declared.taking.TakingError.{TakingError}
 use Rattle.c_board.specs.declared.taking.TakingError.TheVariants as taking
-use Rattle.c_board.specs.Chairs.{kept_seats, posts_of, KeepPosts, IsOneNoPost, HaveOneNumber, AreOfTwoBoards}
+use Rattle.c_board.specs.Chairs.{kept_seats, posts_of, KeepPosts, IsOneNoPost, HaveOneNumber, AreOfTwoBoards, TakesPosts}
 use Rattle.c_board.specs.Copying.{put_over}
-use Rattle.c_board.specs.KeptBoards.{board_in}
+use Rattle.c_board.specs.Contents.{board_in}
 use Rattle.c_board.specs.PostStates.{PostStateView}
 use Rattle.c_board.specs.Refusals.{of_misuse}
 use Rattle.c_board.specs.Wholes.{WholeView}
@@ -98,9 +100,10 @@ pub record HaveRoomOver (old new : List (Option Kept)) : Type 0 where
   pub stay : KeepAll seats after
   pub new_is : new ≡ kept_seats after
 
--- What carrying over from the board of a handle to the posts of these handles answers. Misuses come first, and among
--- them in this order (docs/reference/refusals.md): no board; no post; posts of two boards; a board of another size; posts
--- in use.
+-- What carrying over from the board of a handle to the posts of these handles answers. The refusals exclude each other,
+-- and memory, F6 (docs/reference/refusals.md): that no board is kept; that a handle keeps no post; that the posts are of
+-- two boards; that their board is of another size; that one of them is in use. All these are misuses. And that posts of
+-- their board lack, F15.
 abbrev pub Carries : Option Kept → List (Option Kept) → List ℕ → Result ℕ CarryRefusal → Option Kept
     → List (Option Kept) → List ℕ → Type 0
 Carries board old room (Ok many) now new out = IsCarried board old room many now new out × HaveOneNumber old
@@ -128,6 +131,13 @@ ChecksFit n k posts (Ok done) = AreEach (IsAsLarge n k) posts × AreEach IsUntou
 ChecksFit n k posts (Err Size) = IsOneNot (IsAsLarge n k) posts
 ChecksFit n k posts (Err Used) = AreEach (IsAsLarge n k) posts × IsOneNot IsUntouched posts
 
+-- what taking such posts out of handles answers; a refusal leaves them there
+abbrev pub TakesFit : ℕ → ℕ → List (Option Kept) → Result Taken FitError → List (Option Kept) → Type 0
+TakesFit n k old (Ok it) new = TakesPosts old (Ok it) new × ChecksFit n k it.posts.items (Ok tt)
+TakesFit n k old (Err (fitting.NotTaken error)) new = TakesPosts old (Err error) new
+TakesFit n k old (Err (fitting.Misfit misfit)) new = (new ≡ old) × (seats : List PostStateView) × AreSeats old seats
+    × ChecksFit n k (posts_of seats) (Err misfit)
+
 -- what carrying over answers for posts without their board's words
 abbrev pub IsUnborne : List PostView → CarryCause → List PostView → Type 0
 IsUnborne old cause.NotAllPosts new = AreNotAll old × (new ≡ old)
@@ -139,15 +149,13 @@ CarriesParked left closed old (Ok carried) new = CarriesOver left closed old (Ok
 CarriesParked left closed old (Err error) new = (error.left.items ≡ left) × IsUnborne old error.cause new
 
 -- the refusal of each cause
-abbrev pub refusal_of_taking : TakingError → CarryRefusal
-refusal_of_taking taking.NoHandles = why.NotAllPosts
-refusal_of_taking taking.NoPost = why.NoPost
-refusal_of_taking taking.Memory = why.Memory
-refusal_of_taking taking.OtherBoard = why.OtherBoard
-
-abbrev pub refusal_of_misfit : Misfit → CarryRefusal
-refusal_of_misfit Size = why.WrongNumber
-refusal_of_misfit Used = why.InUse
+abbrev pub refusal_of_fit : FitError → CarryRefusal
+refusal_of_fit (fitting.NotTaken taking.NoHandles) = why.NotAllPosts
+refusal_of_fit (fitting.NotTaken taking.NoPost) = why.NoPost
+refusal_of_fit (fitting.NotTaken taking.Memory) = why.Memory
+refusal_of_fit (fitting.NotTaken taking.OtherBoard) = why.OtherBoard
+refusal_of_fit (fitting.Misfit Size) = why.WrongNumber
+refusal_of_fit (fitting.Misfit Used) = why.InUse
 
 abbrev pub refusal_of_cause : CarryCause → CarryRefusal
 refusal_of_cause cause.NotAllPosts = why.NotAllPosts

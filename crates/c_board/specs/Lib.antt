@@ -4,10 +4,12 @@ pub mod Carrying
 pub mod Cells
 pub mod Chairs
 pub mod Closing
+pub mod Contents
 pub mod Copying
 pub mod EventInfos
 pub mod Gathering
-pub mod KeptBoards
+pub mod HandleLending
+pub mod Lending
 pub mod Meeting
 pub mod Opening
 pub mod PostStates

@@ -7,7 +7,8 @@ ghost use Rattle.c_board.specs.declared.kept.Kept.TheVariants.{Board};
 ghost use Rattle.c_board.specs.Opening.{kept_by};
 ghost use Rattle.c_board.specs.Chairs.{AreNumberedApart};
 ghost use Rattle.c_board.specs.Copying.{put_over};
-ghost use Rattle.c_board.specs.Carrying.{Carries, AreEach, IsOneNot, IsAsLarge, ChecksFit, of_carrying};
+ghost use Rattle.c_board.specs.Carrying.{Carries, AreEach, IsOneNot, IsAsLarge, ChecksFit, TakesFit};
+ghost use Rattle.c_board.specs.Carrying.{of_carrying};
 
 use crate::bearing::{Borne, bear};
 use crate::chair::Taken;
@@ -50,6 +51,15 @@ pub(crate) enum Misfit {
     Used,
 }
 
+/// Why posts that fit what a board left aren't taken out of their handles.
+#[derive(Clone, Copy)]
+pub(crate) enum FitError {
+    /// No posts are taken.
+    NotTaken(TakingError),
+    /// The posts don't fit.
+    Misfit(Misfit),
+}
+
 impl Numbered for CarryRefusal {
     ghost number = { λ misuses refusal. of_carrying misuses refusal };
 
@@ -66,32 +76,31 @@ impl Numbered for CarryRefusal {
     }
 }
 
-impl From<TakingError> for CarryRefusal {
+impl From<TakingError> for FitError {
     ghost use Rattle.std.specs.Prelude.{◌≡◌};
-    ghost use Rattle.c_board.specs.Carrying.{refusal_of_taking};
+    ghost use Rattle.c_board.specs.declared.carrying.FitError.TheVariants.{NotTaken};
 
-    ghost from_gives = { λ error refusal. refusal ≡ refusal_of_taking error };
+    ghost from_gives = { λ error fit. fit ≡ NotTaken error };
 
-    fn from(error: TakingError) -> CarryRefusal {
-        match error {
-            TakingError::NoHandles => CarryRefusal::NotAllPosts,
-            TakingError::NoPost => CarryRefusal::NoPost,
-            TakingError::Memory => CarryRefusal::Memory,
-            TakingError::OtherBoard => CarryRefusal::OtherBoard,
-        }
+    fn from(error: TakingError) -> FitError {
+        FitError::NotTaken(error)
     }
 }
 
-impl From<Misfit> for CarryRefusal {
+impl From<FitError> for CarryRefusal {
     ghost use Rattle.std.specs.Prelude.{◌≡◌};
-    ghost use Rattle.c_board.specs.Carrying.{refusal_of_misfit};
+    ghost use Rattle.c_board.specs.Carrying.{refusal_of_fit};
 
-    ghost from_gives = { λ misfit refusal. refusal ≡ refusal_of_misfit misfit };
+    ghost from_gives = { λ error refusal. refusal ≡ refusal_of_fit error };
 
-    fn from(misfit: Misfit) -> CarryRefusal {
-        match misfit {
-            Misfit::Size => CarryRefusal::WrongNumber,
-            Misfit::Used => CarryRefusal::InUse,
+    fn from(error: FitError) -> CarryRefusal {
+        match error {
+            FitError::NotTaken(TakingError::NoHandles) => CarryRefusal::NotAllPosts,
+            FitError::NotTaken(TakingError::NoPost) => CarryRefusal::NoPost,
+            FitError::NotTaken(TakingError::Memory) => CarryRefusal::Memory,
+            FitError::NotTaken(TakingError::OtherBoard) => CarryRefusal::OtherBoard,
+            FitError::Misfit(Misfit::Size) => CarryRefusal::WrongNumber,
+            FitError::Misfit(Misfit::Used) => CarryRefusal::InUse,
         }
     }
 }
@@ -163,6 +172,27 @@ fn check_fit(posts: &[Parked], instances: usize, capacity: usize) -> Result<(), 
     Ok(())
 }
 
+/// Takes the posts out of these handles, if they may take over what a board with this number of instances left, whose
+/// lanes had this number of slots. After a refusal everything is as it was.
+fn take_fit_posts(
+    alloc: Global,
+    handles: &mut [Handle],
+    instances: usize,
+    capacity: usize,
+) -> Result<Taken, FitError>
+    ensures { TakesFit instances capacity (kept_by handles.old) result (kept_by handles.new) }
+{
+    let taken = take_posts(alloc, handles)?;
+    match check_fit(taken.posts.as_slice(), instances, capacity) {
+        Ok(()) => Ok(taken),
+        Err(misfit) => {
+            let Taken { chairs, posts } = taken;
+            put_posts(handles, chairs, posts);
+            Err(FitError::Misfit(misfit))
+        }
+    }
+}
+
 /// Carries over to the posts of these handles what a board left, whose lanes had this number of slots.
 fn carry_gathered(
     alloc: Global,
@@ -177,11 +207,8 @@ fn carry_gathered(
     ensures { Carries (Some (Board (record { gathered = it.old; capacity = capacity }))) (kept_by handles.old) sends.old
         result (Some (Board (record { gathered = it.new; capacity = capacity }))) (kept_by handles.new) sends.new }
 {
-    let Taken { chairs, posts } = take_posts(alloc, handles)?;
-    if let Err(misfit) = check_fit(posts.as_slice(), it.chart.lines().len(), capacity) {
-        put_posts(handles, chairs, posts);
-        return Err(CarryRefusal::from(misfit));
-    }
+    let instances = it.chart.lines().len();
+    let Taken { chairs, posts } = take_fit_posts(alloc, handles, instances, capacity)?;
     let left = mem::replace(&mut it.left, Vec::new(alloc));
     let closed = it.closed.as_slice();
     let Borne { posts, answer } = bear(alloc, &(*chairs[0].table).shared, posts, left, closed);

@@ -1,5 +1,6 @@
 //! Boards gathered over handles.
-ghost use Rattle.std.specs.Prelude.{◌≡◌};
+ghost use Rattle.std.specs.Prelude.{◌≡◌, length, slice_get, Some};
+ghost use Rattle.board.specs.Views.{PostView};
 ghost use Rattle.c_board.specs.declared.kept.Kept.TheVariants.{Board};
 ghost use Rattle.c_board.specs.Opening.{kept_by};
 ghost use Rattle.c_board.specs.Chairs.{AreNumberedApart};
@@ -13,7 +14,7 @@ use crate::misuse::{Misuse, Numbering};
 use crate::numbered::Numbered;
 use crate::taking::{TakingError, put_posts, take_posts};
 use crate::whole_board::WholeBoard;
-use board::GatherCause;
+use board::{GatherCause, Parked};
 use std::alloc::{AllocError, Global};
 
 /// Why a board isn't gathered over handles.
@@ -75,6 +76,14 @@ impl From<GatherCause> for GatherRefusal {
     }
 }
 
+/// How many slots the lanes of these posts' board have.
+fn capacity_of(posts: &[Parked]) -> usize
+    requires { length posts.now ≡ 0 → ⊥ }
+    ensures { (post : PostView) → slice_get posts.now 0 ≡ Some post → post.board.capacity ≡ result }
+{
+    posts[0].capacity()
+}
+
 /// This box, with a gathered board in it.
 fn board_in(kept: Box<Kept>, whole: WholeBoard) -> Box<Kept>
     ensures { result.value ≡ Board whole }
@@ -106,7 +115,7 @@ pub fn gather(
         Err(AllocError) => return Err(GatherRefusal::Memory),
     };
     let Taken { chairs, posts } = take_posts(alloc, handles)?;
-    let capacity = posts[0].capacity();
+    let capacity = capacity_of(posts.as_slice());
     match gather_parked(alloc, &(*chairs[0].table).shared, posts) {
         Ok(gathered) => {
             board.put(board_in(kept, WholeBoard::of(gathered, capacity)));

@@ -7,7 +7,9 @@ ghost use Rattle.c_board.specs.Words.{word_of};
 
 use crate::kept::Kept;
 use crate::loose::Loose;
+use crate::post_state::PostState;
 use crate::slot::Slot;
+use crate::whole_board::WholeBoard;
 use std::alloc::Global;
 use std::mem;
 
@@ -77,5 +79,54 @@ impl Handle {
         let mut handle = self;
         handle.free(alloc);
         let Handle { word: _, slot: _ } = handle;
+    }
+}
+
+impl Handle {
+    ghost use Rattle.std.specs.Prelude.{◌≡◌};
+    ghost use Rattle.std.specs.Borrow.{sem};
+    ghost use Rattle.std.specs.Option.{option_copied, option_copied_mut};
+    ghost use Rattle.c_board.specs.Contents.{post_in, board_in};
+    ghost use Rattle.c_board.specs.HandleLending.{LendsItsPost};
+
+    /// The post, if one is kept, to be used in place.
+    #[inline(always)]
+    pub fn post_mut(&mut self) -> Option<&mut PostState>
+        ensures* writes_back { sem 𝓛 (LendsItsPost self.entry result) }
+        ensures value { post_in self.old.slot.value ≡ option_copied_mut result }
+    {
+        if self.word == 0 {
+            return None;
+        }
+        let slot = &mut self.slot;
+        let kept = slot.get_mut();
+        kept.post_mut()
+    }
+
+    /// The post, if one is kept, to be read.
+    #[inline(always)]
+    pub fn post(&self) -> Option<&PostState>
+        ensures { post_in self.now.slot.value ≡ option_copied result }
+    {
+        if self.word == 0 {
+            return None;
+        }
+        match self.slot.get() {
+            Kept::Post(state) => Some(state),
+            _ => None,
+        }
+    }
+
+    /// The board, if one is kept. Several threads may read it at once.
+    pub fn board(&self) -> Option<&WholeBoard>
+        ensures { board_in self.now.slot.value ≡ option_copied result }
+    {
+        if self.word == 0 {
+            return None;
+        }
+        match self.slot.get() {
+            Kept::Board(it) => Some(it),
+            _ => None,
+        }
     }
 }

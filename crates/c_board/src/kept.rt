@@ -1,6 +1,10 @@
 //! What a handle keeps.
 ghost use Rattle.std.specs.Prelude.{◌≡◌, IfOk};
+ghost use Rattle.std.specs.Borrow.{sem};
+ghost use Rattle.std.specs.Option.{option_copied_mut};
 ghost use Rattle.c_board.specs.declared.kept.Kept.TheVariants as variant;
+ghost use Rattle.c_board.specs.Contents.{post_in};
+ghost use Rattle.c_board.specs.Lending.{LendsPost};
 
 use crate::post_state::PostState;
 use crate::whole_board::WholeBoard;
@@ -34,5 +38,17 @@ impl Kept {
         ensures { self.new ≡ variant.Post state }
     {
         *self = Kept::Post(state);
+    }
+
+    /// The post, if it is one.
+    #[inline(always)]
+    pub(crate) fn post_mut(&mut self) -> Option<&mut PostState>
+        ensures* writes_back { sem 𝓛 (LendsPost self.entry result) }
+        ensures value { option_copied_mut result ≡ post_in (Some self.old) }
+    {
+        match self {
+            Kept::Post(state) => Some(state),
+            _ => None,
+        }
     }
 }

@@ -15,7 +15,7 @@ use Rattle.c_board.specs.declared.kept.Kept.{Kept}
 use Rattle.c_board.specs.declared.misuse.Misuse.TheVariants as misuse
 use Rattle.c_board.specs.declared.misuse.Numbering.{Numbering}
 use Rattle.c_board.specs.Copying.{put_over, counted, indices}
-use Rattle.c_board.specs.KeptBoards.{board_in}
+use Rattle.c_board.specs.Contents.{board_in}
 use Rattle.c_board.specs.Refusals.{of_misuse}
 use Rattle.c_board.specs.Wholes.{WholeView}
 
