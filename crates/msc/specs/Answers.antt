@@ -1,6 +1,6 @@
 -- The numbers that C gets (this project's profile): 0 for done, 1 if nothing waits, 2 for ended, and for a refusal its
 -- number, below 0.
-use Rattle.std.specs.Prelude.{◌≡◌, ℕ, cond, List, Option, None, Some, Result, Ok, Err}
+use Rattle.std.specs.Prelude.{◌≡◌, ℕ, cond, List, Option, Result, Ok, Err}
 use lib.IntN.{ℤ, pos, neg_ℤ}
 use Rattle.board.specs.declared.answer.Arrival.{Arrival}
 use Rattle.chart.specs.declared.instance.EventNo.{EventNo}
@@ -18,22 +18,11 @@ use Rattle.c_board.specs.Closing.{HandleCloses}
 use Rattle.c_board.specs.Copying as races
 use Rattle.c_board.specs.Copying.{CopiesOut, picked_in}
 use Rattle.c_board.specs.declared.came.Which.{Which}
-use Rattle.c_board.specs.Opening.{Opens}
 use Rattle.c_board.specs.declared.found.EventInfo.{EventInfo}
 use Rattle.c_board.specs.Regions.{HandleOpens, HandleShuts}
 use Rattle.c_board.specs.Reserving.{HandleReserves}
-use Rattle.c_board.specs.declared.boards.reports.Reported.{Reported}
-use Rattle.c_board.specs.declared.boards.left.Place.{Place}
-use Rattle.c_board.specs.declared.boards.left.Waiting.{Waiting}
-use Rattle.c_board.specs.Boards.BoardCopies.{HandleReports, HandleWaits, NameAndBody}
-use Rattle.c_board.specs.Boards.BoardText.{HandleWritesText}
-use Rattle.c_board.specs.Gathering.{Gathers}
-use Rattle.c_board.specs.Meeting.{Meets}
-use Rattle.c_board.specs.Carrying.{CarriesAll}
 use Rattle.c_board.specs.EventInfos.{HandleCopies}
 use Rattle.msc.specs.declared.answers.MscEvent.{MscEvent}
-use Rattle.msc.specs.declared.answers.MscLeft.{MscLeft}
-use Rattle.msc.specs.declared.answers.MscReport.{MscReport}
 
 -- the number of a refusal, below 0
 abbrev pub code_of : Refusal → ℤ
@@ -90,9 +79,6 @@ abbrev pub Closes : Option Kept → ℕ → ℤ → Option Kept → Type 0
 Closes old to code new = (answer : Result (Unit {0}) Refusal) × HandleCloses old to answer new
     × (code ≡ done_code answer)
 
-abbrev pub OpensAll : ℕ → List (Option Kept) → ℤ → List (Option Kept) → Type 0
-OpensAll k old code new = (answer : Result (Unit {0}) Refusal) × Opens k old answer new × (code ≡ done_code answer)
-
 -- what is copied out of the selected one of the messages that were received last, and its whole length
 abbrev pub Copies : (Arrival → List ℕ) → Which → Option Kept → List ℕ → Got ℕ → List ℕ → Type 0
 Copies what which old room got out = (answer : Result ℕ Refusal)
@@ -131,53 +117,3 @@ CopiesEvent old number room got out = (answer : Result EventInfo Refusal)
 abbrev pub Reserves : Option Kept → ℕ → ℤ → Option Kept → Type 0
 Reserves old events code new = (answer : Result (Unit {0}) Refusal) × HandleReserves old events answer new
     × (code ≡ done_code answer)
-
-abbrev pub GathersAll : List (Option Kept) → Option Kept → ℤ → List (Option Kept) → Option Kept → Type 0
-GathersAll old board code new made = (answer : Result (Unit {0}) Refusal) × Gathers old board answer new made
-    × (code ≡ done_code answer)
-
-abbrev pub MeetsAll : List (Option Kept) → ℤ → List (Option Kept) → Type 0
-MeetsAll old code new = (answer : Result (Unit {0}) Refusal) × Meets old answer new × (code ≡ done_code answer)
-
-abbrev pub CarriesBoard : Option Kept → List (Option Kept) → List ℕ → Got ℕ → Option Kept → List (Option Kept)
-    → List ℕ → Type 0
-CarriesBoard board old room got now new out = (answer : Result ℕ Refusal)
-    × CarriesAll board old room answer now new out × (got.code ≡ done_code answer)
-    × (got.output ≡ number_after got.before answer)
-
-abbrev pub WritesText : Option Kept → List (List ℕ) → List ℕ → Got ℕ → List ℕ → Type 0
-WritesText old names room got out = (answer : Result ℕ Refusal)
-    × HandleWritesText old names room answer out × (got.code ≡ done_code answer)
-    × (got.output ≡ number_after got.before answer)
-
--- the description of a report, field by field; and this description, or otherwise the one before
-abbrev pub report_from : Reported → MscReport
-report_from output = record { instance = output.instance; event = output.event; races = output.races }
-
-abbrev pub filled_report : MscReport → Result Reported Refusal → MscReport
-filled_report before (Ok output) = report_from output
-filled_report before (Err refusal) = before
-
-abbrev pub CopiesReport : Option Kept → ℕ → List ℕ → Got MscReport → List ℕ → Type 0
-CopiesReport old number room got out = (answer : Result Reported Refusal)
-    × HandleReports old number room answer out × (got.code ≡ done_code answer)
-    × (got.output ≡ filled_report got.before answer)
-
--- the description of a waiting message, field by field; and this description, or otherwise the one before
-abbrev pub left_from : Waiting → MscLeft
-left_from output = record { name_length = output.name; body_length = output.body }
-
-abbrev pub filled_left : MscLeft → Result (Option Waiting) Refusal → MscLeft
-filled_left before (Ok (Some output)) = left_from output
-filled_left before (Ok None) = before
-filled_left before (Err refusal) = before
-
-abbrev pub waiting_code : Result (Option Waiting) Refusal → ℤ
-waiting_code (Ok (Some output)) = pos 0
-waiting_code (Ok None) = pos 1
-waiting_code (Err refusal) = code_of refusal
-
-abbrev pub CopiesLeft : Option Kept → Place → NameAndBody → Got MscLeft → NameAndBody → Type 0
-CopiesLeft old place room got out = (answer : Result (Option Waiting) Refusal)
-    × HandleWaits old place room answer out × (got.code ≡ waiting_code answer)
-    × (got.output ≡ filled_left got.before answer)

@@ -3,12 +3,10 @@ ghost use Rattle.std.specs.Prelude.{◌≡◌};
 ghost use Rattle.c_board.specs.Receiving.{found_with, arrived_after};
 ghost use Rattle.c_board.specs.declared.found.Arrived.{Arrived};
 ghost use Rattle.msc.specs.Answers.{code_of, done_code, found_code, number_after};
-ghost use Rattle.msc.specs.Answers.{event_from, filled_event, report_from, filled_report, left_from, waiting_code};
-ghost use Rattle.msc.specs.Answers.{filled_left};
+ghost use Rattle.msc.specs.Answers.{event_from, filled_event};
 
-use crate::answers::{MscEvent, MscLeft, MscReport};
+use crate::answers::MscEvent;
 use board::Peek;
-use c_board::boards::{Reported, Waiting};
 use c_board::{Arrived, EventInfo, Found, Refusal};
 
 /// The number of a refusal, below 0.
@@ -109,56 +107,6 @@ pub(crate) fn event_code(answer: Result<EventInfo, Refusal>, event: &mut MscEven
             *event = event_from(output);
             0
         }
-        Err(refusal) => code_of(refusal),
-    }
-}
-
-/// The description of a report, as C reads it.
-fn report_from(reported: Reported) -> MscReport
-    ensures { result ≡ report_from reported }
-{
-    MscReport {
-        instance: reported.instance,
-        event: reported.event,
-        races: reported.races,
-    }
-}
-
-/// The number of a call that described a report or was refused, and the description.
-pub(crate) fn report_code(answer: Result<Reported, Refusal>, report: &mut MscReport) -> i32
-    ensures code { result ≡ done_code answer }
-    ensures report { report.new ≡ filled_report report.old answer }
-{
-    match answer {
-        Ok(reported) => {
-            *report = report_from(reported);
-            0
-        }
-        Err(refusal) => code_of(refusal),
-    }
-}
-
-/// The description of a waiting message, as C reads it.
-fn left_from(waiting: Waiting) -> MscLeft
-    ensures { result ≡ left_from waiting }
-{
-    MscLeft {
-        name_length: waiting.name,
-        body_length: waiting.body,
-    }
-}
-
-/// The number of a call that described a waiting message, found none, or was refused, and the description.
-pub(crate) fn waiting_code(answer: Result<Option<Waiting>, Refusal>, left: &mut MscLeft) -> i32
-    ensures code { result ≡ waiting_code answer }
-    ensures left { left.new ≡ filled_left left.old answer }
-{
-    match answer {
-        Ok(Some(waiting)) => {
-            *left = left_from(waiting);
-            0
-        }
-        Ok(None) => 1,
         Err(refusal) => code_of(refusal),
     }
 }

@@ -1,21 +1,13 @@
 //! The exports for posts.
 ghost use Rattle.std.specs.Prelude.{◌≡◌, None};
-ghost use Rattle.c_board.specs.Opening.{kept_by};
-ghost use Rattle.msc.specs.Answers.{Sends, Takes, TakesAny, Closes, OpensAll, OpensRegion};
+ghost use Rattle.msc.specs.Answers.{Sends, Takes, TakesAny, Closes, OpensRegion};
 ghost use Rattle.msc.specs.Answers.{ShutsRegion, CopiesEvent, Reserves, SendsAll};
 ghost use Rattle.c_board.specs.SendingAll.{contents_in};
 
 use crate::answers::MscEvent;
 use crate::codes::{code_of, done_code, event_code, first_code, found_code, peek_code};
-use c_board::{Arrived, Handle, MessageLengths, open};
+use c_board::{Arrived, Handle, MessageLengths};
 use std::alloc::Global;
-
-#[unsafe(no_mangle)]
-pub extern "C" fn msc_open_(alloc: Global, posts: &mut [Handle], capacity: u32) -> i32
-    ensures { OpensAll capacity (kept_by posts.old) result (kept_by posts.new) }
-{
-    done_code(open(alloc, posts, capacity))
-}
 
 #[unsafe(no_mangle)]
 pub extern "C" fn msc_send_(

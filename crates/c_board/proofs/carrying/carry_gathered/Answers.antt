@@ -20,7 +20,7 @@ use Rattle.c_board.proofs.carrying.carry_gathered.Goals as goal
 pub returns-in_err-chairs : goal.returns-in_err-chairs
 returns-in_err-chairs c =
     carry_refused (record { gathered = c.args.it.now; capacity = c.args.capacity }) (kept_by c.args.handles.now) c.args.sends.now c.from_residual.result c.in_err-chairs.field-0.0 (kept_by c.take_fit_posts.new.handles) c.from_residual.ensures.1
-    (subst (λ (n : ℕ). TakesFit n c.args.capacity (kept_by c.args.handles.now) (Err c.in_err-chairs.field-0.0) (kept_by c.take_fit_posts.new.handles)) (c.len-instances.ensures ∙ ap length c.lines.ensures.value) c.in_err-chairs.ensures)
+    (subst (λ (n : ℕ). TakesFit n c.args.capacity (kept_by c.args.handles.now) (Err c.in_err-chairs.field-0.0) (kept_by c.take_fit_posts.new.handles)) (ap length c.lines-instances.ensures.value) c.in_err-chairs.ensures)
 
 pub bear-posts-requires-clause-at : goal.bear-posts-requires-clause-at
 bear-posts-requires-clause-at c =
@@ -42,7 +42,7 @@ pub bear-posts-requires-clause-may : goal.bear-posts-requires-clause-may
 bear-posts-requires-clause-may c =
     let it = c.args.it.now in
     let posts = c.in_ok-chairs.field-0.posts.items in
-    let fit = subst (λ (n : ℕ). ChecksFit n c.args.capacity posts (Ok tt)) (c.len-instances.ensures ∙ ap length c.lines.ensures.value) c.in_ok-chairs.ensures.1 in
+    let fit = subst (λ (n : ℕ). ChecksFit n c.args.capacity posts (Ok tt)) (ap length c.lines-instances.ensures.value) c.in_ok-chairs.ensures.1 in
     subst (λ (ls : List Left). MayAllCarry (map left_view ls) (map closed_view c.as_slice-closed.result.now) posts) (sym (ap (λ (v : Vec Left). v.items) c.replace-left.ensures.value))
     (subst (λ (cs : List ClosedLane). MayAllCarry (map left_view it.left.items) (map closed_view cs) posts) (sym c.as_slice-closed.ensures.value)
     (may_carry (length it.chart) c.args.capacity (map left_view it.left.items) (map closed_view it.closed.items) posts c.requires.left fit))
@@ -63,7 +63,7 @@ returns-in-Ok c =
     let chairs = c.in_ok-chairs.field-0.chairs.items in
     let posts = c.in_ok-chairs.field-0.posts.items in
     let after = c.bear-posts.result.posts.items in
-    let fit = subst (λ (n : ℕ). ChecksFit n c.args.capacity posts (Ok tt)) (c.len-instances.ensures ∙ ap length c.lines.ensures.value) c.in_ok-chairs.ensures.1 in
+    let fit = subst (λ (n : ℕ). ChecksFit n c.args.capacity posts (Ok tt)) (ap length c.lines-instances.ensures.value) c.in_ok-chairs.ensures.1 in
     let its = borne_at c.replace-left.result.items it.left.items c.as_slice-closed.result.now it.closed.items posts c.bear-posts.result.answer (Ok c.in-Ok.carried) after (ap (λ (v : Vec Left). v.items) c.replace-left.ensures.value) c.as_slice-closed.ensures.value c.in-Ok.is c.bear-posts.ensures in
     all_carried (record { gathered = it; capacity = c.args.capacity }) c.replace-left.new.dest c.new-in-Ok.result chairs posts after (kept_by c.args.handles.now) (kept_by c.put_posts.new.handles) c.in-Ok.carried c.args.sends.now c.copy_counts.new.out c.copy_counts.result taken.fit taken.seats took.2 fit its c.put_posts.ensures
     (c.copy_counts.ensures.all ∙ ap length c.as_slice.ensures.value) (c.copy_counts.ensures.copied ∙ ap (λ (xs : List ℕ). put_over xs c.args.sends.now) c.as_slice.ensures.value)
@@ -77,7 +77,7 @@ returns-in-Err c =
     let chairs = c.in_ok-chairs.field-0.chairs.items in
     let posts = c.in_ok-chairs.field-0.posts.items in
     let after = c.bear-posts.result.posts.items in
-    let fit = subst (λ (n : ℕ). ChecksFit n c.args.capacity posts (Ok tt)) (c.len-instances.ensures ∙ ap length c.lines.ensures.value) c.in_ok-chairs.ensures.1 in
+    let fit = subst (λ (n : ℕ). ChecksFit n c.args.capacity posts (Ok tt)) (ap length c.lines-instances.ensures.value) c.in_ok-chairs.ensures.1 in
     let its = borne_at c.replace-left.result.items it.left.items c.as_slice-closed.result.now it.closed.items posts c.bear-posts.result.answer (Err c.in-Err.error) after (ap (λ (v : Vec Left). v.items) c.replace-left.ensures.value) c.as_slice-closed.ensures.value c.in-Err.is c.bear-posts.ensures in
     subst (λ (refusal : CarryRefusal). Carries (Some (Board (record { gathered = it; capacity = c.args.capacity }))) (kept_by c.args.handles.now) c.args.sends.now (Err refusal) (Some (Board (record { gathered = record it { left = c.in-Err.error.left }; capacity = c.args.capacity }))) (kept_by c.put_posts.new.handles) c.args.sends.now) (sym c.from.ensures)
     (none_carried c.in-Err.error.cause (record { gathered = it; capacity = c.args.capacity }) c.in-Err.error.left chairs posts after (kept_by c.args.handles.now) (kept_by c.put_posts.new.handles) c.args.sends.now taken.fit taken.seats took.2 fit its.1 c.put_posts.ensures its.0)

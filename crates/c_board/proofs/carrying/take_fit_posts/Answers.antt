@@ -10,7 +10,7 @@ use Rattle.c_board.proofs.CarryLemmas.{fit_refused, unfit}
 use Rattle.c_board.proofs.carrying.take_fit_posts.Goals as goal
 
 pub returns-in_err-taken : goal.returns-in_err-taken
-returns-in_err-taken c = fit_refused c.args.instances c.args.capacity (kept_by c.args.handles.now) c.from_residual.result c.in_err-taken.field-0.0 (kept_by c.take_posts-taken.new.handles) c.from_residual.ensures.1 c.in_err-taken.ensures
+returns-in_err-taken c = fit_refused c.args.instances c.args.capacity (kept_by c.args.handles.now) c.from_residual.result c.in_err-taken.field-0.0 (kept_by c.take_posts.new.handles) c.from_residual.ensures.1 c.in_err-taken.ensures
 
 pub returns-in-Ok : goal.returns-in-Ok
 returns-in-Ok c = (
@@ -22,7 +22,7 @@ returns-in-Ok c = (
 pub put_posts-requires-clause-as_many : goal.put_posts-requires-clause-as_many
 put_posts-requires-clause-as_many c =
     let taken = c.in_ok-taken.ensures.0 in
-    omega (arith, length-seats c.in_ok-taken.taken.chairs.items c.in_ok-taken.taken.posts.items taken.fit, ap length taken.seats, length-kept_by c.args.handles.now, c.take_posts-taken.auto.handles)
+    omega (arith, length-seats c.in_ok-taken.taken.chairs.items c.in_ok-taken.taken.posts.items taken.fit, ap length taken.seats, length-kept_by c.args.handles.now, c.take_posts.auto.handles)
 
 pub returns-in-Err : goal.returns-in-Err
 returns-in-Err c =
