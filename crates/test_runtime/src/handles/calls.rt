@@ -1,7 +1,7 @@
 //! The calls on handles that tests make, and the assertions about their answers.
 
 use board::Peek;
-use c_board::{Arrived, Handle, Refusal, Which, open};
+use c_board::{Arrived, BoardNumber, Handle, OpenRefusal, Refusal, Which, open};
 use chart::EventNo;
 use std::alloc::Global;
 use std::process::Abort;
@@ -11,13 +11,22 @@ pub fn holds(rt: &impl Abort, what: &str, fact: bool) {
     assert!(rt; fact, "not so: {what}");
 }
 
+/// Opens a board over the handles, with this number of slots on each lane.
+pub fn opened(alloc: Global, handles: &mut [Handle], capacity: u32) -> Result<(), OpenRefusal> {
+    let number = BoardNumber {
+        origin: 1,
+        count: 1,
+    };
+    open(alloc, handles, capacity, number)
+}
+
 /// Handles with the two posts of a board with this number of slots on each lane.
 pub fn pair(rt: &impl Abort, alloc: Global, capacity: u32) -> [Handle; 2] {
     let mut handles = [Handle::empty(), Handle::empty()];
     holds(
         rt,
         "a board is opened",
-        open(alloc, &mut handles, capacity).is_ok(),
+        opened(alloc, &mut handles, capacity).is_ok(),
     );
     handles
 }

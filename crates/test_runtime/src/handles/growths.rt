@@ -1,7 +1,7 @@
 //! Tests of calls on handles whose growth is refused.
 
-use crate::handles::calls::{gets, holds, pair};
-use c_board::{Handle, Refusal, open};
+use crate::handles::calls::{gets, holds, opened, pair};
+use c_board::{Handle, Numbered, Numbering, OpenRefusal, Refusal};
 use std::alloc::Global;
 use std::process::Abort;
 use std::test::Fail;
@@ -11,12 +11,17 @@ fn is_memory<T>(answer: &Result<T, Refusal>) -> bool {
     matches!(answer, Err(refusal) if refusal.number() == 6)
 }
 
+/// Whether memory for a board was refused.
+fn opens_without_memory(answer: &Result<(), OpenRefusal>) -> bool {
+    matches!(answer, Err(refusal) if refusal.number(Numbering::Alike) == 6)
+}
+
 /// Opens a board, at the second attempt if memory was refused.
 fn opens(rt: &impl Abort, alloc: Global, handles: &mut [Handle]) {
-    let opened = open(alloc, handles, 2);
-    if opened.is_err() {
-        holds(rt, "F6", is_memory(&opened));
-        holds(rt, "it is opened", open(alloc, handles, 2).is_ok());
+    let answer = opened(alloc, handles, 2);
+    if answer.is_err() {
+        holds(rt, "F6", opens_without_memory(&answer));
+        holds(rt, "it is opened", opened(alloc, handles, 2).is_ok());
     }
 }
 

@@ -1,7 +1,7 @@
 //! Tests of calls on handles that have no post.
 
-use crate::handles::calls::{holds, no_arrival, pair};
-use c_board::{Handle, Refusal, Which, open};
+use crate::handles::calls::{holds, no_arrival, opened, pair};
+use c_board::{Handle, OpenRefusal, Refusal, Which};
 use std::alloc::Global;
 use std::process::Abort;
 
@@ -68,7 +68,7 @@ fn handles_with_posts_are_not_opened(rt: HostRuntime) {
     holds(
         &rt,
         "it is a misuse",
-        matches!(open(alloc, &mut handles, 1), Err(Refusal::Misuse)),
+        matches!(opened(alloc, &mut handles, 1), Err(OpenRefusal::InUse)),
     );
     let [mut first, second] = handles;
     holds(&rt, "it sends", first.send(alloc, 2, b"m", b"").is_ok());
