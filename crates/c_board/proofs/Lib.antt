@@ -8,6 +8,7 @@ pub mod MeetLemmas
 pub mod MessageLemmas
 pub mod Names
 pub mod OpeningLemmas
+pub mod OverPosts
 pub mod SlotShares
 pub mod SlotValues
 pub mod Values
