@@ -23,7 +23,10 @@
  *     read it. During every other call with it, no other thread uses it.
  *   - Where a call wants all posts of a board, no other thread uses one of them. Posts of two boards are refused. The
  *     exception is a program compiled with the header of version 1.0: there the posts are of one board.
- *   - Buffers are as long as stated. The outputs of a call overlap nothing else that it gets, and no post or board.
+ *   - No thread ends within a call, by a cancellation, an exception or longjmp. A post whose thread ended between two
+ *     calls may go on in another thread.
+ *   - Buffers are as long as stated. What a call writes overlaps nothing else that it writes or reads, and no post or
+ *     board. But *EVENT of msc_send and msc_send_all is written last: it may lie anywhere but in a post or a board.
  *   - All calls use one allocator. No call is made in a signal handler, nor in a forked child of a process with
  *     threads.
  *
@@ -165,17 +168,17 @@ int32_t msc_send_all_(msc_post *post, uint32_t to, const uint8_t *bytes, size_t 
 int32_t msc_receive_(msc_post *post, uint32_t from, msc_arrival *arrival);
 int32_t msc_any_(msc_post *post, msc_arrival *arrival);
 int32_t msc_receive_up_to_(msc_post *post, uint32_t from, msc_arrival *arrivals, size_t most, size_t *count);
-int32_t msc_name_(msc_post *post, uint8_t *buffer, size_t room, size_t *length);
-int32_t msc_body_(msc_post *post, uint8_t *buffer, size_t room, size_t *length);
-int32_t msc_races_(msc_post *post, uint32_t *buffer, size_t room, size_t *count);
-int32_t msc_name_of_(msc_post *post, size_t which, uint8_t *buffer, size_t room, size_t *length);
-int32_t msc_body_of_(msc_post *post, size_t which, uint8_t *buffer, size_t room, size_t *length);
-int32_t msc_races_of_(msc_post *post, size_t which, uint32_t *buffer, size_t room, size_t *count);
+int32_t msc_name_(const msc_post *post, uint8_t *buffer, size_t room, size_t *length);
+int32_t msc_body_(const msc_post *post, uint8_t *buffer, size_t room, size_t *length);
+int32_t msc_races_(const msc_post *post, uint32_t *buffer, size_t room, size_t *count);
+int32_t msc_name_of_(const msc_post *post, size_t which, uint8_t *buffer, size_t room, size_t *length);
+int32_t msc_body_of_(const msc_post *post, size_t which, uint8_t *buffer, size_t room, size_t *length);
+int32_t msc_races_of_(const msc_post *post, size_t which, uint32_t *buffer, size_t room, size_t *count);
 int32_t msc_close_(msc_post *post, uint32_t to);
 int32_t msc_open_coregion_(msc_post *post);
 int32_t msc_close_coregion_(msc_post *post);
 int32_t msc_reserve_(msc_post *post, uint32_t events);
-int32_t msc_event_(msc_post *post, uint32_t number, msc_event *event, uint8_t *buffer, size_t room);
+int32_t msc_event_(const msc_post *post, uint32_t number, msc_event *event, uint8_t *buffer, size_t room);
 int32_t msc_gather_(msc_post *posts, size_t count, msc_board *board);
 int32_t msc_meet_(msc_post *posts, size_t count);
 int32_t msc_carry_over_(msc_board *board, msc_post *posts, size_t count, size_t *carried, size_t room, size_t *total);
@@ -213,26 +216,31 @@ static inline int msc_open(msc_post *posts, size_t count, uint32_t capacity) {
  * slot, so try again later. A body takes one allocation. */
 static inline int msc_send(msc_post *post, uint32_t to, const char *name, const void *body, size_t length,
                            uint32_t *event) {
-    uint32_t ignored = 0;
+    uint32_t number = 0;
+    int answer;
     if (post == NULL || name == NULL || (body == NULL && length != 0)) return MSC_MISUSE;
     if (body == NULL) body = &msc_no_bytes_;
-    if (event == NULL) event = &ignored;
-    return msc_send_(post, to, (const uint8_t *)name, strlen(name), (const uint8_t *)body, length, event);
+    answer = msc_send_(post, to, (const uint8_t *)name, strlen(name), (const uint8_t *)body, length, &number);
+    if (answer == MSC_DONE && event != NULL) *event = number;
+    return answer;
 }
 
 /* Sends COUNT messages to the instance TO, one directly after another and with one store: all of them or none. BYTES
  * has LENGTH bytes: the first message's name, its body, the second one's name, and so on. MESSAGES gives the length of
- * each; together they are LENGTH. All bytes are copied. *EVENT receives the number of the first send among this
- * instance's events, or 0 if COUNT is 0; the others have the next numbers. EVENT may be NULL. A refusal of one message
- * refuses all. MSC_TOO_MANY: the lane has fewer slots. MSC_FULL: fewer slots are free. */
+ * each; together they are LENGTH (else MSC_MISUSE, and nothing is looked at). All bytes are copied. *EVENT receives the
+ * number of the first send among this instance's events, or 0 if COUNT is 0; the others have the next numbers. EVENT
+ * may be NULL. A refusal of one message refuses all. MSC_TOO_MANY: the lane has fewer slots. MSC_FULL: fewer slots are
+ * free. */
 static inline int msc_send_all(msc_post *post, uint32_t to, const void *bytes, size_t length,
                                const msc_message *messages, size_t count, uint32_t *event) {
-    uint32_t ignored = 0;
+    uint32_t number = 0;
+    int answer;
     if (post == NULL || (bytes == NULL && length != 0) || (messages == NULL && count != 0)) return MSC_MISUSE;
     if (bytes == NULL) bytes = &msc_no_bytes_;
     if (messages == NULL) messages = (const msc_message *)(const void *)&msc_no_bytes_;
-    if (event == NULL) event = &ignored;
-    return msc_send_all_(post, to, (const uint8_t *)bytes, length, messages, count, event);
+    answer = msc_send_all_(post, to, (const uint8_t *)bytes, length, messages, count, &number);
+    if (answer == MSC_DONE && event != NULL) *event = number;
+    return answer;
 }
 
 /* Receives the first message that waits on the lane from the instance FROM, and describes it in *ARRIVAL. It stays in
@@ -267,34 +275,34 @@ static inline int msc_receive_up_to(msc_post *post, uint32_t from, msc_arrival *
  * races in numbers. *LENGTH or *COUNT receives the whole length. A race is the number of the earlier event among this
  * instance's events, from 1. After msc_receive_up_to the last message is the last of its array. MSC_MISUSE: no message
  * has come yet. */
-static inline int msc_name(msc_post *post, char *buffer, size_t room, size_t *length) {
+static inline int msc_name(const msc_post *post, char *buffer, size_t room, size_t *length) {
     if (post == NULL || length == NULL || (buffer == NULL && room != 0)) return MSC_MISUSE;
     return msc_name_(post, buffer == NULL ? (uint8_t *)&msc_no_bytes_ : (uint8_t *)buffer, room, length);
 }
 
-static inline int msc_body(msc_post *post, void *buffer, size_t room, size_t *length) {
+static inline int msc_body(const msc_post *post, void *buffer, size_t room, size_t *length) {
     if (post == NULL || length == NULL || (buffer == NULL && room != 0)) return MSC_MISUSE;
     return msc_body_(post, buffer == NULL ? (uint8_t *)&msc_no_bytes_ : (uint8_t *)buffer, room, length);
 }
 
-static inline int msc_races(msc_post *post, uint32_t *buffer, size_t room, size_t *count) {
+static inline int msc_races(const msc_post *post, uint32_t *buffer, size_t room, size_t *count) {
     if (post == NULL || count == NULL || (buffer == NULL && room != 0)) return MSC_MISUSE;
     return msc_races_(post, buffer == NULL ? (uint32_t *)&msc_no_bytes_ : buffer, room, count);
 }
 
 /* The same for the message that ARRIVALS[WHICH] of the last msc_receive_up_to describes. After a receive of one
  * message, WHICH is 0. MSC_MISUSE: fewer came. */
-static inline int msc_name_of(msc_post *post, size_t which, char *buffer, size_t room, size_t *length) {
+static inline int msc_name_of(const msc_post *post, size_t which, char *buffer, size_t room, size_t *length) {
     if (post == NULL || length == NULL || (buffer == NULL && room != 0)) return MSC_MISUSE;
     return msc_name_of_(post, which, buffer == NULL ? (uint8_t *)&msc_no_bytes_ : (uint8_t *)buffer, room, length);
 }
 
-static inline int msc_body_of(msc_post *post, size_t which, void *buffer, size_t room, size_t *length) {
+static inline int msc_body_of(const msc_post *post, size_t which, void *buffer, size_t room, size_t *length) {
     if (post == NULL || length == NULL || (buffer == NULL && room != 0)) return MSC_MISUSE;
     return msc_body_of_(post, which, buffer == NULL ? (uint8_t *)&msc_no_bytes_ : (uint8_t *)buffer, room, length);
 }
 
-static inline int msc_races_of(msc_post *post, size_t which, uint32_t *buffer, size_t room, size_t *count) {
+static inline int msc_races_of(const msc_post *post, size_t which, uint32_t *buffer, size_t room, size_t *count) {
     if (post == NULL || count == NULL || (buffer == NULL && room != 0)) return MSC_MISUSE;
     return msc_races_of_(post, which, buffer == NULL ? (uint32_t *)&msc_no_bytes_ : buffer, room, count);
 }
@@ -331,8 +339,9 @@ static inline int msc_close_coregion(msc_post *post) {
     return msc_close_coregion_(post);
 }
 
-/* Allocates room for the next EVENTS events of this post, at most 4096. On boards of up to 8 instances, while some room
- * is left, msc_send allocates only for a body. MSC_NO_MEMORY: nothing has changed. */
+/* Allocates room for the next EVENTS events of this post, at most 4096. While some room is left, msc_send allocates only
+ * for a body, and nothing for an empty one: on boards of up to 8 instances, and on each board until this post receives.
+ * MSC_NO_MEMORY: nothing has changed. */
 static inline int msc_reserve(msc_post *post, uint32_t events) {
     if (post == NULL) return MSC_MISUSE;
     return msc_reserve_(post, events);
@@ -340,7 +349,7 @@ static inline int msc_reserve(msc_post *post, uint32_t events) {
 
 /* Describes in *EVENT the event with this NUMBER, from 1, among those that this post has sent and received. Copies the
  * message's name, as much as its ROOM allows. MSC_NO_SUCH_EVENT: there are fewer. */
-static inline int msc_line_event(msc_post *post, uint32_t number, msc_event *event, char *name, size_t room) {
+static inline int msc_line_event(const msc_post *post, uint32_t number, msc_event *event, char *name, size_t room) {
     if (post == NULL || event == NULL || (name == NULL && room != 0)) return MSC_MISUSE;
     return msc_event_(post, number, event, name == NULL ? (uint8_t *)&msc_no_bytes_ : (uint8_t *)name, room);
 }

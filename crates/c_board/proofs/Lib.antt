@@ -7,6 +7,7 @@ pub mod Lists
 pub mod MeetLemmas
 pub mod MessageLemmas
 pub mod Names
+pub mod OverPosts
 pub mod SlotShares
 pub mod SlotValues
 pub mod Values

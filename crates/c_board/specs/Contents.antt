@@ -18,3 +18,9 @@ board_in None = None
 board_in (Some (Post state)) = None
 board_in (Some (Board it)) = Some it
 board_in (Some Away) = None
+
+-- a call over the post of a handle: the post does this, and stays in the handle; without a post the call is a misuse
+abbrev pub OverPost : Option PostStateView → Option Kept → Option Kept → Type 0 → (PostStateView → PostStateView → Type 0)
+    → Type 0
+OverPost None old new refused Does = (new ≡ old) × refused
+OverPost (Some state) old new refused Does = (after : PostStateView) × (new ≡ Some (Post after)) × Does state after

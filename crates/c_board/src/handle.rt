@@ -91,7 +91,7 @@ impl Handle {
 
     /// The post, if one is kept, to be used in place.
     #[inline(always)]
-    pub fn post_mut(&mut self) -> Option<&mut PostState>
+    pub(crate) fn post_mut(&mut self) -> Option<&mut PostState>
         ensures* writes_back { sem 𝓛 (LendsItsPost self.entry result) }
         ensures value { post_in self.old.slot.value ≡ option_copied_mut result }
     {
@@ -105,7 +105,7 @@ impl Handle {
 
     /// The post, if one is kept, to be read.
     #[inline(always)]
-    pub fn post(&self) -> Option<&PostState>
+    pub(crate) fn post(&self) -> Option<&PostState>
         ensures { post_in self.now.slot.value ≡ option_copied result }
     {
         if self.word == 0 {
@@ -117,7 +117,7 @@ impl Handle {
         }
     }
 
-    /// The board, if one is kept. Several threads may read it at once.
+    /// The board, if one is kept, to be read.
     pub fn board(&self) -> Option<&WholeBoard>
         ensures { board_in self.now.slot.value ≡ option_copied result }
     {

@@ -1,6 +1,4 @@
 //! Misuses: calls that the caller promised not to make.
-ghost use Rattle.std.specs.Prelude.{◌≡◌, ◌≤◌};
-ghost use Rattle.c_board.specs.Refusals.{of_misuse};
 
 /// What a caller did wrong. Then nothing has changed.
 #[derive(Clone, Copy)]
@@ -26,25 +24,4 @@ pub enum Numbering {
     Alike,
     /// By their causes: from 101 to 105, and 100 for a misuse of none of these causes.
     ByCause,
-}
-
-impl Misuse {
-    /// The misuse's number.
-    #[inline(always)]
-    pub fn number(self, misuses: Numbering) -> u32
-        ensures value { result ≡ of_misuse misuses self }
-        ensures small { result ≤ 105 }
-    {
-        match misuses {
-            Numbering::Alike => 100,
-            Numbering::ByCause => match self {
-                Misuse::NoPost => 101,
-                Misuse::NoBoard => 101,
-                Misuse::InUse => 103,
-                Misuse::WrongNumber => 104,
-                Misuse::OtherBoard => 105,
-                Misuse::NoMessage => 100,
-            },
-        }
-    }
 }

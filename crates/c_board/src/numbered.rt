@@ -2,8 +2,9 @@
 ghost use Rattle.std.specs.Prelude.{◌≡◌, ◌≤◌, ℕ};
 ghost use Rattle.c_board.specs.declared.misuse.Numbering.{Numbering};
 ghost use Rattle.c_board.specs.Refusals.{of_name, of_board, of_send, of_take, of_close, of_region};
+ghost use Rattle.c_board.specs.Refusals.{of_misuse};
 
-use crate::misuse::Numbering;
+use crate::misuse::{Misuse, Numbering};
 use board::{BoardError, CloseError, RegionError, SendError, TakeError};
 use chart::NameError;
 
@@ -15,6 +16,25 @@ pub trait Numbered: Copy {
     fn number(self, misuses: Numbering) -> u32
         ensures value { result ≡ number misuses self }
         ensures small { result ≤ 105 };
+}
+
+impl Numbered for Misuse {
+    ghost number = { of_misuse };
+
+    #[inline(always)]
+    fn number(self, misuses: Numbering) -> u32 {
+        match misuses {
+            Numbering::Alike => 100,
+            Numbering::ByCause => match self {
+                Misuse::NoPost => 101,
+                Misuse::NoBoard => 101,
+                Misuse::InUse => 103,
+                Misuse::WrongNumber => 104,
+                Misuse::OtherBoard => 105,
+                Misuse::NoMessage => 100,
+            },
+        }
+    }
 }
 
 impl Numbered for NameError {

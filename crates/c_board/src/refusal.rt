@@ -2,6 +2,8 @@
 ghost use Rattle.std.specs.Prelude.{◌≡◌, ◌≤◌};
 ghost use Rattle.c_board.specs.Refusals.{number_of, of_name, of_board, of_send, of_take, of_close, of_region};
 
+use crate::misuse::Numbering;
+use crate::numbered::Numbered;
 use board::{BoardError, CloseError, RegionError, SendError, TakeError};
 use chart::NameError;
 
@@ -140,5 +142,14 @@ impl Refusal {
             Refusal::Closing(error) => close_number(error),
             Refusal::Region(error) => region_number(error),
         }
+    }
+}
+
+impl Numbered for Refusal {
+    ghost number = { λ _ refusal. number_of refusal };
+
+    #[inline(always)]
+    fn number(self, _misuses: Numbering) -> u32 {
+        Refusal::number(self)
     }
 }

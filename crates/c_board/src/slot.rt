@@ -84,6 +84,3 @@ impl Slot {
 
 // The content of the box may move to another thread, and nobody else has the pointer.
 unsafe impl Send for Slot {}
-
-// Several threads may read the content of the box, if none changes it.
-unsafe impl Sync for Slot {}

@@ -179,7 +179,7 @@ static void refusals(void) {
 /* Several messages at once: all of them or none. */
 static void several(void) {
     static const msc_message three[] = {{1, 2}, {2, 0}, {3, 1}}, bad[] = {{1, 2}, {0, 2}, {3, 1}};
-    static const msc_message beyond[] = {{1, 2}, {2, 0}, {3, 9}, {1, 1}};
+    static const msc_message beyond[] = {{1, 2}, {2, 0}, {3, 9}, {1, 1}}, wraps[] = {{1, SIZE_MAX}, {1, 8}};
     msc_post posts[2] = {MSC_POST_INIT};
     msc_arrival came;
     uint32_t event = 9;
@@ -187,7 +187,12 @@ static void several(void) {
     size_t length;
     is("a board", msc_open(posts, 2, 4), MSC_DONE);
     is("a bad name", msc_send_all(&posts[0], 2, "a12bbccc3", 9, bad, 3, &event), MSC_NAME_EMPTY);
-    is("names beyond the bytes", msc_send_all(&posts[0], 2, "a12bbccc3", 9, beyond, 4, &event), MSC_NAME_EMPTY);
+    is("bodies beyond the bytes", msc_send_all(&posts[0], 2, "a12bbccc3", 9, beyond, 4, &event), MSC_MISUSE);
+    is("bytes behind the last body", msc_send_all(&posts[0], 2, "a12bbccc3d", 10, three, 3, &event), MSC_MISUSE);
+    is("a byte too few", msc_send_all(&posts[0], 2, "a12bbccc", 8, three, 3, &event), MSC_MISUSE);
+    is("lengths whose sum wraps", msc_send_all(&posts[0], 2, "a12bbccc3", 9, wraps, 2, &event), MSC_MISUSE);
+    is("bytes of no message", msc_send_all(&posts[0], 2, "a", 1, NULL, 0, &event), MSC_MISUSE);
+    is("wrong lengths to none", msc_send_all(&posts[0], 3, "a12bbccc3", 9, beyond, 4, &event), MSC_MISUSE);
     is("to none", msc_send_all(&posts[0], 3, "a12bbccc3", 9, three, 3, &event), MSC_NO_SUCH_INSTANCE);
     is("to itself", msc_send_all(&posts[0], 1, "a12bbccc3", 9, three, 3, &event), MSC_TO_ITSELF);
     is("nothing was sent", msc_receive(&posts[1], 1, &came), MSC_NOTHING);
@@ -210,6 +215,12 @@ static void several(void) {
     is("its name", msc_name(&posts[1], text, 64, &length), MSC_DONE);
     is_text("its name", text, length, "ccc");
     is("no fourth", msc_receive(&posts[1], 1, &came), MSC_NOTHING);
+    event = 7;
+    is("an event in its body", msc_send(&posts[0], 2, "m", &event, sizeof event, &event), MSC_DONE);
+    is("its number", (int)event, 5);
+    is("its receive", msc_receive(&posts[1], 1, &came), MSC_DONE);
+    is("its body", msc_body(&posts[1], &event, sizeof event, &length), MSC_DONE);
+    is("what was sent", (int)event, 7);
     msc_free(&posts[0]);
     msc_free(&posts[1]);
     is("a board of one slot", msc_open(posts, 2, 1), MSC_DONE);

@@ -1,7 +1,10 @@
 //! Tests of calls on handles that have no post.
 
 use crate::handles::calls::{holds, no_arrival, opened, pair};
-use c_board::{Handle, OpenRefusal, Refusal, Which};
+use c_board::{
+    AnyRefusal, CloseRefusal, EventRefusal, Handle, Misuse, OpenRefusal, ReserveRefusal, SendRefusal,
+    TakeRefusal, Which,
+};
 use std::alloc::Global;
 use std::process::Abort;
 
@@ -13,35 +16,44 @@ fn misuses(rt: &impl Abort, alloc: Global, handle: &mut Handle) {
     holds(
         rt,
         "a send",
-        matches!(handle.send(alloc, 2, b"m", b""), Err(Refusal::Misuse)),
+        matches!(
+            handle.send(alloc, 2, b"m", b""),
+            Err(SendRefusal::Misuse(Misuse::NoPost))
+        ),
     );
     holds(
         rt,
         "a receive",
-        matches!(handle.receive(alloc, 2, &mut output), Err(Refusal::Misuse)),
+        matches!(
+            handle.receive(2, &mut output),
+            Err(TakeRefusal::Misuse(Misuse::NoPost))
+        ),
     );
-    holds(rt, "any", matches!(handle.any(alloc), Err(Refusal::Misuse)));
+    holds(rt, "any", matches!(handle.any(), Err(AnyRefusal::Misuse(Misuse::NoPost))));
     holds(
         rt,
         "a close",
-        matches!(handle.close(alloc, 2), Err(Refusal::Misuse)),
+        matches!(handle.close(2), Err(CloseRefusal::Misuse(Misuse::NoPost))),
     );
     holds(
         rt,
         "room",
-        matches!(handle.reserve(alloc, 1), Err(Refusal::Misuse)),
+        matches!(handle.reserve(1), Err(ReserveRefusal::Misuse(Misuse::NoPost))),
     );
     holds(
         rt,
         "an event",
-        matches!(handle.event(alloc, 1, &mut bytes), Err(Refusal::Misuse)),
+        matches!(
+            handle.event(1, &mut bytes),
+            Err(EventRefusal::Misuse(Misuse::NoPost))
+        ),
     );
     holds(
         rt,
         "races",
         matches!(
-            handle.copy_races(alloc, Which::Last, &mut events),
-            Err(Refusal::Misuse)
+            handle.copy_races(Which::Last, &mut events),
+            Err(Misuse::NoPost)
         ),
     );
 }
