@@ -17,10 +17,12 @@
  *
  * WHAT THE CALLER PROMISES, and no proof can see:
  *   - A post or a board is zero at first (MSC_POST_INIT, MSC_BOARD_INIT). It is never copied, nor written by others.
- *   - One thread at a time uses a post or a board, even to read it. Another thread may take over behind a lock, a
- *     thread's start or a join. Different threads may use the posts of one board at the same time: that is what they
- *     are for.
- *   - Where a call wants all posts of a board, the posts are of one board, and no other thread uses one of them.
+ *   - One thread at a time uses a post, even to read it. Another thread may take over behind a lock, a thread's start
+ *     or a join. Different threads may use the posts of one board at the same time: that is what they are for.
+ *   - Several threads may read an msc_board at the same time: msc_board_text, msc_board_report and msc_board_left only
+ *     read it. During every other call with it, no other thread uses it.
+ *   - Where a call wants all posts of a board, no other thread uses one of them. Posts of two boards are refused. But
+ *     posts that msc_open_ of version 1.0 opened are of one board, since its boards all have one number.
  *   - No thread ends within a call, by a cancellation, an exception or longjmp. A post whose thread ended between two
  *     calls may go on in another thread.
  *   - Buffers are as long as stated. What a call writes overlaps nothing else that it writes or reads, and no post or
@@ -30,8 +32,9 @@
  *
  * ANSWERS. No call waits. 0 is done. 1 means that no message waits. 2 means that none waits and none will come. A
  * number below 0 is a refusal: -N for the refusal FN, -100 for a misuse. A misuse is a null pointer, a handle wrongly
- * empty or in use, posts of two boards, or a wrong number of names. A refused call changes nothing, except that the
- * post may have seen more. Which of several refusals is first: docs/reference/refusals.md. In words: msc_refusal_text.
+ * empty or in use, posts of two boards, or a wrong number of names. New calls of version 1.1 and msc_open answer a
+ * misuse by its cause, from -101 on: MSC_IS_MISUSE. A refused call changes nothing, except that the post may have seen
+ * more. Which of several refusals is first: docs/reference/refusals.md. In words: msc_refusal_text.
  */
 #ifndef MSC_H
 #define MSC_H
@@ -81,8 +84,15 @@ enum {
     MSC_COREGION_NOT_OPEN = -29, /* F29: no coregion is open */
     MSC_IN_COREGION = -30,      /* F30: a coregion contains no sends */
     MSC_NO_SUCH_EVENT = -31,    /* F31: the line has no event with this number */
-    MSC_MISUSE = -100
+    MSC_MISUSE = -100,          /* a misuse; from a call of version 1.1: one without a cause below */
+    MSC_EMPTY = -101,           /* a handle is empty, or was freed */
+    MSC_IN_USE = -103,          /* a handle that should be empty is in use */
+    MSC_WRONG_NUMBER = -104,    /* a number or a count that doesn't fit the rest of the call */
+    MSC_OTHER_BOARD = -105      /* the posts are of two boards */
 };
+
+/* Whether an answer is a misuse, of any cause. */
+#define MSC_IS_MISUSE(answer) ((answer) <= MSC_MISUSE && (answer) >= MSC_OTHER_BOARD)
 
 /* The result of gathering a board. Its words are for the library alone; it is empty when both are zero. */
 typedef struct {
@@ -150,6 +160,7 @@ typedef struct {
 
 /* The exports of the library. Call the functions below instead: they check for NULL. */
 int32_t msc_open_(msc_post *posts, size_t count, uint32_t capacity);
+int32_t msc_open_numbered_(msc_post *posts, size_t count, uint32_t capacity, uint64_t origin, uint64_t number);
 int32_t msc_send_(msc_post *post, uint32_t to, const uint8_t *name, size_t name_length, const uint8_t *body,
                   size_t body_length, uint32_t *event);
 int32_t msc_send_all_(msc_post *post, uint32_t to, const uint8_t *bytes, size_t length, const msc_message *messages,
@@ -171,10 +182,10 @@ int32_t msc_event_(const msc_post *post, uint32_t number, msc_event *event, uint
 int32_t msc_gather_(msc_post *posts, size_t count, msc_board *board);
 int32_t msc_meet_(msc_post *posts, size_t count);
 int32_t msc_carry_over_(msc_board *board, msc_post *posts, size_t count, size_t *carried, size_t room, size_t *total);
-int32_t msc_board_text_(msc_board *board, const uint8_t *names, size_t names_length, const size_t *lengths,
+int32_t msc_board_text_(const msc_board *board, const uint8_t *names, size_t names_length, const size_t *lengths,
                         size_t count, uint8_t *buffer, size_t room, size_t *length);
-int32_t msc_board_report_(msc_board *board, size_t number, msc_report *report, uint32_t *buffer, size_t room);
-int32_t msc_board_left_(msc_board *board, const msc_place *place, msc_left *left, uint8_t *name, size_t name_room,
+int32_t msc_board_report_(const msc_board *board, size_t number, msc_report *report, uint32_t *buffer, size_t room);
+int32_t msc_board_left_(const msc_board *board, const msc_place *place, msc_left *left, uint8_t *name, size_t name_room,
                         uint8_t *body, size_t body_room);
 int32_t msc_perform_(uint32_t task, uint64_t seed, const uint8_t *text, size_t length, uint8_t *out, size_t out_room,
                      uint8_t *err, size_t err_room, msc_lengths *lengths);
@@ -186,12 +197,17 @@ uint32_t msc_version(void);
 /* A valid address for a buffer of no bytes: the library requires one even then. */
 static uint64_t msc_no_bytes_;
 
+/* How many boards this translation unit has opened. With its address, which no other counter has, the count numbers a
+ * board: no two boards of a process have the same pair. By it the library refuses posts of two boards. */
+static uint64_t msc_boards_opened_;
+
 /* Opens a board of COUNT instances (2 to 32) whose lanes have CAPACITY slots (1 to 64). posts[i] becomes the post of
- * instance i + 1. All posts have to be empty. On MSC_BAD_SIZE, MSC_BAD_CAPACITY or MSC_NO_MEMORY they stay so. Any
- * thread may call. */
+ * instance i + 1. All posts have to be empty (else MSC_IN_USE). On MSC_BAD_SIZE, MSC_BAD_CAPACITY or MSC_NO_MEMORY they
+ * stay so. Any thread may call. */
 static inline int msc_open(msc_post *posts, size_t count, uint32_t capacity) {
     if (posts == NULL) return MSC_MISUSE;
-    return msc_open_(posts, count, capacity);
+    return msc_open_numbered_(posts, count, capacity, (uint64_t)(uintptr_t)&msc_boards_opened_,
+                              __atomic_add_fetch(&msc_boards_opened_, 1, __ATOMIC_RELAXED));
 }
 
 /* Sends a message to the instance TO. NAME is a C string: a letter followed by letters, digits and _, 1 to 32 bytes in
@@ -367,8 +383,8 @@ static inline int msc_gather(msc_post *posts, size_t count, msc_board *board) {
  * bytes. No zero byte is added. NAMES are the names of the COUNT instances, in order: C strings like names of messages,
  * no two the same. MSC_MISUSE: COUNT isn't the board's number of instances. Else the fault of the first bad name,
  * MSC_NAME_EMPTY to MSC_NAME_RESERVED or MSC_NAME_TWICE. MSC_NO_MEMORY. `mscrun check` and `mscview` read it. */
-static inline int msc_board_text(msc_board *board, const char *const *names, size_t count, char *buffer, size_t room,
-                                 size_t *length) {
+static inline int msc_board_text(const msc_board *board, const char *const *names, size_t count, char *buffer,
+                                 size_t room, size_t *length) {
     /* A name is passed on with at most one byte too many, by which the library sees that it is too long. */
     enum { MOST = 32, ENOUGH = 33 };
     uint8_t joined[MOST * ENOUGH];
@@ -390,14 +406,15 @@ static inline int msc_board_text(msc_board *board, const char *const *names, siz
 /* Describes in *REPORT the report with this NUMBER, from 1: each receive of the board has one, by instance and event.
  * Its races, which are numbers of earlier events of the same instance, go to BUFFER, as many as its ROOM allows (in
  * numbers). MSC_NO_SUCH_EVENT: the board has fewer receives. */
-static inline int msc_board_report(msc_board *board, size_t number, msc_report *report, uint32_t *buffer, size_t room) {
+static inline int msc_board_report(const msc_board *board, size_t number, msc_report *report, uint32_t *buffer,
+                                   size_t room) {
     if (board == NULL || report == NULL || (buffer == NULL && room != 0)) return MSC_MISUSE;
     return msc_board_report_(board, number, report, buffer == NULL ? (uint32_t *)&msc_no_bytes_ : buffer, room);
 }
 
 /* Describes in *LEFT the message with this NUMBER, from 1, that still waits on the lane from the instance FROM to the
  * instance TO. Copies its name and its body, as much as there is room for. MSC_NOTHING: fewer wait. */
-static inline int msc_board_left(msc_board *board, uint32_t from, uint32_t to, size_t number, msc_left *left,
+static inline int msc_board_left(const msc_board *board, uint32_t from, uint32_t to, size_t number, msc_left *left,
                                  char *name, size_t name_room, void *body, size_t body_room) {
     msc_place place;
     if (board == NULL || left == NULL || (name == NULL && name_room != 0) || (body == NULL && body_room != 0))
@@ -411,11 +428,11 @@ static inline int msc_board_left(msc_board *board, uint32_t from, uint32_t to, s
 
 /* Carries over what *BOARD left to all COUNT posts of a new board, in any order: so a run with full lines goes on. Each
  * message that still waited is sent again by its sender, lane by lane, in the order in which it waited. Each lane that
- * was closed is closed again. Then nothing is left on *BOARD. CARRIED, which may be NULL, has room for COUNT numbers:
- * how many sends each instance carried, by instance. These are the first events of its line.
+ * was closed is closed again. Then *BOARD has no message left and no closed lane. CARRIED, which may be NULL, has room
+ * for COUNT numbers: how many sends each instance carried, by instance. These are the first events of its line.
  *
- * The caller promises that the new board has as many instances, and lanes of at least as many slots. Its posts did
- * nothing yet: no event (else MSC_MISUSE), no close, no coregion.
+ * MSC_MISUSE also if the new board has another number of instances, or lanes of fewer slots, or if a post of it did
+ * something already: an event, a close, an open coregion.
  *
  * A race whose earlier event is a carried send may be enforced by what the earlier board saw: leave it out. No other
  * reported race is touched. Races between an event of the earlier board and a receive on the new one are lost: no board
@@ -424,11 +441,8 @@ static inline int msc_board_left(msc_board *board, uint32_t from, uint32_t to, s
  * On MSC_NOT_ALL_POSTS, MSC_NO_MEMORY (which may come first, as in msc_meet) or MSC_MISUSE nothing was sent, and what
  * was left stays in *BOARD. */
 static inline int msc_carry_over(msc_board *board, msc_post *posts, size_t count, size_t *carried) {
-    msc_event event;
-    size_t total, i;
+    size_t total;
     if (board == NULL || posts == NULL) return MSC_MISUSE;
-    for (i = 0; i < count; i++)
-        if (msc_line_event(&posts[i], 1, &event, NULL, 0) == MSC_DONE) return MSC_MISUSE;
     return msc_carry_over_(board, posts, count, carried == NULL ? (size_t *)&msc_no_bytes_ : carried,
                            carried == NULL ? 0 : count, &total);
 }
@@ -487,6 +501,10 @@ static inline const char *msc_refusal_text(int answer) {
     case MSC_IN_COREGION: return "nothing is sent in a coregion";
     case MSC_NO_SUCH_EVENT: return "the line has no event of this number";
     case MSC_MISUSE: return "misuse: no pointer, an empty handle, or what doesn't belong together";
+    case MSC_EMPTY: return "misuse: a handle is empty";
+    case MSC_IN_USE: return "misuse: a handle is in use";
+    case MSC_WRONG_NUMBER: return "misuse: a number doesn't fit the call";
+    case MSC_OTHER_BOARD: return "misuse: the posts are of two boards";
     default: return "no answer of this library";
     }
 }

@@ -34,6 +34,7 @@ thread.
 from __future__ import annotations
 
 import ctypes
+import itertools
 import os
 import threading
 import time
@@ -156,7 +157,7 @@ def _load() -> ctypes.CDLL:
     handle, lengths, number = POINTER(_Handle), POINTER(_Lengths), POINTER(c_uint32)
     buffer, size, sizes = c_void_p, c_size_t, POINTER(c_size_t)
     kinds: Dict[str, List[Any]] = {
-        "msc_open_": [handle, size, c_uint32],
+        "msc_open_numbered_": [handle, size, c_uint32, c_uint64, c_uint64],
         "msc_send_": [handle, c_uint32, buffer, size, buffer, size, number],
         "msc_send_all_": [handle, c_uint32, buffer, size, lengths, size, number],
         "msc_receive_": [handle, c_uint32, POINTER(_Arrival)],
@@ -413,6 +414,12 @@ class Post:
         )
 
 
+#: This module opens boards under the address of this word, which no other opener has, and counts them. So the library
+#: tells the posts of a board from those of others.
+_opened = c_uint64()
+_numbers = itertools.count(1)
+
+
 class Board:
     """A board of 2 to 32 instances whose lanes have 1 to 64 slots. `posts` has their posts, in order: instance 1 has
     `posts[0]`."""
@@ -423,7 +430,8 @@ class Board:
         self._handles = (_Handle * max(1, count))()
         self._count = count
         self.capacity = capacity
-        _done(_library.msc_open_(self._handles, count, capacity if 0 <= capacity <= 64 else 65))
+        slots = capacity if 0 <= capacity <= 64 else 65
+        _done(_library.msc_open_numbered_(self._handles, count, slots, ctypes.addressof(_opened), next(_numbers)))
         self.posts: Tuple[Post, ...] = tuple(
             Post(self, handle, number) for number, handle in enumerate(self._handles, 1)
         )

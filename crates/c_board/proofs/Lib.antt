@@ -7,7 +7,6 @@ pub mod Lists
 pub mod MeetLemmas
 pub mod MessageLemmas
 pub mod Names
-pub mod OpeningLemmas
 pub mod OverPosts
 pub mod SlotShares
 pub mod SlotValues

@@ -1,9 +1,9 @@
 -- What a handle keeps, and what a call over its post answers (this project's profile).
 use Rattle.std.specs.Prelude.{◌≡◌, Option, None, Some}
-use Rattle.board.specs.declared.gathering.Gathered.{Gathered}
 use Rattle.c_board.specs.declared.kept.Kept.{Kept}
 use Rattle.c_board.specs.declared.kept.Kept.TheVariants.{Post, Board, Away}
 use Rattle.c_board.specs.PostStates.{PostStateView}
+use Rattle.c_board.specs.Wholes.{WholeView}
 
 -- the post that a handle keeps, if it keeps one
 abbrev pub post_in : Option Kept → Option PostStateView
@@ -13,7 +13,7 @@ post_in (Some (Board it)) = None
 post_in (Some Away) = None
 
 -- the board that a handle keeps, if it keeps one
-abbrev pub board_in : Option Kept → Option Gathered
+abbrev pub board_in : Option Kept → Option WholeView
 board_in None = None
 board_in (Some (Post state)) = None
 board_in (Some (Board it)) = Some it

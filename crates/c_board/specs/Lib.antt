@@ -20,4 +20,5 @@ pub mod Regions
 pub mod Reserving
 pub mod Sending
 pub mod SendingAll
+pub mod Wholes
 pub mod Words

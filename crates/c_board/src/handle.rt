@@ -9,7 +9,7 @@ use crate::kept::Kept;
 use crate::loose::Loose;
 use crate::post_state::PostState;
 use crate::slot::Slot;
-use board::Gathered;
+use crate::whole_board::WholeBoard;
 use std::alloc::Global;
 use std::mem;
 
@@ -118,7 +118,7 @@ impl Handle {
     }
 
     /// The board, if one is kept, to be read.
-    pub fn board(&self) -> Option<&Gathered>
+    pub fn board(&self) -> Option<&WholeBoard>
         ensures { board_in self.now.slot.value ≡ option_copied result }
     {
         if self.word == 0 {

@@ -7,7 +7,7 @@ ghost use Rattle.c_board.specs.Contents.{post_in};
 ghost use Rattle.c_board.specs.Lending.{LendsPost};
 
 use crate::post_state::PostState;
-use board::Gathered;
+use crate::whole_board::WholeBoard;
 use std::alloc::{AllocError, Global};
 
 /// What a handle keeps in its box.
@@ -16,7 +16,7 @@ pub enum Kept {
     /// The post of an instance.
     Post(PostState),
     /// The result of gathering a whole board.
-    Board(Gathered),
+    Board(WholeBoard),
     /// Nothing, while it is moved elsewhere.
     Away,
 }

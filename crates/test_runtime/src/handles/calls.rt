@@ -1,10 +1,16 @@
 //! The calls on handles that tests make, and the assertions about their answers.
 
 use board::Peek;
-use c_board::{Arrived, Handle, Numbered, Numbering, SendRefusal, Which, open};
+use c_board::{Arrived, BoardNumber, Handle, Numbered, Numbering, SendRefusal, Which, open};
 use chart::EventNo;
 use std::alloc::Global;
 use std::process::Abort;
+
+/// The number of a test's board.
+pub const FIRST: BoardNumber = BoardNumber {
+    origin: 0,
+    count: 1,
+};
 
 /// Asserts that something holds.
 pub fn holds(rt: &impl Abort, what: &str, fact: bool) {
@@ -17,7 +23,7 @@ pub fn pair(rt: &impl Abort, alloc: Global, capacity: u32) -> [Handle; 2] {
     holds(
         rt,
         "a board is opened",
-        open(alloc, &mut handles, capacity).is_ok(),
+        open(alloc, &mut handles, capacity, FIRST).is_ok(),
     );
     handles
 }
