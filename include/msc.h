@@ -21,8 +21,8 @@
  *     or a join. Different threads may use the posts of one board at the same time: that is what they are for.
  *   - Several threads may read an msc_board at the same time: msc_board_text, msc_board_report and msc_board_left only
  *     read it. During every other call with it, no other thread uses it.
- *   - Where a call wants all posts of a board, no other thread uses one of them. Posts of two boards are refused. But
- *     posts that msc_open_ of version 1.0 opened are of one board, since its boards all have one number.
+ *   - Where a call wants all posts of a board, no other thread uses one of them. Posts of two boards are refused. The
+ *     exception is a program compiled with the header of version 1.0: there the posts are of one board.
  *   - No thread ends within a call, by a cancellation, an exception or longjmp. A post whose thread ended between two
  *     calls may go on in another thread.
  *   - Buffers are as long as stated. What a call writes overlaps nothing else that it writes or reads, and no post or
@@ -431,8 +431,8 @@ static inline int msc_board_left(const msc_board *board, uint32_t from, uint32_t
  * was closed is closed again. Then *BOARD has no message left and no closed lane. CARRIED, which may be NULL, has room
  * for COUNT numbers: how many sends each instance carried, by instance. These are the first events of its line.
  *
- * MSC_MISUSE also if the new board has another number of instances, or lanes of fewer slots, or if a post of it did
- * something already: an event, a close, an open coregion.
+ * MSC_MISUSE also if the new board has another number of instances, or lanes of fewer slots. The same if a post of it
+ * did something already: an event, a close, an open coregion.
  *
  * A race whose earlier event is a carried send may be enforced by what the earlier board saw: leave it out. No other
  * reported race is touched. Races between an event of the earlier board and a receive on the new one are lost: no board

@@ -414,24 +414,18 @@ class Post:
         )
 
 
-#: This module opens boards under the address of this word, which no other opener has, and counts them. So the library
-#: tells the posts of a board from those of others.
-_opened = c_uint64()
-_numbers = itertools.count(1)
-
-
 class Board:
     """A board of 2 to 32 instances whose lanes have 1 to 64 slots. `posts` has their posts, in order: instance 1 has
     `posts[0]`."""
-
+    _numbers = itertools.count(1)  # (its address and count number a board, by which posts of two boards are refused)
     def __init__(self, instances: int, capacity: int) -> None:
         # (a number that no memory is enough for is an invalid size too)
         count = instances if 0 <= instances <= 32 else 33
         self._handles = (_Handle * max(1, count))()
         self._count = count
         self.capacity = capacity
-        slots = capacity if 0 <= capacity <= 64 else 65
-        _done(_library.msc_open_numbered_(self._handles, count, slots, ctypes.addressof(_opened), next(_numbers)))
+        slots, given = capacity if 0 <= capacity <= 64 else 65, (id(self._numbers), next(self._numbers))
+        _done(_library.msc_open_numbered_(self._handles, count, slots, *given))
         self.posts: Tuple[Post, ...] = tuple(
             Post(self, handle, number) for number, handle in enumerate(self._handles, 1)
         )
@@ -548,8 +542,6 @@ class Gathered:
         its line there. Leave out races whose earlier event is one of them: the earlier board may have had them in
         order. Races between the two boards are not reported."""
         capacity = self._capacity if capacity is None else capacity
-        if capacity < self._capacity:
-            _refuse(-100)
         board = Board(self._count, capacity)
         carried, total = (c_size_t * self._count)(), c_size_t()
         with self._lock:

@@ -97,8 +97,8 @@ impl Gathered {
 
     /// Opens the next board of a run, with as many instances and lanes of `capacity` slots, and carries over to it what
     /// this one left. Each message that still waited is sent again by its sender, in order, and each lane that was
-    /// closed is closed again. Then no message and no closed lane is left here. Also returns how many sends each instance carried, by
-    /// instance: they are the first events of its line on the new board.
+    /// closed is closed again. Then no message and no closed lane is left here. Also returns how many sends each
+    /// instance carried, by instance: they are the first events of its line on the new board.
     ///
     /// A race whose earlier event is a carried send may be enforced by what this board saw: leave it out. Races between
     /// an event of this board and a receive on the next one are not reported. An open coregion isn't carried over, nor

@@ -7,8 +7,8 @@ use chart::InstanceNo;
 use std::marker::Model;
 use std::sync::Arc;
 
-/// A post with its board's words and number. It also keeps the instance from which it received last, and the messages of the last
-/// call that received some. `known` is the name given to its last send, or any name.
+/// A post with its board's words and number. It also keeps the instance from which it received last, and the messages
+/// of the last call that received some. `known` is the name given to its last send, or any name.
 #[derive(Drop)]
 pub struct PostState {
     pub(crate) table: Arc<BoardTable>,

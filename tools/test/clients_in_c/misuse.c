@@ -328,51 +328,6 @@ static void whole_boards(void) {
     for (int i = 0; i < 3; i++) msc_free(&posts[i]);
 }
 
-/* Boards of three instances with lanes of two slots left this. It isn't carried over to a board of another size, nor to
- * one that was used. */
-static void unfit_boards(msc_board *board, size_t *carried) {
-    msc_post posts[4] = {MSC_POST_INIT};
-    is("a board of two", msc_open(posts, 2, 2), MSC_DONE);
-    is("carrying to fewer instances", msc_carry_over(board, posts, 2, carried), MSC_MISUSE);
-    for (int i = 0; i < 2; i++) msc_free(&posts[i]);
-    is("a board of four", msc_open(posts, 4, 2), MSC_DONE);
-    is("carrying to more instances", msc_carry_over(board, posts, 4, carried), MSC_MISUSE);
-    for (int i = 0; i < 4; i++) msc_free(&posts[i]);
-    is("a board with fewer slots", msc_open(posts, 3, 1), MSC_DONE);
-    is("carrying to fewer slots", msc_carry_over(board, posts, 3, carried), MSC_MISUSE);
-    for (int i = 0; i < 3; i++) msc_free(&posts[i]);
-    is("a board with a closed lane", msc_open(posts, 3, 2), MSC_DONE);
-    is("a close", msc_close(&posts[2], 1), MSC_DONE);
-    is("carrying to a closed lane", msc_carry_over(board, posts, 3, carried), MSC_MISUSE);
-    for (int i = 0; i < 3; i++) msc_free(&posts[i]);
-    is("a board with a coregion", msc_open(posts, 3, 2), MSC_DONE);
-    is("a coregion", msc_open_coregion(&posts[1]), MSC_DONE);
-    is("carrying to a coregion", msc_carry_over(board, posts, 3, carried), MSC_MISUSE);
-    is("the coregion's end", msc_close_coregion(&posts[1]), MSC_DONE);
-    is("an empty place among them", msc_carry_over(board, posts, 4, carried), MSC_MISUSE);
-    for (int i = 0; i < 3; i++) msc_free(&posts[i]);
-}
-
-/* Posts of two boards are refused in each order, and boards of version 1.0, which all have one number, are gathered. */
-static void numbered_boards(void) {
-    msc_post posts[4] = {MSC_POST_INIT}, swapped;
-    msc_board board = MSC_BOARD_INIT;
-    is("an export of 1.0", msc_open_(posts, 2, 1), MSC_DONE);
-    is("a second board", msc_open(posts + 2, 2, 1), MSC_DONE);
-    is("four posts of two boards", msc_gather(posts, 4, &board), MSC_MISUSE);
-    swapped = posts[1], posts[1] = posts[3], posts[3] = swapped;
-    is("one post of each", msc_meet(posts, 2), MSC_MISUSE);
-    is("the others", msc_meet(posts + 2, 2), MSC_MISUSE);
-    swapped = posts[1], posts[1] = posts[3], posts[3] = swapped;
-    is("the first board", msc_gather(posts, 2, &board), MSC_DONE);
-    msc_board_free(&board);
-    is("the second board", msc_gather(posts + 2, 2, &board), MSC_DONE);
-    msc_board_free(&board);
-    is("a misuse", MSC_IS_MISUSE(MSC_MISUSE), 1);
-    is("a misuse by its cause", MSC_IS_MISUSE(MSC_IN_USE) && MSC_IS_MISUSE(MSC_OTHER_BOARD), 1);
-    is("no other answer is", MSC_IS_MISUSE(MSC_DONE) || MSC_IS_MISUSE(MSC_NO_SUCH_EVENT), 0);
-}
-
 /* What a board left goes to the next one: in its order, with the lanes that were closed, and once. */
 static void boards_in_a_row(void) {
     msc_post posts[3] = {MSC_POST_INIT}, next[3] = {MSC_POST_INIT}, others[3] = {MSC_POST_INIT}, swapped;
@@ -398,7 +353,6 @@ static void boards_in_a_row(void) {
     swapped = next[2], next[2] = others[2], others[2] = swapped;
     is("a send", msc_send(&others[0], 2, "m", NULL, 0, NULL), MSC_DONE);
     is("carrying to a board in use", msc_carry_over(&board, others, 3, carried), MSC_MISUSE);
-    unfit_boards(&board, carried);
     is("no count is reported", (int)carried[0], 9);
     is("what was left stays", msc_board_left(&board, 1, 2, 2, &left, name, 32, body, 8), MSC_DONE);
     is_text("the second of it", name, left.name_length, "second");
@@ -461,7 +415,6 @@ int main(void) {
     full_line();
     whole_boards();
     boards_in_a_row();
-    numbered_boards();
     performed();
     return failures != 0;
 }

@@ -52,7 +52,11 @@ fn add_name(names: &mut Names, word: &[u8]) -> Result<(), NamesRefusal>
 
 /// The names that are one after another in these bytes, with these lengths. The first of F1 to F4, F22 and F6 that
 /// applies to a name refuses them.
-pub(crate) fn names_in(alloc: Global, bytes: &[u8], lengths: &[usize]) -> Result<Names, NamesRefusal>
+pub(crate) fn names_in(
+    alloc: Global,
+    bytes: &[u8],
+    lengths: &[usize],
+) -> Result<Names, NamesRefusal>
     requires { length lengths.now ≤ MAX_INSTANCES }
     ensures { ReadsNames (words_in bytes.now lengths.now) result }
 {

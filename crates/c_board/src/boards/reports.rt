@@ -66,11 +66,7 @@ fn copy_nth(reports: &[Report], number: usize, out: &mut [u32]) -> Option<Report
 /// Describes the board's report with this number, from 1. Each receive has one report, sorted by instance and index.
 /// The call copies out the report's races: the numbers of the earlier events, as many as there is room for. F31: the
 /// board has fewer receives.
-pub fn report_at(
-    board: &Handle,
-    number: usize,
-    out: &mut [u32],
-) -> Result<Reported, ReportRefusal>
+pub fn report_at(board: &Handle, number: usize, out: &mut [u32]) -> Result<Reported, ReportRefusal>
     ensures { HandleReports board.now.slot.value number out.old result out.new }
 {
     let Some(whole) = board.board() else {

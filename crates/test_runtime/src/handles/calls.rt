@@ -1,20 +1,25 @@
 //! The calls on handles that tests make, and the assertions about their answers.
 
 use board::Peek;
-use c_board::{Arrived, BoardNumber, Handle, Numbered, Numbering, SendRefusal, Which, open};
+use c_board::{
+    Arrived, BoardNumber, Handle, Numbered, Numbering, OpenRefusal, SendRefusal, Which, open,
+};
 use chart::EventNo;
 use std::alloc::Global;
 use std::process::Abort;
 
-/// The number of a test's board.
-pub const FIRST: BoardNumber = BoardNumber {
-    origin: 0,
-    count: 1,
-};
-
 /// Asserts that something holds.
 pub fn holds(rt: &impl Abort, what: &str, fact: bool) {
     assert!(rt; fact, "not so: {what}");
+}
+
+/// Opens a board over the handles, with this number of slots on each lane.
+pub fn opened(alloc: Global, handles: &mut [Handle], capacity: u32) -> Result<(), OpenRefusal> {
+    let number = BoardNumber {
+        origin: 1,
+        count: 1,
+    };
+    open(alloc, handles, capacity, number)
 }
 
 /// Handles with the two posts of a board with this number of slots on each lane.
@@ -23,7 +28,7 @@ pub fn pair(rt: &impl Abort, alloc: Global, capacity: u32) -> [Handle; 2] {
     holds(
         rt,
         "a board is opened",
-        open(alloc, &mut handles, capacity, FIRST).is_ok(),
+        opened(alloc, &mut handles, capacity).is_ok(),
     );
     handles
 }

@@ -1,7 +1,7 @@
 //! Tests of calls on handles whose growth is refused.
 
-use crate::handles::calls::{FIRST, gets, holds, pair};
-use c_board::{Handle, Numbered, Numbering, open};
+use crate::handles::calls::{gets, holds, opened, pair};
+use c_board::{Handle, Numbered, Numbering};
 use std::alloc::Global;
 use std::process::Abort;
 use std::test::Fail;
@@ -13,10 +13,10 @@ fn is_memory<T, E: Numbered>(answer: &Result<T, E>) -> bool {
 
 /// Opens a board, at the second attempt if memory was refused.
 fn opens(rt: &impl Abort, alloc: Global, handles: &mut [Handle]) {
-    let opened = open(alloc, handles, 2, FIRST);
-    if opened.is_err() {
-        holds(rt, "F6", is_memory(&opened));
-        holds(rt, "it is opened", open(alloc, handles, 2, FIRST).is_ok());
+    let answer = opened(alloc, handles, 2);
+    if answer.is_err() {
+        holds(rt, "F6", is_memory(&answer));
+        holds(rt, "it is opened", opened(alloc, handles, 2).is_ok());
     }
 }
 

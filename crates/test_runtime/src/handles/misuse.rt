@@ -1,9 +1,9 @@
 //! Tests of calls on handles that have no post.
 
-use crate::handles::calls::{FIRST, holds, no_arrival, pair};
+use crate::handles::calls::{holds, no_arrival, opened, pair};
 use c_board::{
     AnyRefusal, CloseRefusal, EventRefusal, Handle, Misuse, OpenRefusal, ReserveRefusal,
-    SendRefusal, TakeRefusal, Which, open,
+    SendRefusal, TakeRefusal, Which,
 };
 use std::alloc::Global;
 use std::process::Abort;
@@ -80,10 +80,7 @@ fn handles_with_posts_are_not_opened(rt: HostRuntime) {
     holds(
         &rt,
         "it is a misuse",
-        matches!(
-            open(alloc, &mut handles, 1, FIRST),
-            Err(OpenRefusal::InUse)
-        ),
+        matches!(opened(alloc, &mut handles, 1), Err(OpenRefusal::InUse)),
     );
     let [mut first, second] = handles;
     holds(&rt, "it sends", first.send(alloc, 2, b"m", b"").is_ok());

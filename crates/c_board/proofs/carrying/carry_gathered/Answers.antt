@@ -3,7 +3,6 @@ use Rattle.std.specs.Prelude.{Some, Ok, Err}
 use Rattle.std.specs.Global.{Vec}
 use Rattle.board.specs.declared.gathering.ClosedLane.{ClosedLane}
 use Rattle.board.specs.declared.gathering.Left.{Left}
-use Rattle.board.specs.Views.{PostView}
 use Rattle.board.specs.Gathering.{left_view, closed_view}
 use Rattle.board.specs.Parked.{AreAtBoard}
 use Rattle.board.specs.LongRuns.CarryingOver.{MayAllCarry}

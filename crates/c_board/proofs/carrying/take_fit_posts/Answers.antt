@@ -1,4 +1,4 @@
-use Rattle.std.proofs.Common.{◌∙◌, List, length, sym, ap, subst, arith}
+use Rattle.std.proofs.Common.{List, length, ap, subst, arith}
 use Rattle.std.specs.Prelude.{Result, Ok, Err}
 use Rattle.board.specs.Views.{PostView}
 use Rattle.c_board.specs.declared.carrying.Misfit.{Misfit}
@@ -16,7 +16,7 @@ pub returns-in-Ok : goal.returns-in-Ok
 returns-in-Ok c = (
   c.in_ok-taken.ensures,
   subst (λ (ps : List PostView). ChecksFit c.args.instances c.args.capacity ps (Ok tt)) c.as_slice.ensures.value
-  (subst (λ (answer : Result (Unit {0}) Misfit). ChecksFit c.args.instances c.args.capacity c.as_slice.result.now answer) c.in-Ok.is c.check_fit.ensures),
+      (subst (λ (answer : Result (Unit {0}) Misfit). ChecksFit c.args.instances c.args.capacity c.as_slice.result.now answer) c.in-Ok.is c.check_fit.ensures),
 )
 
 pub put_posts-requires-clause-as_many : goal.put_posts-requires-clause-as_many

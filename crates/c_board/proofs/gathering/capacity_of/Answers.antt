@@ -1,4 +1,4 @@
-use Rattle.std.proofs.Common.{sym, ap, ◌∙◌, arith}
+use Rattle.std.proofs.Common.{sym, ap, ◌∙◌}
 use Rattle.board.specs.Views.{PostView}
 use Rattle.c_board.proofs.Lists.{read_there}
 use Rattle.c_board.proofs.gathering.capacity_of.Goals as goal

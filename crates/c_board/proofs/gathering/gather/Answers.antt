@@ -59,8 +59,7 @@ returns-in-Ok-gather_parked c =
     let posts = c.in_ok-chairs.field-0.posts.items in
     let olds = kept_by c.args.handles.now in
     let k = c.capacity_of-capacity.result in
-    let slots = subst (λ (ps : List PostView). (post : PostView) → slice_get ps 0 ≡ Some post → post.board.capacity ≡ k) c.as_slice.ensures.value c.capacity_of-capacity.ensures in
-    (
+    let slots = subst (λ (ps : List PostView). (post : PostView) → slice_get ps 0 ≡ Some post → post.board.capacity ≡ k) c.as_slice.ensures.value c.capacity_of-capacity.ensures in (
       record {
         vacant = c.is_empty.ensures.yes c.if-not-is_empty.false;
         seats = seats_with chairs posts;

@@ -1,7 +1,7 @@
 use Rattle.std.proofs.Common.{ℕ, refl, sym, ap, ◌∙◌, subst}
 use Rattle.board.specs.Boards.{IsUnmade}
 use Rattle.board.specs.Known.{IsSized}
-use Rattle.c_board.specs.Opening.{all_of, kept_by}
+use Rattle.c_board.specs.Opening.{all_of}
 use Rattle.c_board.proofs.KeptLists.{are_seated, length-kept_by}
 use Rattle.c_board.proofs.opening.open.Goals as goal
 

@@ -11,8 +11,7 @@ returns-then-not-is-clause-no c = λ _.
     let chairs = c.args.chairs.now in
     let first = get_or chairs 0 c.index-chairs-0.result in
     let chair = c.chair-item.result in
-    let some : 0 < length chairs = omega (arith, c.loop-chair-test.true) in
-    (
+    let some : 0 < length chairs = omega (arith, c.loop-chair-test.true) in (
       c.loop-chair.chair-index,
       first,
       chair,

@@ -1,8 +1,7 @@
-use Rattle.std.proofs.Common.{◌≡◌, ◌∙◌, ℕ, List, length, refl, sym, ap, subst}
+use Rattle.std.proofs.Common.{◌∙◌, ℕ, List, length, refl, sym, ap, subst}
 use Rattle.std.specs.Prelude.{Some}
 use Rattle.chart.specs.NameSets.{AreNames}
 use Rattle.msc_text.specs.ChartText.{chart_text}
-use Rattle.c_board.specs.Boards.Naming.{words_in}
 use Rattle.c_board.specs.Copying.{put_over}
 use Rattle.c_board.specs.Wholes.{WholeView}
 use Rattle.c_board.proofs.BoardsLemmas.NameLemmas.{length-words}
@@ -36,8 +35,7 @@ pub returns-in-Some-text_in_memory : goal.returns-in-Some-text_in_memory
 returns-in-Some-text_in_memory c =
     let chart = c.whole.inside.gathered.chart in
     let same = c.in-Ok.ensures.0 in
-    let text = c.as_bytes.ensures ∙ c.in-Some-text_in_memory.ensures ∙ ap (λ (ns : List (List ℕ)). chart_text ns chart) same in
-    (
+    let text = c.as_bytes.ensures ∙ c.in-Some-text_in_memory.ensures ∙ ap (λ (ns : List (List ℕ)). chart_text ns chart) same in (
       record { gathered = c.whole.inside.gathered; capacity = c.whole.inside.capacity },
       c.in-Some.ensures ∙ ap (λ (it : WholeView). Some it) (sym c.whole.view_is),
       record {
