@@ -9,6 +9,7 @@ pub mod Copying
 pub mod EventInfos
 pub mod Gathering
 pub mod HandleLending
+pub mod Laws
 pub mod Lending
 pub mod Meeting
 pub mod Opening

@@ -16,8 +16,6 @@ use Rattle.c_board.specs.declared.misuse.Misuse.{Misuse}
 use Rattle.c_board.specs.declared.misuse.Misuse.TheVariants.{NoPost, NoBoard, InUse, WrongNumber, OtherBoard, NoMessage}
 use Rattle.c_board.specs.declared.misuse.Numbering.{Numbering}
 use Rattle.c_board.specs.declared.misuse.Numbering.TheVariants.{Alike, ByCause}
-use Rattle.c_board.specs.declared.refusal.Refusal.{Refusal}
-use Rattle.c_board.specs.declared.refusal.Refusal.TheVariants as why
 
 -- a misuse by its cause: 101 for what is empty or was freed, 103 for what is in use, 104 for a wrong number, 105 for
 -- posts of two boards, and 100 for what has no cause of its own
@@ -68,20 +66,3 @@ of_close closing.Closed = 12
 abbrev pub of_region : RegionError → ℕ
 of_region region.CoregionOpen = 28
 of_region region.CoregionNotOpen = 29
-
--- 100 is for a misuse, also for posts of two boards. Misuse has no number in that document
-abbrev pub number_of : Refusal → ℕ
-number_of why.Misuse = 100
-number_of (why.Naming error) = of_name error
-number_of why.BodyTooLong = 5
-number_of why.Memory = 6
-number_of why.NoInstance = 14
-number_of why.NoEvent = 31
-number_of why.NotAllPosts = 15
-number_of why.OtherBoard = 100
-number_of why.NameTwice = 22
-number_of (why.Opening error) = of_board error
-number_of (why.Sending error) = of_send error
-number_of (why.Taking error) = of_take error
-number_of (why.Closing error) = of_close error
-number_of (why.Region error) = of_region error

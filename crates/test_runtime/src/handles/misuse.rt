@@ -2,8 +2,8 @@
 
 use crate::handles::calls::{holds, no_arrival, opened, pair};
 use c_board::{
-    AnyRefusal, CloseRefusal, EventRefusal, Handle, Misuse, OpenRefusal, ReserveRefusal, SendRefusal,
-    TakeRefusal, Which,
+    AnyRefusal, CloseRefusal, EventRefusal, Handle, Misuse, OpenRefusal, ReserveRefusal,
+    SendRefusal, TakeRefusal, Which,
 };
 use std::alloc::Global;
 use std::process::Abort;
