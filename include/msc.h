@@ -26,7 +26,7 @@
  *   - No thread ends within a call, by a cancellation, an exception or longjmp. A post whose thread ended between two
  *     calls may go on in another thread.
  *   - Buffers are as long as stated. What a call writes overlaps nothing else that it writes or reads, and no post or
- *     board. But *EVENT of msc_send and msc_send_all is written last: it may lie anywhere but in a post or a board.
+ *     board. The exception is *EVENT of msc_send and msc_send_all, which is written last: it may lie in what they read.
  *   - All calls use one allocator. No call is made in a signal handler, nor in a forked child of a process with
  *     threads.
  *
@@ -339,8 +339,8 @@ static inline int msc_close_coregion(msc_post *post) {
     return msc_close_coregion_(post);
 }
 
-/* Allocates room for the next EVENTS events of this post, at most 4096. While some room is left, msc_send allocates only
- * for a body, and nothing for an empty one: on boards of up to 8 instances, and on each board until this post receives.
+/* Allocates room for the next EVENTS events of this post, at most 4096. On boards of up to 8 instances, while some room
+ * is left, msc_send allocates only for a body that isn't empty. On larger boards it does so until this post receives.
  * MSC_NO_MEMORY: nothing has changed. */
 static inline int msc_reserve(msc_post *post, uint32_t events) {
     if (post == NULL) return MSC_MISUSE;
