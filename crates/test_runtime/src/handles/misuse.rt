@@ -29,7 +29,11 @@ fn misuses(rt: &impl Abort, alloc: Global, handle: &mut Handle) {
             Err(TakeRefusal::Misuse(Misuse::NoPost))
         ),
     );
-    holds(rt, "any", matches!(handle.any(), Err(AnyRefusal::Misuse(Misuse::NoPost))));
+    holds(
+        rt,
+        "any",
+        matches!(handle.any(), Err(AnyRefusal::Misuse(Misuse::NoPost))),
+    );
     holds(
         rt,
         "a close",
@@ -38,7 +42,10 @@ fn misuses(rt: &impl Abort, alloc: Global, handle: &mut Handle) {
     holds(
         rt,
         "room",
-        matches!(handle.reserve(1), Err(ReserveRefusal::Misuse(Misuse::NoPost))),
+        matches!(
+            handle.reserve(1),
+            Err(ReserveRefusal::Misuse(Misuse::NoPost))
+        ),
     );
     holds(
         rt,
