@@ -10,9 +10,30 @@ use std::process::Abort;
 
 /// Asserts that each call is a misuse, and that the handle has no post afterwards.
 fn misuses(rt: &impl Abort, alloc: Global, handle: &mut Handle) {
-    let mut output = no_arrival();
+    changes_are_misuses(rt, alloc, handle);
     let mut bytes = [0; 8];
     let mut events = [0; 8];
+    holds(
+        rt,
+        "an event",
+        matches!(
+            handle.event(1, &mut bytes),
+            Err(EventRefusal::Misuse(Misuse::NoPost))
+        ),
+    );
+    holds(
+        rt,
+        "races",
+        matches!(
+            handle.copy_races(Which::Last, &mut events),
+            Err(Misuse::NoPost)
+        ),
+    );
+}
+
+/// Asserts this of the calls that change a post.
+fn changes_are_misuses(rt: &impl Abort, alloc: Global, handle: &mut Handle) {
+    let mut output = no_arrival();
     holds(
         rt,
         "a send",
@@ -45,22 +66,6 @@ fn misuses(rt: &impl Abort, alloc: Global, handle: &mut Handle) {
         matches!(
             handle.reserve(1),
             Err(ReserveRefusal::Misuse(Misuse::NoPost))
-        ),
-    );
-    holds(
-        rt,
-        "an event",
-        matches!(
-            handle.event(1, &mut bytes),
-            Err(EventRefusal::Misuse(Misuse::NoPost))
-        ),
-    );
-    holds(
-        rt,
-        "races",
-        matches!(
-            handle.copy_races(Which::Last, &mut events),
-            Err(Misuse::NoPost)
         ),
     );
 }
