@@ -339,9 +339,9 @@ static inline int msc_close_coregion(msc_post *post) {
     return msc_close_coregion_(post);
 }
 
-/* Allocates room for the next EVENTS events of this post, at most 4096. On boards of up to 8 instances, while some room
- * is left, msc_send allocates only for a body that isn't empty. On larger boards it does so until this post receives.
- * MSC_NO_MEMORY: nothing has changed. */
+/* Allocates room for the next EVENTS events of this post, at most 4096. While some room is left, msc_send allocates
+ * only for a body that isn't empty. This holds on boards of up to 8 instances, and on each board until this post
+ * receives. MSC_NO_MEMORY: nothing has changed. */
 static inline int msc_reserve(msc_post *post, uint32_t events) {
     if (post == NULL) return MSC_MISUSE;
     return msc_reserve_(post, events);

@@ -54,15 +54,16 @@ abbrev pub IsLastNamed : PostView → List ℕ → Type 0
 IsLastNamed post name = (event : Event) × (slice_get (line_of post) (length (line_of post) - 1) ≡ Some event)
     × (name_of event ≡ name)
 
--- the message stays in the handle, and this describes it
-pub record IsOutput (arrival : Arrival) (arrived : Arrived) (new : PostStateView) : Type 0 where
+-- the message stays in the handle, and this describes it; the post is of the same board
+pub record IsOutput (arrival : Arrival) (arrived : Arrived) (old new : PostStateView) : Type 0 where
   pub output : arrived ≡ arrived_of arrival
   pub stays : new.came ≡ arrival ∷ []
   pub last : new.last ≡ arrival.from
+  pub board : new.board_number ≡ old.board_number
 
 -- what a receive answers for a seated post: the same as the post's own receive
 abbrev pub PostTakes : PostStateView → ℕ → Result Found TakeRefusal → PostStateView → Type 0
-PostTakes old from (Ok (Message arrived)) new = (arrival : Arrival) × IsOutput arrival arrived new
+PostTakes old from (Ok (Message arrived)) new = (arrival : Arrival) × IsOutput arrival arrived old new
     × Sound old.post new.post × IsGot old.post from arrival new.post
 PostTakes old from (Ok Nothing) new = Keeps old new × Sound old.post new.post × Stays old.post new.post
     × IsFoundEmpty old.post from false new.post
@@ -76,7 +77,7 @@ PostTakes old from (Err (why.Post refused)) new = Keeps old new × Sound old.pos
 -- what a receive from any instance answers: the same as that of a mailbox which begins after the instance from which
 -- the post received last
 abbrev pub PostTakesAny : PostStateView → Result Found AnyRefusal → PostStateView → Type 0
-PostTakesAny old (Ok (Message arrived)) new = (arrival : Arrival) × IsOutput arrival arrived new
+PostTakesAny old (Ok (Message arrived)) new = (arrival : Arrival) × IsOutput arrival arrived old new
     × Sound old.post new.post × TakesAny old.post old.last (Ok (taken.Got arrival)) new.post
 PostTakesAny old (Ok Nothing) new = Keeps old new × Sound old.post new.post
     × TakesAny old.post old.last (Ok taken.Nothing) new.post

@@ -18,13 +18,15 @@ use Rattle.c_board.specs.Receiving.{arrived_of}
 use Rattle.c_board.specs.PostStates.{PostStateView, Keeps}
 use Rattle.c_board.specs.Sending.{IsNoInstance, MayBeInstance}
 
--- the messages stay in the handle; each is described, in their order, and they are counted
-pub record AreOutput (arrivals : List Arrival) (from : ℕ) (room : List Arrived) (count : ℕ) (new : PostStateView)
+-- the messages stay in the handle; each is described, in their order, and they are counted; the post is of the same
+-- board
+pub record AreOutput (arrivals : List Arrival) (from : ℕ) (room : List Arrived) (count : ℕ) (old new : PostStateView)
     (output : List Arrived) : Type 0 where
   pub each : output ≡ put_over (map arrived_of arrivals) room
   pub many : count ≡ length arrivals
   pub stay : new.came ≡ arrivals
   pub last : new.last ≡ from
+  pub board : new.board_number ≡ old.board_number
 
 -- The first of these that applies refuses a receive of several messages over a seated post (docs/reference/refusals.md):
 -- that no instance has the number, F14; that there is no room for one, which is a misuse; and the first of what the
@@ -40,7 +42,7 @@ IsFirstOfTakeMany old from most (why.Post refused) new = MayBeInstance from × (
 -- there are places for descriptions
 abbrev pub PostTakesMany : PostStateView → ℕ → List Arrived → Result FoundMany TakeRefusal → PostStateView → List Arrived → Type 0
 PostTakesMany old from room (Ok (Messages count stop)) new output = (arrivals : Vec Arrival)
-    × AreOutput arrivals.items from room count new output × Sound old.post new.post
+    × AreOutput arrivals.items from room count old new output × Sound old.post new.post
     × TakesMany old.post from (length room) (Ok (taken.Got arrivals stop)) new.post
 PostTakesMany old from room (Ok Nothing) new output = Keeps old new × (output ≡ room) × Sound old.post new.post
     × TakesMany old.post from (length room) (Ok taken.Nothing) new.post

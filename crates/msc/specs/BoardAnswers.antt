@@ -1,7 +1,7 @@
 -- The numbers that C gets from calls over whole boards (this project's profile): 0 for done, 1 if nothing waits, and for a
 -- refusal its number, below 0.
 use Rattle.std.specs.Prelude.{◌≡◌, ℕ, List, Option, None, Some, Result, Ok, Err}
-use lib.IntN.{ℤ, pos, neg_ℤ}
+use lib.IntN.{ℤ, pos}
 use Rattle.c_board.specs.declared.board_number.BoardNumber.{BoardNumber}
 use Rattle.c_board.specs.declared.boards.left.LeftRefusal.{LeftRefusal}
 use Rattle.c_board.specs.declared.boards.left.Place.{Place}
@@ -22,48 +22,34 @@ use Rattle.c_board.specs.Carrying.{Carries, of_carrying}
 use Rattle.c_board.specs.Gathering.{Gathers, of_gathering}
 use Rattle.c_board.specs.Meeting.{Meets, of_meeting}
 use Rattle.c_board.specs.Opening.{Opens, of_opening}
-use Rattle.msc.specs.Answers.{Got}
+use Rattle.msc.specs.Answers.{Got, code_of, done_code, number_after}
 use Rattle.msc.specs.declared.answers.MscLeft.{MscLeft}
 use Rattle.msc.specs.declared.answers.MscReport.{MscReport}
-
--- the number of a refusal, below 0
-abbrev pub below : ℕ → ℤ
-below number = neg_ℤ (pos number)
-
--- the number of a call that was done or refused, where refusals are numbered like this
-abbrev pub done_of : {A E : Type 0} → (E → ℕ) → Result A E → ℤ
-done_of number (Ok done) = pos 0
-done_of number (Err refusal) = below (number refusal)
-
--- the output of a call that was done, or otherwise what was there before
-abbrev pub after : {T E : Type 0} → T → Result T E → T
-after before (Ok output) = output
-after before (Err refusal) = before
 
 -- what opening a board with this number answers: some answer of the call has this code
 abbrev pub OpensAll : Numbering → ℕ → BoardNumber → List (Option Kept) → ℤ → List (Option Kept) → Type 0
 OpensAll misuses k number old code new = (answer : Result (Unit {0}) OpenRefusal) × Opens k number old answer new
-    × (code ≡ done_of (of_opening misuses) answer)
+    × (code ≡ done_code (of_opening misuses) answer)
 
 abbrev pub GathersAll : List (Option Kept) → Option Kept → ℤ → List (Option Kept) → Option Kept → Type 0
 GathersAll old board code new made = (answer : Result (Unit {0}) GatherRefusal) × Gathers old board answer new made
-    × (code ≡ done_of (of_gathering Alike) answer)
+    × (code ≡ done_code (of_gathering Alike) answer)
 
 abbrev pub MeetsAll : List (Option Kept) → ℤ → List (Option Kept) → Type 0
 MeetsAll old code new = (answer : Result (Unit {0}) MeetRefusal) × Meets old answer new
-    × (code ≡ done_of (of_meeting Alike) answer)
+    × (code ≡ done_code (of_meeting Alike) answer)
 
 -- .. and this output
 abbrev pub CarriesBoard : Option Kept → List (Option Kept) → List ℕ → Got ℕ → Option Kept → List (Option Kept)
     → List ℕ → Type 0
 CarriesBoard board old room got now new out = (answer : Result ℕ CarryRefusal)
-    × Carries board old room answer now new out × (got.code ≡ done_of (of_carrying Alike) answer)
-    × (got.output ≡ after got.before answer)
+    × Carries board old room answer now new out × (got.code ≡ done_code (of_carrying Alike) answer)
+    × (got.output ≡ number_after got.before answer)
 
 abbrev pub WritesText : Option Kept → List (List ℕ) → List ℕ → Got ℕ → List ℕ → Type 0
 WritesText board names room got out = (answer : Result ℕ TextRefusal)
-    × HandleWritesText board names room answer out × (got.code ≡ done_of (of_text Alike) answer)
-    × (got.output ≡ after got.before answer)
+    × HandleWritesText board names room answer out × (got.code ≡ done_code (of_text Alike) answer)
+    × (got.output ≡ number_after got.before answer)
 
 -- the description of a report, field by field; and this description, or otherwise the one before
 abbrev pub report_from : Reported → MscReport
@@ -75,7 +61,7 @@ report_after before (Err refusal) = before
 
 abbrev pub CopiesReport : Option Kept → ℕ → List ℕ → Got MscReport → List ℕ → Type 0
 CopiesReport board number room got out = (answer : Result Reported ReportRefusal)
-    × HandleReports board number room answer out × (got.code ≡ done_of (of_report Alike) answer)
+    × HandleReports board number room answer out × (got.code ≡ done_code (of_report Alike) answer)
     × (got.output ≡ report_after got.before answer)
 
 -- the description of a waiting message, field by field; and this description, or otherwise the one before
@@ -87,12 +73,12 @@ left_after before (Ok (Some output)) = left_from output
 left_after before (Ok None) = before
 left_after before (Err refusal) = before
 
-abbrev pub waiting_of : {E : Type 0} → (E → ℕ) → Result (Option Waiting) E → ℤ
-waiting_of number (Ok (Some output)) = pos 0
-waiting_of number (Ok None) = pos 1
-waiting_of number (Err refusal) = below (number refusal)
+abbrev pub waiting_code : {E : Type 0} → (E → ℕ) → Result (Option Waiting) E → ℤ
+waiting_code number (Ok (Some output)) = pos 0
+waiting_code number (Ok None) = pos 1
+waiting_code number (Err refusal) = code_of (number refusal)
 
 abbrev pub CopiesLeft : Option Kept → Place → NameAndBody → Got MscLeft → NameAndBody → Type 0
 CopiesLeft board place room got out = (answer : Result (Option Waiting) LeftRefusal)
-    × HandleWaits board place room answer out × (got.code ≡ waiting_of (of_left Alike) answer)
+    × HandleWaits board place room answer out × (got.code ≡ waiting_code (of_left Alike) answer)
     × (got.output ≡ left_after got.before answer)

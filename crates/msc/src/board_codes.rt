@@ -1,44 +1,20 @@
 //! Answers of calls over whole boards, as numbers.
 ghost use Rattle.std.specs.Prelude.{◌≡◌};
-ghost use Rattle.msc.specs.BoardAnswers.{below, done_of, after, report_from, report_after, left_from, left_after};
-ghost use Rattle.msc.specs.BoardAnswers.{waiting_of};
+ghost use Rattle.msc.specs.Answers.{code_of, done_code};
+ghost use Rattle.msc.specs.BoardAnswers.{report_from, report_after, left_from, left_after, waiting_code};
 
 use crate::answers::{MscLeft, MscReport};
+use crate::codes::code_of;
 use c_board::boards::{Reported, Waiting};
 use c_board::{Numbered, Numbering};
 
-/// The number of a refusal, below 0.
-fn below<R: Numbered>(refusal: R, misuses: Numbering) -> i32
-    ensures { result ≡ below (R.number misuses refusal) }
-{
-    -(refusal.number(misuses) as i32)
-}
-
-/// The number of a call that was done or refused.
-pub(crate) fn done_of<R: Numbered>(answer: Result<(), R>, misuses: Numbering) -> i32
-    ensures { result ≡ done_of (R.number misuses) answer }
+/// The number of a call that was done or refused, with each misuse by its cause.
+pub(crate) fn done_by_cause<E: Numbered>(answer: Result<(), E>) -> i32
+    ensures { result ≡ done_code (E.number Numbering.ByCause) answer }
 {
     match answer {
         Ok(()) => 0,
-        Err(refusal) => below(refusal, misuses),
-    }
-}
-
-/// The number of a call that returned a count or was refused, and the count.
-pub(crate) fn counted<R: Numbered>(
-    answer: Result<usize, R>,
-    misuses: Numbering,
-    count: &mut usize,
-) -> i32
-    ensures code { result ≡ done_of (R.number misuses) answer }
-    ensures count { count.new ≡ after count.old answer }
-{
-    match answer {
-        Ok(counted) => {
-            *count = counted;
-            0
-        }
-        Err(refusal) => below(refusal, misuses),
+        Err(refusal) => -(refusal.number(Numbering::ByCause) as i32),
     }
 }
 
@@ -54,12 +30,8 @@ fn report_from(reported: Reported) -> MscReport
 }
 
 /// The number of a call that described a report or was refused, and the description.
-pub(crate) fn reported<R: Numbered>(
-    answer: Result<Reported, R>,
-    misuses: Numbering,
-    report: &mut MscReport,
-) -> i32
-    ensures code { result ≡ done_of (R.number misuses) answer }
+pub(crate) fn report_code<E: Numbered>(answer: Result<Reported, E>, report: &mut MscReport) -> i32
+    ensures code { result ≡ done_code (E.number Numbering.Alike) answer }
     ensures report { report.new ≡ report_after report.old answer }
 {
     match answer {
@@ -67,7 +39,7 @@ pub(crate) fn reported<R: Numbered>(
             *report = report_from(output);
             0
         }
-        Err(refusal) => below(refusal, misuses),
+        Err(refusal) => code_of(refusal),
     }
 }
 
@@ -82,12 +54,11 @@ fn left_from(waiting: Waiting) -> MscLeft
 }
 
 /// The number of a call that described a waiting message, found none, or was refused, and the description.
-pub(crate) fn waiting<R: Numbered>(
-    answer: Result<Option<Waiting>, R>,
-    misuses: Numbering,
+pub(crate) fn waiting_code<E: Numbered>(
+    answer: Result<Option<Waiting>, E>,
     left: &mut MscLeft,
 ) -> i32
-    ensures code { result ≡ waiting_of (R.number misuses) answer }
+    ensures code { result ≡ waiting_code (E.number Numbering.Alike) answer }
     ensures left { left.new ≡ left_after left.old answer }
 {
     match answer {
@@ -96,6 +67,6 @@ pub(crate) fn waiting<R: Numbered>(
             0
         }
         Ok(None) => 1,
-        Err(refusal) => below(refusal, misuses),
+        Err(refusal) => code_of(refusal),
     }
 }

@@ -8,9 +8,10 @@ ghost use Rattle.msc.specs.BoardAnswers.{OpensAll, CarriesBoard, GathersAll, Mee
 ghost use Rattle.msc.specs.BoardAnswers.{CopiesLeft};
 
 use crate::answers::{MscLeft, MscReport};
-use crate::board_codes::{counted, done_of, reported, waiting};
+use crate::board_codes::{done_by_cause, report_code, waiting_code};
+use crate::codes::{count_code, done_code};
 use c_board::boards::{Place, copy_text, report_at, waiting_at};
-use c_board::{BoardNumber, Handle, Numbering, gather, meet, open};
+use c_board::{BoardNumber, Handle, gather, meet, open};
 use std::alloc::Global;
 
 /// All boards that this opens have one number: clients of version 1.0 promise that posts are of one board.
@@ -22,7 +23,7 @@ pub extern "C" fn msc_open_(alloc: Global, posts: &mut [Handle], capacity: u32) 
         origin: 0,
         count: 0,
     };
-    done_of(open(alloc, posts, capacity, unnumbered), Numbering::Alike)
+    done_code(open(alloc, posts, capacity, unnumbered))
 }
 
 #[unsafe(no_mangle)]
@@ -40,10 +41,7 @@ pub extern "C" fn msc_open_numbered_(
         origin,
         count: number,
     };
-    done_of(
-        open(alloc, posts, capacity, board_number),
-        Numbering::ByCause,
-    )
+    done_by_cause(open(alloc, posts, capacity, board_number))
 }
 
 #[unsafe(no_mangle)]
@@ -51,7 +49,7 @@ pub extern "C" fn msc_gather_(alloc: Global, posts: &mut [Handle], board: &mut H
     requires { AreNumberedApart (kept_by posts.old) }
     ensures { GathersAll (kept_by posts.old) board.old.slot.value result (kept_by posts.new) board.new.slot.value }
 {
-    done_of(gather(alloc, posts, board), Numbering::Alike)
+    done_code(gather(alloc, posts, board))
 }
 
 #[unsafe(no_mangle)]
@@ -59,7 +57,7 @@ pub extern "C" fn msc_meet_(alloc: Global, posts: &mut [Handle]) -> i32
     requires { AreNumberedApart (kept_by posts.old) }
     ensures { MeetsAll (kept_by posts.old) result (kept_by posts.new) }
 {
-    done_of(meet(alloc, posts), Numbering::Alike)
+    done_code(meet(alloc, posts))
 }
 
 #[unsafe(no_mangle)]
@@ -76,7 +74,7 @@ pub extern "C" fn msc_carry_over_(
         board.new.slot.value (kept_by posts.new) carried.new }
 {
     let answer = board.carry_over(alloc, posts, carried);
-    counted(answer, Numbering::Alike, count)
+    count_code(answer, count)
 }
 
 #[unsafe(no_mangle)]
@@ -92,7 +90,7 @@ pub extern "C" fn msc_board_text_(
         (record { code = result; before = length.old; output = length.new }) buffer.new }
 {
     let answer = copy_text(alloc, board, names, lengths, buffer);
-    counted(answer, Numbering::Alike, length)
+    count_code(answer, length)
 }
 
 #[unsafe(no_mangle)]
@@ -105,7 +103,7 @@ pub extern "C" fn msc_board_report_(
     ensures { CopiesReport board.now.slot.value number buffer.old
         (record { code = result; before = report.old; output = report.new }) buffer.new }
 {
-    reported(report_at(board, number, buffer), Numbering::Alike, report)
+    report_code(report_at(board, number, buffer), report)
 }
 
 #[unsafe(no_mangle)]
@@ -119,5 +117,5 @@ pub extern "C" fn msc_board_left_(
     ensures { CopiesLeft board.now.slot.value place.now (record { name = name.old; body = body.old })
         (record { code = result; before = left.old; output = left.new }) (record { name = name.new; body = body.new }) }
 {
-    waiting(waiting_at(board, place, name, body), Numbering::Alike, left)
+    waiting_code(waiting_at(board, place, name, body), left)
 }

@@ -92,13 +92,7 @@ fn has_come(rt: &impl Abort, post: &Handle, body: &[u8], races: &[u32]) {
 }
 
 /// Asserts that a receive from this instance gets a message with this body and these races.
-pub fn gets(
-    rt: &impl Abort,
-    post: &mut Handle,
-    from: u32,
-    body: &[u8],
-    races: &[u32],
-) {
+pub fn gets(rt: &impl Abort, post: &mut Handle, from: u32, body: &[u8], races: &[u32]) {
     let mut output = no_arrival();
     let found = post.receive(from, &mut output);
     holds(rt, "a message", matches!(found, Ok(Peek::Message)));

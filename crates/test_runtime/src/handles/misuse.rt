@@ -8,36 +8,66 @@ use c_board::{
 use std::alloc::Global;
 use std::process::Abort;
 
-/// Asserts that each call that changes a post is a misuse, and that the handle has no post afterwards.
+/// Asserts that each call is a misuse, and that the handle has no post afterwards.
 fn misuses(rt: &impl Abort, alloc: Global, handle: &mut Handle) {
-    let mut output = no_arrival();
-    let sent = handle.send(alloc, 2, b"m", b"");
-    let is_misuse = matches!(sent, Err(SendRefusal::Misuse(Misuse::NoPost)));
-    holds(rt, "a send", is_misuse);
-    let found = handle.receive(2, &mut output);
-    let is_misuse = matches!(found, Err(TakeRefusal::Misuse(Misuse::NoPost)));
-    holds(rt, "a receive", is_misuse);
-    let found = handle.any();
-    let is_misuse = matches!(found, Err(AnyRefusal::Misuse(Misuse::NoPost)));
-    holds(rt, "any", is_misuse);
-    let closed = handle.close(2);
-    let is_misuse = matches!(closed, Err(CloseRefusal::Misuse(Misuse::NoPost)));
-    holds(rt, "a close", is_misuse);
-    let reserved = handle.reserve(1);
-    let is_misuse = matches!(reserved, Err(ReserveRefusal::Misuse(Misuse::NoPost)));
-    holds(rt, "room", is_misuse);
-    misreads(rt, handle);
-}
-
-/// Asserts that each call that only reads a post is a misuse.
-fn misreads(rt: &impl Abort, handle: &Handle) {
+    changes_are_misuses(rt, alloc, handle);
     let mut bytes = [0; 8];
     let mut events = [0; 8];
-    let event = handle.event(1, &mut bytes);
-    let is_misuse = matches!(event, Err(EventRefusal::Misuse(Misuse::NoPost)));
-    holds(rt, "an event", is_misuse);
-    let copied = handle.copy_races(Which::Last, &mut events);
-    holds(rt, "races", matches!(copied, Err(Misuse::NoPost)));
+    holds(
+        rt,
+        "an event",
+        matches!(
+            handle.event(1, &mut bytes),
+            Err(EventRefusal::Misuse(Misuse::NoPost))
+        ),
+    );
+    holds(
+        rt,
+        "races",
+        matches!(
+            handle.copy_races(Which::Last, &mut events),
+            Err(Misuse::NoPost)
+        ),
+    );
+}
+
+/// Asserts this of the calls that change a post.
+fn changes_are_misuses(rt: &impl Abort, alloc: Global, handle: &mut Handle) {
+    let mut output = no_arrival();
+    holds(
+        rt,
+        "a send",
+        matches!(
+            handle.send(alloc, 2, b"m", b""),
+            Err(SendRefusal::Misuse(Misuse::NoPost))
+        ),
+    );
+    holds(
+        rt,
+        "a receive",
+        matches!(
+            handle.receive(2, &mut output),
+            Err(TakeRefusal::Misuse(Misuse::NoPost))
+        ),
+    );
+    holds(
+        rt,
+        "any",
+        matches!(handle.any(), Err(AnyRefusal::Misuse(Misuse::NoPost))),
+    );
+    holds(
+        rt,
+        "a close",
+        matches!(handle.close(2), Err(CloseRefusal::Misuse(Misuse::NoPost))),
+    );
+    holds(
+        rt,
+        "room",
+        matches!(
+            handle.reserve(1),
+            Err(ReserveRefusal::Misuse(Misuse::NoPost))
+        ),
+    );
 }
 
 /// A handle that has no post yet, and a handle whose post was freed.

@@ -28,4 +28,4 @@ stops_of : (c : goal.Joined-self) → Stops c.args.self.now.post c.args.from (le
 stops_of c = search rules
 
 pub returns-in-Ok-Got : goal.returns-in-Ok-Got
-returns-in-Ok-Got c = (c.in-Ok-Got.arrivals, record { each = each_of c; many = many_of c; stay = refl; last = from_of c }, sound_of c, (got_of c, most_of c, stops_of c))
+returns-in-Ok-Got c = (c.in-Ok-Got.arrivals, record { each = each_of c; many = many_of c; stay = refl; last = from_of c; board = refl }, sound_of c, (got_of c, most_of c, stops_of c))
