@@ -8,7 +8,6 @@ pub mod MeetLemmas
 pub mod MessageLemmas
 pub mod Names
 pub mod OverPosts
-pub mod SlotShares
 pub mod SlotValues
 pub mod Values
 pub mod WordLemmas

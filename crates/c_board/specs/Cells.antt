@@ -1,9 +1,7 @@
--- What a slot owns, and what a `&` to it shows.
+-- What a slot owns.
 use Rattle.std.specs.Prelude.{Option, None, Some}
-use base.Fml.{Lft, Fml, ftrue, fex}
+use base.Fml.{Fml, ftrue, fex}
 use denote.RawPtr.{Ptr}
-use denote.Sharing.{nothing}
-use denote.Struct.Lending.{lent_at}
 use Rattle.std.specs.declared.alloc.Global.{Global}
 use Rattle.std.specs.contracts.impls.GlobalAllocator.TheImpl.{ghosts}
 use Rattle.std_alloc.specs.Box.Ownership.{box_owns}
@@ -18,8 +16,3 @@ boxed p x heap = box_owns (ghosts.dealloc_token heap) the_row p x
 abbrev pub slot_owns : Ptr → Option Kept → Fml
 slot_owns p None = ftrue
 slot_owns p (Some x) = fex Global (boxed p x)
-
--- a `&` to a slot shows nothing, or what a `&` to the content does
-abbrev pub slot_shares : Ptr → Option Kept → Lft → Fml
-slot_shares p None = nothing
-slot_shares p (Some x) = lent_at the_row p x

@@ -1,5 +1,5 @@
 //! The line of a post, event by event.
-ghost use Rattle.std.specs.Prelude.{◌≡◌};
+ghost use Rattle.std.specs.Prelude.{◌≡◌, Some};
 ghost use Rattle.chart.specs.Events.{name_of, ith};
 ghost use Rattle.board.specs.Views.{line_of};
 ghost use Rattle.c_board.specs.Copying.{put_over};
@@ -8,6 +8,7 @@ ghost use Rattle.c_board.specs.EventInfos.{event_info, CopiesEvent, HandleCopies
 use crate::copying::copy_out;
 use crate::found::EventInfo;
 use crate::handle::Handle;
+use crate::kept::Kept;
 use crate::misuse::{Misuse, Numbering};
 use crate::numbered::Numbered;
 use crate::post_state::PostState;
@@ -66,15 +67,28 @@ impl PostState {
     }
 }
 
-impl Handle {
-    /// Describes the event with this number, from 1, on the post's line. It copies the event's name out, as much as
-    /// there is room for. F31: there is no such event.
-    pub fn event(&self, number: u32, out: &mut [u8]) -> Result<EventInfo, EventRefusal>
-        ensures { HandleCopies self.now.slot.value number out.old result out.new }
+impl Kept {
+    fn event(&self, number: u32, out: &mut [u8]) -> Result<EventInfo, EventRefusal>
+        ensures { HandleCopies (Some self.now) number out.old result out.new }
     {
         let Some(post) = self.post() else {
             return Err(EventRefusal::Misuse(Misuse::NoPost));
         };
         post.event(number, out)
+    }
+}
+
+impl Handle {
+    /// Describes the event with this number, from 1, on the post's line. It copies the event's name out, as much as
+    /// there is room for. F31: there is no such event.
+    pub fn event(&mut self, number: u32, out: &mut [u8]) -> Result<EventInfo, EventRefusal>
+        ensures same { self.new.slot.value ≡ self.old.slot.value }
+        ensures answer { HandleCopies self.old.slot.value number out.old result out.new }
+    {
+        if self.is_empty() {
+            return Err(EventRefusal::Misuse(Misuse::NoPost));
+        }
+        let kept = self.slot.get_mut();
+        kept.event(number, out)
     }
 }

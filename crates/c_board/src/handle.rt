@@ -9,7 +9,6 @@ use crate::kept::Kept;
 use crate::loose::Loose;
 use crate::post_state::PostState;
 use crate::slot::Slot;
-use crate::whole_board::WholeBoard;
 use std::alloc::Global;
 use std::mem;
 
@@ -85,8 +84,8 @@ impl Handle {
 impl Handle {
     ghost use Rattle.std.specs.Prelude.{◌≡◌};
     ghost use Rattle.std.specs.Borrow.{sem};
-    ghost use Rattle.std.specs.Option.{option_copied, option_copied_mut};
-    ghost use Rattle.c_board.specs.Contents.{post_in, board_in};
+    ghost use Rattle.std.specs.Option.{option_copied_mut};
+    ghost use Rattle.c_board.specs.Contents.{post_in};
     ghost use Rattle.c_board.specs.HandleLending.{LendsItsPost};
 
     /// The post, if one is kept, to be used in place.
@@ -101,32 +100,5 @@ impl Handle {
         let slot = &mut self.slot;
         let kept = slot.get_mut();
         kept.post_mut()
-    }
-
-    /// The post, if one is kept, to be read.
-    #[inline(always)]
-    pub(crate) fn post(&self) -> Option<&PostState>
-        ensures { post_in self.now.slot.value ≡ option_copied result }
-    {
-        if self.word == 0 {
-            return None;
-        }
-        match self.slot.get() {
-            Kept::Post(state) => Some(state),
-            _ => None,
-        }
-    }
-
-    /// The board, if one is kept, to be read.
-    pub fn board(&self) -> Option<&WholeBoard>
-        ensures { board_in self.now.slot.value ≡ option_copied result }
-    {
-        if self.word == 0 {
-            return None;
-        }
-        match self.slot.get() {
-            Kept::Board(it) => Some(it),
-            _ => None,
-        }
     }
 }

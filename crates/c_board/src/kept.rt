@@ -1,9 +1,9 @@
 //! What a handle keeps.
 ghost use Rattle.std.specs.Prelude.{◌≡◌, IfOk};
 ghost use Rattle.std.specs.Borrow.{sem};
-ghost use Rattle.std.specs.Option.{option_copied_mut};
+ghost use Rattle.std.specs.Option.{option_copied, option_copied_mut};
 ghost use Rattle.c_board.specs.declared.kept.Kept.TheVariants as variant;
-ghost use Rattle.c_board.specs.Contents.{post_in};
+ghost use Rattle.c_board.specs.Contents.{post_in, board_in};
 ghost use Rattle.c_board.specs.Lending.{LendsPost};
 
 use crate::post_state::PostState;
@@ -48,6 +48,27 @@ impl Kept {
     {
         match self {
             Kept::Post(state) => Some(state),
+            _ => None,
+        }
+    }
+
+    /// The post, if it is one, to be read.
+    #[inline(always)]
+    pub(crate) fn post(&self) -> Option<&PostState>
+        ensures { post_in (Some self.now) ≡ option_copied result }
+    {
+        match self {
+            Kept::Post(state) => Some(state),
+            _ => None,
+        }
+    }
+
+    /// The board, if it is one, to be read.
+    pub(crate) fn board(&self) -> Option<&WholeBoard>
+        ensures { board_in (Some self.now) ≡ option_copied result }
+    {
+        match self {
+            Kept::Board(it) => Some(it),
             _ => None,
         }
     }

@@ -3,7 +3,7 @@ ghost use Rattle.std.specs.Prelude.{◌≡◌};
 ghost use Rattle.std.specs.declared.option.Option.{Option};
 ghost use Rattle.std.specs.declared.option.Option.TheVariants.{None, Some};
 ghost use Rattle.c_board.specs.declared.kept.Kept.{Kept};
-ghost use Rattle.c_board.specs.Cells.{slot_owns, slot_shares};
+ghost use Rattle.c_board.specs.Cells.{slot_owns};
 
 use crate::kept::Kept;
 use crate::loose::Loose;
@@ -21,8 +21,6 @@ pub struct Slot {
 
 impl Model for Slot {
     ghost also_owns = { λ slot. slot_owns slot.at slot.value };
-
-    ghost also_shares = { λ slot _ κ. slot_shares slot.at slot.value κ };
 }
 
 impl Slot {
@@ -62,16 +60,7 @@ impl Slot {
     ghost use Rattle.std.specs.Borrow.{sem};
     ghost use Rattle.c_board.specs.Lending.{LendsKept};
 
-    /// The content of the box, which exists.
-    #[inline(always)]
-    pub(crate) fn get(&self) -> &Kept
-        requires { self.now.value ≡ None → ⊥ }
-        ensures { self.now.value ≡ Some result.now }
-    {
-        unsafe { &*(self.at as *const Kept) }
-    }
-
-    /// The content of the box, which exists, to be changed in place.
+    /// The content of the box, which exists. It is read and changed in place.
     #[inline(always)]
     pub(crate) fn get_mut(&mut self) -> &mut Kept
         requires { self.old.value ≡ None → ⊥ }

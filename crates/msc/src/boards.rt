@@ -80,13 +80,14 @@ pub extern "C" fn msc_carry_over_(
 #[unsafe(no_mangle)]
 pub extern "C" fn msc_board_text_(
     alloc: Global,
-    board: &Handle,
+    board: &mut Handle,
     names: &[u8],
     lengths: &[usize],
     buffer: &mut [u8],
     length: &mut usize,
 ) -> i32
-    ensures { WritesText board.now.slot.value (words_in names.now lengths.now) buffer.old
+    ensures same { board.new.slot.value ≡ board.old.slot.value }
+    ensures answer { WritesText board.old.slot.value (words_in names.now lengths.now) buffer.old
         (record { code = result; before = length.old; output = length.new }) buffer.new }
 {
     let answer = copy_text(alloc, board, names, lengths, buffer);
@@ -95,12 +96,13 @@ pub extern "C" fn msc_board_text_(
 
 #[unsafe(no_mangle)]
 pub extern "C" fn msc_board_report_(
-    board: &Handle,
+    board: &mut Handle,
     number: usize,
     report: &mut MscReport,
     buffer: &mut [u32],
 ) -> i32
-    ensures { CopiesReport board.now.slot.value number buffer.old
+    ensures same { board.new.slot.value ≡ board.old.slot.value }
+    ensures answer { CopiesReport board.old.slot.value number buffer.old
         (record { code = result; before = report.old; output = report.new }) buffer.new }
 {
     report_code(report_at(board, number, buffer), report)
@@ -108,13 +110,14 @@ pub extern "C" fn msc_board_report_(
 
 #[unsafe(no_mangle)]
 pub extern "C" fn msc_board_left_(
-    board: &Handle,
+    board: &mut Handle,
     place: &Place,
     left: &mut MscLeft,
     name: &mut [u8],
     body: &mut [u8],
 ) -> i32
-    ensures { CopiesLeft board.now.slot.value place.now (record { name = name.old; body = body.old })
+    ensures same { board.new.slot.value ≡ board.old.slot.value }
+    ensures answer { CopiesLeft board.old.slot.value place.now (record { name = name.old; body = body.old })
         (record { code = result; before = left.old; output = left.new }) (record { name = name.new; body = body.new }) }
 {
     waiting_code(waiting_at(board, place, name, body), left)

@@ -22,24 +22,27 @@ pub extern "C" fn msc_receive_up_to_(
 }
 
 #[unsafe(no_mangle)]
-pub extern "C" fn msc_name_(post: &Handle, buffer: &mut [u8], length: &mut usize) -> i32
-    ensures { Copies name_in Last post.now.slot.value buffer.old
+pub extern "C" fn msc_name_(post: &mut Handle, buffer: &mut [u8], length: &mut usize) -> i32
+    ensures same { post.new.slot.value ≡ post.old.slot.value }
+    ensures answer { Copies name_in Last post.old.slot.value buffer.old
         (record { code = result; before = length.old; output = length.new }) buffer.new }
 {
     count_code(post.copy_name(Which::Last, buffer), length)
 }
 
 #[unsafe(no_mangle)]
-pub extern "C" fn msc_body_(post: &Handle, buffer: &mut [u8], length: &mut usize) -> i32
-    ensures { Copies body_in Last post.now.slot.value buffer.old
+pub extern "C" fn msc_body_(post: &mut Handle, buffer: &mut [u8], length: &mut usize) -> i32
+    ensures same { post.new.slot.value ≡ post.old.slot.value }
+    ensures answer { Copies body_in Last post.old.slot.value buffer.old
         (record { code = result; before = length.old; output = length.new }) buffer.new }
 {
     count_code(post.copy_body(Which::Last, buffer), length)
 }
 
 #[unsafe(no_mangle)]
-pub extern "C" fn msc_races_(post: &Handle, buffer: &mut [u32], count: &mut usize) -> i32
-    ensures { CopiesRaces Last post.now.slot.value buffer.old
+pub extern "C" fn msc_races_(post: &mut Handle, buffer: &mut [u32], count: &mut usize) -> i32
+    ensures same { post.new.slot.value ≡ post.old.slot.value }
+    ensures answer { CopiesRaces Last post.old.slot.value buffer.old
         (record { code = result; before = count.old; output = count.new }) buffer.new }
 {
     count_code(post.copy_races(Which::Last, buffer), count)
@@ -47,12 +50,13 @@ pub extern "C" fn msc_races_(post: &Handle, buffer: &mut [u32], count: &mut usiz
 
 #[unsafe(no_mangle)]
 pub extern "C" fn msc_name_of_(
-    post: &Handle,
+    post: &mut Handle,
     place: usize,
     buffer: &mut [u8],
     length: &mut usize,
 ) -> i32
-    ensures { Copies name_in (At place) post.now.slot.value buffer.old
+    ensures same { post.new.slot.value ≡ post.old.slot.value }
+    ensures answer { Copies name_in (At place) post.old.slot.value buffer.old
         (record { code = result; before = length.old; output = length.new }) buffer.new }
 {
     count_code(post.copy_name(Which::At(place), buffer), length)
@@ -60,12 +64,13 @@ pub extern "C" fn msc_name_of_(
 
 #[unsafe(no_mangle)]
 pub extern "C" fn msc_body_of_(
-    post: &Handle,
+    post: &mut Handle,
     place: usize,
     buffer: &mut [u8],
     length: &mut usize,
 ) -> i32
-    ensures { Copies body_in (At place) post.now.slot.value buffer.old
+    ensures same { post.new.slot.value ≡ post.old.slot.value }
+    ensures answer { Copies body_in (At place) post.old.slot.value buffer.old
         (record { code = result; before = length.old; output = length.new }) buffer.new }
 {
     count_code(post.copy_body(Which::At(place), buffer), length)
@@ -73,12 +78,13 @@ pub extern "C" fn msc_body_of_(
 
 #[unsafe(no_mangle)]
 pub extern "C" fn msc_races_of_(
-    post: &Handle,
+    post: &mut Handle,
     place: usize,
     buffer: &mut [u32],
     count: &mut usize,
 ) -> i32
-    ensures { CopiesRaces (At place) post.now.slot.value buffer.old
+    ensures same { post.new.slot.value ≡ post.old.slot.value }
+    ensures answer { CopiesRaces (At place) post.old.slot.value buffer.old
         (record { code = result; before = count.old; output = count.new }) buffer.new }
 {
     count_code(post.copy_races(Which::At(place), buffer), count)

@@ -90,12 +90,13 @@ pub extern "C" fn msc_reserve_(post: &mut Handle, events: u32) -> i32
 
 #[unsafe(no_mangle)]
 pub extern "C" fn msc_event_(
-    post: &Handle,
+    post: &mut Handle,
     number: u32,
     event: &mut MscEvent,
     buffer: &mut [u8],
 ) -> i32
-    ensures { CopiesEvent post.now.slot.value number buffer.old
+    ensures same { post.new.slot.value ≡ post.old.slot.value }
+    ensures answer { CopiesEvent post.old.slot.value number buffer.old
         (record { code = result; before = event.old; output = event.new }) buffer.new }
 {
     event_code(post.event(number, buffer), event)

@@ -7,7 +7,7 @@ ghost use Rattle.c_board.specs.Boards.BoardCopies.{HandleWaits, of_left};
 
 use crate::misuse::{Misuse, Numbering};
 use crate::numbered::Numbered;
-use crate::{Handle, copy_out};
+use crate::{Handle, Kept, copy_out};
 use board::Left;
 use chart::Message;
 
@@ -99,19 +99,37 @@ fn copy_nth(left: &[Left], place: &Place, name: &mut [u8], body: &mut [u8]) -> O
     Some(copy_message(&messages[number - 1], name, body))
 }
 
-/// Describes the message at this place, if one waits there. The call copies out its name and its body, as much as there
-/// is room for.
-pub fn waiting_at(
-    board: &Handle,
+/// Describes the message at this place, of the board that is kept.
+fn copy_kept(
+    kept: &Kept,
     place: &Place,
     name: &mut [u8],
     body: &mut [u8],
 ) -> Result<Option<Waiting>, LeftRefusal>
-    ensures { HandleWaits board.now.slot.value place.now (record { name = name.old; body = body.old }) result
+    ensures { HandleWaits (Some kept.now) place.now (record { name = name.old; body = body.old }) result
         (record { name = name.new; body = body.new }) }
 {
-    let Some(whole) = board.board() else {
+    let Some(whole) = kept.board() else {
         return Err(LeftRefusal::NoBoard);
     };
     Ok(copy_nth(whole.gathered.left.as_slice(), place, name, body))
+}
+
+/// Describes the message at this place, if one waits there. The call copies out its name and its body, as much as there
+/// is room for.
+pub fn waiting_at(
+    board: &mut Handle,
+    place: &Place,
+    name: &mut [u8],
+    body: &mut [u8],
+) -> Result<Option<Waiting>, LeftRefusal>
+    ensures same { board.new.slot.value ≡ board.old.slot.value }
+    ensures answer { HandleWaits board.old.slot.value place.now (record { name = name.old; body = body.old }) result
+        (record { name = name.new; body = body.new }) }
+{
+    if board.is_empty() {
+        return Err(LeftRefusal::NoBoard);
+    }
+    let kept = board.slot.get_mut();
+    copy_kept(&*kept, place, name, body)
 }

@@ -6,7 +6,7 @@ ghost use Rattle.c_board.specs.Boards.BoardCopies.{reported_of, CopiesReport, Ha
 
 use crate::misuse::{Misuse, Numbering};
 use crate::numbered::Numbered;
-use crate::{Handle, copy_events};
+use crate::{Handle, Kept, copy_events};
 use chart::Report;
 
 /// The description of a report of a gathered board.
@@ -63,17 +63,33 @@ fn copy_nth(reports: &[Report], number: usize, out: &mut [u32]) -> Option<Report
     Some(copy_report(&reports[number - 1], out))
 }
 
-/// Describes the board's report with this number, from 1. Each receive has one report, sorted by instance and index.
-/// The call copies out the report's races: the numbers of the earlier events, as many as there is room for. F31: the
-/// board has fewer receives.
-pub fn report_at(board: &Handle, number: usize, out: &mut [u32]) -> Result<Reported, ReportRefusal>
-    ensures { HandleReports board.now.slot.value number out.old result out.new }
+/// Describes the report with this number, from 1, of the board that is kept.
+fn copy_kept(kept: &Kept, number: usize, out: &mut [u32]) -> Result<Reported, ReportRefusal>
+    ensures { HandleReports (Some kept.now) number out.old result out.new }
 {
-    let Some(whole) = board.board() else {
+    let Some(whole) = kept.board() else {
         return Err(ReportRefusal::NoBoard);
     };
     match copy_nth(whole.gathered.reports.as_slice(), number, out) {
         Some(reported) => Ok(reported),
         None => Err(ReportRefusal::NoEvent),
     }
+}
+
+/// Describes the board's report with this number, from 1. Each receive has one report, sorted by instance and index.
+/// The call copies out the report's races: the numbers of the earlier events, as many as there is room for. F31: the
+/// board has fewer receives.
+pub fn report_at(
+    board: &mut Handle,
+    number: usize,
+    out: &mut [u32],
+) -> Result<Reported, ReportRefusal>
+    ensures same { board.new.slot.value ≡ board.old.slot.value }
+    ensures answer { HandleReports board.old.slot.value number out.old result out.new }
+{
+    if board.is_empty() {
+        return Err(ReportRefusal::NoBoard);
+    }
+    let kept = board.slot.get_mut();
+    copy_kept(&*kept, number, out)
 }

@@ -7,7 +7,7 @@ ghost use Rattle.c_board.specs.Boards.BoardText.{HandleWritesText, of_text};
 use crate::boards::naming::{NamesRefusal, names_in};
 use crate::misuse::{Misuse, Numbering};
 use crate::numbered::Numbered;
-use crate::{Handle, copy_out};
+use crate::{Handle, Kept, copy_out};
 use chart::{Chart, Names};
 use msc_text::write;
 use std::alloc::Global;
@@ -51,19 +51,17 @@ fn text_in_memory(alloc: Global, names: &Names, chart: &Chart) -> Option<MemoryO
     }
 }
 
-/// Copies out the text of the board's chart, as much as there is room for, and returns how long the text is. The names
-/// of its instances are one after another in `names`, with these lengths. If there aren't as many names as instances,
-/// the call is a misuse. Otherwise the first of F1 to F4, F22 and F6 that applies refuses it.
-pub fn copy_text(
+/// Copies out the text of the board that is kept.
+fn copy_kept(
     alloc: Global,
-    board: &Handle,
+    kept: &Kept,
     names: &[u8],
     lengths: &[usize],
     out: &mut [u8],
 ) -> Result<usize, TextRefusal>
-    ensures { HandleWritesText board.now.slot.value (words_in names.now lengths.now) out.old result out.new }
+    ensures { HandleWritesText (Some kept.now) (words_in names.now lengths.now) out.old result out.new }
 {
-    let Some(whole) = board.board() else {
+    let Some(whole) = kept.board() else {
         return Err(TextRefusal::NoBoard);
     };
     let chart = &whole.gathered.chart;
@@ -80,4 +78,24 @@ pub fn copy_text(
         Some(text) => Ok(copy_out(text.as_bytes(), out)),
         None => Err(TextRefusal::Memory),
     }
+}
+
+/// Copies out the text of the board's chart, as much as there is room for, and returns how long the text is. The names
+/// of its instances are one after another in `names`, with these lengths. If there aren't as many names as instances,
+/// the call is a misuse. Otherwise the first of F1 to F4, F22 and F6 that applies refuses it.
+pub fn copy_text(
+    alloc: Global,
+    board: &mut Handle,
+    names: &[u8],
+    lengths: &[usize],
+    out: &mut [u8],
+) -> Result<usize, TextRefusal>
+    ensures same { board.new.slot.value ≡ board.old.slot.value }
+    ensures answer { HandleWritesText board.old.slot.value (words_in names.now lengths.now) out.old result out.new }
+{
+    if board.is_empty() {
+        return Err(TextRefusal::NoBoard);
+    }
+    let kept = board.slot.get_mut();
+    copy_kept(alloc, &*kept, names, lengths, out)
 }

@@ -72,7 +72,7 @@ pub fn no_arrival() -> Arrived {
 }
 
 /// Asserts that the last message that came has this body and these races.
-fn has_come(rt: &impl Abort, post: &Handle, body: &[u8], races: &[u32]) {
+fn has_come(rt: &impl Abort, post: &mut Handle, body: &[u8], races: &[u32]) {
     let mut bytes = [0; 8];
     let copied = post.copy_body(Which::Last, &mut bytes);
     holds(

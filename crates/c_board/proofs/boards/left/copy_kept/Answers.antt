@@ -3,7 +3,7 @@ use Rattle.std.specs.Prelude.{Some}
 use Rattle.board.specs.declared.gathering.Left.{Left}
 use Rattle.c_board.specs.Boards.BoardCopies.{CopiesWaiting, message_at}
 use Rattle.c_board.specs.Wholes.{WholeView}
-use Rattle.c_board.proofs.boards.left.waiting_at.Goals as goal
+use Rattle.c_board.proofs.boards.left.copy_kept.Goals as goal
 
 pub returns : goal.returns
 returns c = (

@@ -4,7 +4,7 @@ use Rattle.chart.specs.Events.{ith}
 use Rattle.chart.specs.Reports.{ReportView}
 use Rattle.c_board.specs.Boards.BoardCopies.{CopiesReport}
 use Rattle.c_board.specs.Wholes.{WholeView}
-use Rattle.c_board.proofs.boards.reports.report_at.Goals as goal
+use Rattle.c_board.proofs.boards.reports.copy_kept.Goals as goal
 
 pub returns-in-Some-copy_nth : goal.returns-in-Some-copy_nth
 returns-in-Some-copy_nth c = (

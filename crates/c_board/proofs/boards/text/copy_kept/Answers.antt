@@ -5,7 +5,7 @@ use Rattle.msc_text.specs.ChartText.{chart_text}
 use Rattle.c_board.specs.Copying.{put_over}
 use Rattle.c_board.specs.Wholes.{WholeView}
 use Rattle.c_board.proofs.BoardsLemmas.NameLemmas.{length-words}
-use Rattle.c_board.proofs.boards.text.copy_text.Goals as goal
+use Rattle.c_board.proofs.boards.text.copy_kept.Goals as goal
 
 pub returns-then-lengths-lines : goal.returns-then-lengths-lines
 returns-then-lengths-lines c = (
