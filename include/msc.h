@@ -17,18 +17,24 @@
  *
  * WHAT THE CALLER PROMISES, and no proof can see:
  *   - A post or a board is zero at first (MSC_POST_INIT, MSC_BOARD_INIT). It is never copied, nor written by others.
- *   - One thread at a time uses a post or a board, even to read it. Another thread may take over behind a lock, a
- *     thread's start or a join. Different threads may use the posts of one board at the same time: that is what they
- *     are for.
- *   - Where a call wants all posts of a board, the posts are of one board, and no other thread uses one of them.
- *   - Buffers are as long as stated. The outputs of a call overlap nothing else that it gets, and no post or board.
+ *   - One thread at a time uses a post, even to read it. Another thread may take over behind a lock, a thread's start
+ *     or a join. Different threads may use the posts of one board at the same time: that is what they are for.
+ *   - Several threads may read an msc_board at the same time: msc_board_text, msc_board_report and msc_board_left only
+ *     read it. During every other call with it, no other thread uses it.
+ *   - Where a call wants all posts of a board, no other thread uses one of them. Posts of two boards are refused. The
+ *     exception is a program compiled with the header of version 1.0: there the posts are of one board.
+ *   - No thread ends within a call, by a cancellation, an exception or longjmp. A post whose thread ended between two
+ *     calls may go on in another thread.
+ *   - Buffers are as long as stated. What a call writes overlaps nothing else that it writes or reads, and no post or
+ *     board. The exception is *EVENT of msc_send and msc_send_all, which is written last: it may lie in what they read.
  *   - All calls use one allocator. No call is made in a signal handler, nor in a forked child of a process with
  *     threads.
  *
  * ANSWERS. No call waits. 0 is done. 1 means that no message waits. 2 means that none waits and none will come. A
  * number below 0 is a refusal: -N for the refusal FN, -100 for a misuse. A misuse is a null pointer, a handle wrongly
- * empty or in use, posts of two boards, or a wrong number of names. A refused call changes nothing, except that the
- * post may have seen more. Which of several refusals is first: docs/reference/refusals.md. In words: msc_refusal_text.
+ * empty or in use, posts of two boards, or a wrong number of names. New calls of version 1.1 and msc_open answer a
+ * misuse by its cause, from -101 on: MSC_IS_MISUSE. A refused call changes nothing, except that the post may have seen
+ * more. Which of several refusals is first: docs/reference/refusals.md. In words: msc_refusal_text.
  */
 #ifndef MSC_H
 #define MSC_H
@@ -78,8 +84,15 @@ enum {
     MSC_COREGION_NOT_OPEN = -29, /* F29: no coregion is open */
     MSC_IN_COREGION = -30,      /* F30: a coregion contains no sends */
     MSC_NO_SUCH_EVENT = -31,    /* F31: the line has no event with this number */
-    MSC_MISUSE = -100
+    MSC_MISUSE = -100,          /* a misuse; from a call of version 1.1: one without a cause below */
+    MSC_EMPTY = -101,           /* a handle is empty, or was freed */
+    MSC_IN_USE = -103,          /* a handle that should be empty is in use */
+    MSC_WRONG_NUMBER = -104,    /* a number or a count that doesn't fit the rest of the call */
+    MSC_OTHER_BOARD = -105      /* the posts are of two boards */
 };
+
+/* Whether an answer is a misuse, of any cause. */
+#define MSC_IS_MISUSE(answer) ((answer) <= MSC_MISUSE && (answer) >= MSC_OTHER_BOARD)
 
 /* The result of gathering a board. Its words are for the library alone; it is empty when both are zero. */
 typedef struct {
@@ -147,6 +160,7 @@ typedef struct {
 
 /* The exports of the library. Call the functions below instead: they check for NULL. */
 int32_t msc_open_(msc_post *posts, size_t count, uint32_t capacity);
+int32_t msc_open_numbered_(msc_post *posts, size_t count, uint32_t capacity, uint64_t origin, uint64_t number);
 int32_t msc_send_(msc_post *post, uint32_t to, const uint8_t *name, size_t name_length, const uint8_t *body,
                   size_t body_length, uint32_t *event);
 int32_t msc_send_all_(msc_post *post, uint32_t to, const uint8_t *bytes, size_t length, const msc_message *messages,
@@ -154,24 +168,24 @@ int32_t msc_send_all_(msc_post *post, uint32_t to, const uint8_t *bytes, size_t 
 int32_t msc_receive_(msc_post *post, uint32_t from, msc_arrival *arrival);
 int32_t msc_any_(msc_post *post, msc_arrival *arrival);
 int32_t msc_receive_up_to_(msc_post *post, uint32_t from, msc_arrival *arrivals, size_t most, size_t *count);
-int32_t msc_name_(msc_post *post, uint8_t *buffer, size_t room, size_t *length);
-int32_t msc_body_(msc_post *post, uint8_t *buffer, size_t room, size_t *length);
-int32_t msc_races_(msc_post *post, uint32_t *buffer, size_t room, size_t *count);
-int32_t msc_name_of_(msc_post *post, size_t which, uint8_t *buffer, size_t room, size_t *length);
-int32_t msc_body_of_(msc_post *post, size_t which, uint8_t *buffer, size_t room, size_t *length);
-int32_t msc_races_of_(msc_post *post, size_t which, uint32_t *buffer, size_t room, size_t *count);
+int32_t msc_name_(const msc_post *post, uint8_t *buffer, size_t room, size_t *length);
+int32_t msc_body_(const msc_post *post, uint8_t *buffer, size_t room, size_t *length);
+int32_t msc_races_(const msc_post *post, uint32_t *buffer, size_t room, size_t *count);
+int32_t msc_name_of_(const msc_post *post, size_t which, uint8_t *buffer, size_t room, size_t *length);
+int32_t msc_body_of_(const msc_post *post, size_t which, uint8_t *buffer, size_t room, size_t *length);
+int32_t msc_races_of_(const msc_post *post, size_t which, uint32_t *buffer, size_t room, size_t *count);
 int32_t msc_close_(msc_post *post, uint32_t to);
 int32_t msc_open_coregion_(msc_post *post);
 int32_t msc_close_coregion_(msc_post *post);
 int32_t msc_reserve_(msc_post *post, uint32_t events);
-int32_t msc_event_(msc_post *post, uint32_t number, msc_event *event, uint8_t *buffer, size_t room);
+int32_t msc_event_(const msc_post *post, uint32_t number, msc_event *event, uint8_t *buffer, size_t room);
 int32_t msc_gather_(msc_post *posts, size_t count, msc_board *board);
 int32_t msc_meet_(msc_post *posts, size_t count);
 int32_t msc_carry_over_(msc_board *board, msc_post *posts, size_t count, size_t *carried, size_t room, size_t *total);
-int32_t msc_board_text_(msc_board *board, const uint8_t *names, size_t names_length, const size_t *lengths,
+int32_t msc_board_text_(const msc_board *board, const uint8_t *names, size_t names_length, const size_t *lengths,
                         size_t count, uint8_t *buffer, size_t room, size_t *length);
-int32_t msc_board_report_(msc_board *board, size_t number, msc_report *report, uint32_t *buffer, size_t room);
-int32_t msc_board_left_(msc_board *board, const msc_place *place, msc_left *left, uint8_t *name, size_t name_room,
+int32_t msc_board_report_(const msc_board *board, size_t number, msc_report *report, uint32_t *buffer, size_t room);
+int32_t msc_board_left_(const msc_board *board, const msc_place *place, msc_left *left, uint8_t *name, size_t name_room,
                         uint8_t *body, size_t body_room);
 int32_t msc_perform_(uint32_t task, uint64_t seed, const uint8_t *text, size_t length, uint8_t *out, size_t out_room,
                      uint8_t *err, size_t err_room, msc_lengths *lengths);
@@ -183,12 +197,17 @@ uint32_t msc_version(void);
 /* A valid address for a buffer of no bytes: the library requires one even then. */
 static uint64_t msc_no_bytes_;
 
+/* How many boards this translation unit has opened. With its address, which no other counter has, the count numbers a
+ * board: no two boards of a process have the same pair. By it the library refuses posts of two boards. */
+static uint64_t msc_boards_opened_;
+
 /* Opens a board of COUNT instances (2 to 32) whose lanes have CAPACITY slots (1 to 64). posts[i] becomes the post of
- * instance i + 1. All posts have to be empty. On MSC_BAD_SIZE, MSC_BAD_CAPACITY or MSC_NO_MEMORY they stay so. Any
- * thread may call. */
+ * instance i + 1. All posts have to be empty (else MSC_IN_USE). On MSC_BAD_SIZE, MSC_BAD_CAPACITY or MSC_NO_MEMORY they
+ * stay so. Any thread may call. */
 static inline int msc_open(msc_post *posts, size_t count, uint32_t capacity) {
     if (posts == NULL) return MSC_MISUSE;
-    return msc_open_(posts, count, capacity);
+    return msc_open_numbered_(posts, count, capacity, (uint64_t)(uintptr_t)&msc_boards_opened_,
+                              __atomic_add_fetch(&msc_boards_opened_, 1, __ATOMIC_RELAXED));
 }
 
 /* Sends a message to the instance TO. NAME is a C string: a letter followed by letters, digits and _, 1 to 32 bytes in
@@ -197,26 +216,31 @@ static inline int msc_open(msc_post *posts, size_t count, uint32_t capacity) {
  * slot, so try again later. A body takes one allocation. */
 static inline int msc_send(msc_post *post, uint32_t to, const char *name, const void *body, size_t length,
                            uint32_t *event) {
-    uint32_t ignored = 0;
+    uint32_t number = 0;
+    int answer;
     if (post == NULL || name == NULL || (body == NULL && length != 0)) return MSC_MISUSE;
     if (body == NULL) body = &msc_no_bytes_;
-    if (event == NULL) event = &ignored;
-    return msc_send_(post, to, (const uint8_t *)name, strlen(name), (const uint8_t *)body, length, event);
+    answer = msc_send_(post, to, (const uint8_t *)name, strlen(name), (const uint8_t *)body, length, &number);
+    if (answer == MSC_DONE && event != NULL) *event = number;
+    return answer;
 }
 
 /* Sends COUNT messages to the instance TO, one directly after another and with one store: all of them or none. BYTES
  * has LENGTH bytes: the first message's name, its body, the second one's name, and so on. MESSAGES gives the length of
- * each; together they are LENGTH. All bytes are copied. *EVENT receives the number of the first send among this
- * instance's events, or 0 if COUNT is 0; the others have the next numbers. EVENT may be NULL. A refusal of one message
- * refuses all. MSC_TOO_MANY: the lane has fewer slots. MSC_FULL: fewer slots are free. */
+ * each; together they are LENGTH (else MSC_MISUSE, and nothing is looked at). All bytes are copied. *EVENT receives the
+ * number of the first send among this instance's events, or 0 if COUNT is 0; the others have the next numbers. EVENT
+ * may be NULL. A refusal of one message refuses all. MSC_TOO_MANY: the lane has fewer slots. MSC_FULL: fewer slots are
+ * free. */
 static inline int msc_send_all(msc_post *post, uint32_t to, const void *bytes, size_t length,
                                const msc_message *messages, size_t count, uint32_t *event) {
-    uint32_t ignored = 0;
+    uint32_t number = 0;
+    int answer;
     if (post == NULL || (bytes == NULL && length != 0) || (messages == NULL && count != 0)) return MSC_MISUSE;
     if (bytes == NULL) bytes = &msc_no_bytes_;
     if (messages == NULL) messages = (const msc_message *)(const void *)&msc_no_bytes_;
-    if (event == NULL) event = &ignored;
-    return msc_send_all_(post, to, (const uint8_t *)bytes, length, messages, count, event);
+    answer = msc_send_all_(post, to, (const uint8_t *)bytes, length, messages, count, &number);
+    if (answer == MSC_DONE && event != NULL) *event = number;
+    return answer;
 }
 
 /* Receives the first message that waits on the lane from the instance FROM, and describes it in *ARRIVAL. It stays in
@@ -251,34 +275,34 @@ static inline int msc_receive_up_to(msc_post *post, uint32_t from, msc_arrival *
  * races in numbers. *LENGTH or *COUNT receives the whole length. A race is the number of the earlier event among this
  * instance's events, from 1. After msc_receive_up_to the last message is the last of its array. MSC_MISUSE: no message
  * has come yet. */
-static inline int msc_name(msc_post *post, char *buffer, size_t room, size_t *length) {
+static inline int msc_name(const msc_post *post, char *buffer, size_t room, size_t *length) {
     if (post == NULL || length == NULL || (buffer == NULL && room != 0)) return MSC_MISUSE;
     return msc_name_(post, buffer == NULL ? (uint8_t *)&msc_no_bytes_ : (uint8_t *)buffer, room, length);
 }
 
-static inline int msc_body(msc_post *post, void *buffer, size_t room, size_t *length) {
+static inline int msc_body(const msc_post *post, void *buffer, size_t room, size_t *length) {
     if (post == NULL || length == NULL || (buffer == NULL && room != 0)) return MSC_MISUSE;
     return msc_body_(post, buffer == NULL ? (uint8_t *)&msc_no_bytes_ : (uint8_t *)buffer, room, length);
 }
 
-static inline int msc_races(msc_post *post, uint32_t *buffer, size_t room, size_t *count) {
+static inline int msc_races(const msc_post *post, uint32_t *buffer, size_t room, size_t *count) {
     if (post == NULL || count == NULL || (buffer == NULL && room != 0)) return MSC_MISUSE;
     return msc_races_(post, buffer == NULL ? (uint32_t *)&msc_no_bytes_ : buffer, room, count);
 }
 
 /* The same for the message that ARRIVALS[WHICH] of the last msc_receive_up_to describes. After a receive of one
  * message, WHICH is 0. MSC_MISUSE: fewer came. */
-static inline int msc_name_of(msc_post *post, size_t which, char *buffer, size_t room, size_t *length) {
+static inline int msc_name_of(const msc_post *post, size_t which, char *buffer, size_t room, size_t *length) {
     if (post == NULL || length == NULL || (buffer == NULL && room != 0)) return MSC_MISUSE;
     return msc_name_of_(post, which, buffer == NULL ? (uint8_t *)&msc_no_bytes_ : (uint8_t *)buffer, room, length);
 }
 
-static inline int msc_body_of(msc_post *post, size_t which, void *buffer, size_t room, size_t *length) {
+static inline int msc_body_of(const msc_post *post, size_t which, void *buffer, size_t room, size_t *length) {
     if (post == NULL || length == NULL || (buffer == NULL && room != 0)) return MSC_MISUSE;
     return msc_body_of_(post, which, buffer == NULL ? (uint8_t *)&msc_no_bytes_ : (uint8_t *)buffer, room, length);
 }
 
-static inline int msc_races_of(msc_post *post, size_t which, uint32_t *buffer, size_t room, size_t *count) {
+static inline int msc_races_of(const msc_post *post, size_t which, uint32_t *buffer, size_t room, size_t *count) {
     if (post == NULL || count == NULL || (buffer == NULL && room != 0)) return MSC_MISUSE;
     return msc_races_of_(post, which, buffer == NULL ? (uint32_t *)&msc_no_bytes_ : buffer, room, count);
 }
@@ -315,8 +339,9 @@ static inline int msc_close_coregion(msc_post *post) {
     return msc_close_coregion_(post);
 }
 
-/* Allocates room for the next EVENTS events of this post, at most 4096. On boards of up to 8 instances, while some room
- * is left, msc_send allocates only for a body. MSC_NO_MEMORY: nothing has changed. */
+/* Allocates room for the next EVENTS events of this post, at most 4096. While some room is left, msc_send allocates
+ * only for a body that isn't empty. This holds on boards of up to 8 instances, and on each board until this post
+ * receives. MSC_NO_MEMORY: nothing has changed. */
 static inline int msc_reserve(msc_post *post, uint32_t events) {
     if (post == NULL) return MSC_MISUSE;
     return msc_reserve_(post, events);
@@ -324,7 +349,7 @@ static inline int msc_reserve(msc_post *post, uint32_t events) {
 
 /* Describes in *EVENT the event with this NUMBER, from 1, among those that this post has sent and received. Copies the
  * message's name, as much as its ROOM allows. MSC_NO_SUCH_EVENT: there are fewer. */
-static inline int msc_line_event(msc_post *post, uint32_t number, msc_event *event, char *name, size_t room) {
+static inline int msc_line_event(const msc_post *post, uint32_t number, msc_event *event, char *name, size_t room) {
     if (post == NULL || event == NULL || (name == NULL && room != 0)) return MSC_MISUSE;
     return msc_event_(post, number, event, name == NULL ? (uint8_t *)&msc_no_bytes_ : (uint8_t *)name, room);
 }
@@ -358,8 +383,8 @@ static inline int msc_gather(msc_post *posts, size_t count, msc_board *board) {
  * bytes. No zero byte is added. NAMES are the names of the COUNT instances, in order: C strings like names of messages,
  * no two the same. MSC_MISUSE: COUNT isn't the board's number of instances. Else the fault of the first bad name,
  * MSC_NAME_EMPTY to MSC_NAME_RESERVED or MSC_NAME_TWICE. MSC_NO_MEMORY. `mscrun check` and `mscview` read it. */
-static inline int msc_board_text(msc_board *board, const char *const *names, size_t count, char *buffer, size_t room,
-                                 size_t *length) {
+static inline int msc_board_text(const msc_board *board, const char *const *names, size_t count, char *buffer,
+                                 size_t room, size_t *length) {
     /* A name is passed on with at most one byte too many, by which the library sees that it is too long. */
     enum { MOST = 32, ENOUGH = 33 };
     uint8_t joined[MOST * ENOUGH];
@@ -381,14 +406,15 @@ static inline int msc_board_text(msc_board *board, const char *const *names, siz
 /* Describes in *REPORT the report with this NUMBER, from 1: each receive of the board has one, by instance and event.
  * Its races, which are numbers of earlier events of the same instance, go to BUFFER, as many as its ROOM allows (in
  * numbers). MSC_NO_SUCH_EVENT: the board has fewer receives. */
-static inline int msc_board_report(msc_board *board, size_t number, msc_report *report, uint32_t *buffer, size_t room) {
+static inline int msc_board_report(const msc_board *board, size_t number, msc_report *report, uint32_t *buffer,
+                                   size_t room) {
     if (board == NULL || report == NULL || (buffer == NULL && room != 0)) return MSC_MISUSE;
     return msc_board_report_(board, number, report, buffer == NULL ? (uint32_t *)&msc_no_bytes_ : buffer, room);
 }
 
 /* Describes in *LEFT the message with this NUMBER, from 1, that still waits on the lane from the instance FROM to the
  * instance TO. Copies its name and its body, as much as there is room for. MSC_NOTHING: fewer wait. */
-static inline int msc_board_left(msc_board *board, uint32_t from, uint32_t to, size_t number, msc_left *left,
+static inline int msc_board_left(const msc_board *board, uint32_t from, uint32_t to, size_t number, msc_left *left,
                                  char *name, size_t name_room, void *body, size_t body_room) {
     msc_place place;
     if (board == NULL || left == NULL || (name == NULL && name_room != 0) || (body == NULL && body_room != 0))
@@ -402,11 +428,11 @@ static inline int msc_board_left(msc_board *board, uint32_t from, uint32_t to, s
 
 /* Carries over what *BOARD left to all COUNT posts of a new board, in any order: so a run with full lines goes on. Each
  * message that still waited is sent again by its sender, lane by lane, in the order in which it waited. Each lane that
- * was closed is closed again. Then nothing is left on *BOARD. CARRIED, which may be NULL, has room for COUNT numbers:
- * how many sends each instance carried, by instance. These are the first events of its line.
+ * was closed is closed again. Then *BOARD has no message left and no closed lane. CARRIED, which may be NULL, has room
+ * for COUNT numbers: how many sends each instance carried, by instance. These are the first events of its line.
  *
- * The caller promises that the new board has as many instances, and lanes of at least as many slots. Its posts did
- * nothing yet: no event (else MSC_MISUSE), no close, no coregion.
+ * MSC_MISUSE also if the new board has another number of instances, or lanes of fewer slots. The same if a post of it
+ * did something already: an event, a close, an open coregion.
  *
  * A race whose earlier event is a carried send may be enforced by what the earlier board saw: leave it out. No other
  * reported race is touched. Races between an event of the earlier board and a receive on the new one are lost: no board
@@ -415,11 +441,8 @@ static inline int msc_board_left(msc_board *board, uint32_t from, uint32_t to, s
  * On MSC_NOT_ALL_POSTS, MSC_NO_MEMORY (which may come first, as in msc_meet) or MSC_MISUSE nothing was sent, and what
  * was left stays in *BOARD. */
 static inline int msc_carry_over(msc_board *board, msc_post *posts, size_t count, size_t *carried) {
-    msc_event event;
-    size_t total, i;
+    size_t total;
     if (board == NULL || posts == NULL) return MSC_MISUSE;
-    for (i = 0; i < count; i++)
-        if (msc_line_event(&posts[i], 1, &event, NULL, 0) == MSC_DONE) return MSC_MISUSE;
     return msc_carry_over_(board, posts, count, carried == NULL ? (size_t *)&msc_no_bytes_ : carried,
                            carried == NULL ? 0 : count, &total);
 }
@@ -478,6 +501,10 @@ static inline const char *msc_refusal_text(int answer) {
     case MSC_IN_COREGION: return "nothing is sent in a coregion";
     case MSC_NO_SUCH_EVENT: return "the line has no event of this number";
     case MSC_MISUSE: return "misuse: no pointer, an empty handle, or what doesn't belong together";
+    case MSC_EMPTY: return "misuse: a handle is empty";
+    case MSC_IN_USE: return "misuse: a handle is in use";
+    case MSC_WRONG_NUMBER: return "misuse: a number doesn't fit the call";
+    case MSC_OTHER_BOARD: return "misuse: the posts are of two boards";
     default: return "no answer of this library";
     }
 }

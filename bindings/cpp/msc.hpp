@@ -18,7 +18,8 @@
  * program without exceptions uses msc.h.
  *
  * THREADS. One thread at a time uses a post. Different threads may use the posts of one board at the same time. A board
- * itself is for one thread. It meets, gathers and ends only while no other thread uses one of its posts.
+ * itself is for one thread. It meets, gathers and ends only while no other thread uses one of its posts. Several
+ * threads may read one gathered board at the same time, by its const members.
  */
 #ifndef MSC_HPP
 #define MSC_HPP
@@ -295,8 +296,7 @@ private:
         }
     }
 
-    // (the calls that only read also take a pointer that may write)
-    mutable msc_board handle_ = MSC_BOARD_INIT;
+    msc_board handle_ = MSC_BOARD_INIT;
     std::size_t size_;
     std::uint32_t capacity_;
 };

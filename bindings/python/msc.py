@@ -34,6 +34,7 @@ thread.
 from __future__ import annotations
 
 import ctypes
+import itertools
 import os
 import threading
 import time
@@ -156,7 +157,7 @@ def _load() -> ctypes.CDLL:
     handle, lengths, number = POINTER(_Handle), POINTER(_Lengths), POINTER(c_uint32)
     buffer, size, sizes = c_void_p, c_size_t, POINTER(c_size_t)
     kinds: Dict[str, List[Any]] = {
-        "msc_open_": [handle, size, c_uint32],
+        "msc_open_numbered_": [handle, size, c_uint32, c_uint64, c_uint64],
         "msc_send_": [handle, c_uint32, buffer, size, buffer, size, number],
         "msc_send_all_": [handle, c_uint32, buffer, size, lengths, size, number],
         "msc_receive_": [handle, c_uint32, POINTER(_Arrival)],
@@ -416,14 +417,15 @@ class Post:
 class Board:
     """A board of 2 to 32 instances whose lanes have 1 to 64 slots. `posts` has their posts, in order: instance 1 has
     `posts[0]`."""
-
+    _numbers = itertools.count(1)  # (its address and count number a board, by which posts of two boards are refused)
     def __init__(self, instances: int, capacity: int) -> None:
         # (a number that no memory is enough for is an invalid size too)
         count = instances if 0 <= instances <= 32 else 33
         self._handles = (_Handle * max(1, count))()
         self._count = count
         self.capacity = capacity
-        _done(_library.msc_open_(self._handles, count, capacity if 0 <= capacity <= 64 else 65))
+        slots, given = capacity if 0 <= capacity <= 64 else 65, (id(self._numbers), next(self._numbers))
+        _done(_library.msc_open_numbered_(self._handles, count, slots, *given))
         self.posts: Tuple[Post, ...] = tuple(
             Post(self, handle, number) for number, handle in enumerate(self._handles, 1)
         )
@@ -540,8 +542,6 @@ class Gathered:
         its line there. Leave out races whose earlier event is one of them: the earlier board may have had them in
         order. Races between the two boards are not reported."""
         capacity = self._capacity if capacity is None else capacity
-        if capacity < self._capacity:
-            _refuse(-100)
         board = Board(self._count, capacity)
         carried, total = (c_size_t * self._count)(), c_size_t()
         with self._lock:

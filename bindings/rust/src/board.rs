@@ -5,6 +5,11 @@ use crate::ffi::{self, Handle};
 use crate::gathered::Gathered;
 use crate::post::Post;
 use std::fmt;
+use std::sync::atomic::{AtomicU64, Ordering};
+
+/// How many boards this crate has opened. With its address, which no other counter has, the count numbers a board. So
+/// the library tells its posts from those of other boards.
+static OPENED: AtomicU64 = AtomicU64::new(0);
 
 /// A board: 2 to 32 instances, with a lane of 1 to 64 slots from each to each other one.
 ///
@@ -38,8 +43,12 @@ impl Board {
             return Err(Error::BadSize);
         }
         let mut handles: Vec<Handle> = (0..instances).map(|_| Handle::EMPTY).collect();
+        let origin = std::ptr::addr_of!(OPENED) as u64;
+        let number = OPENED.fetch_add(1, Ordering::Relaxed) + 1;
         // SAFETY: the handles are empty, and the length is theirs.
-        done(unsafe { ffi::msc_open_(handles.as_mut_ptr(), handles.len(), capacity) })?;
+        done(unsafe {
+            ffi::msc_open_numbered_(handles.as_mut_ptr(), handles.len(), capacity, origin, number)
+        })?;
         Ok(Board { handles, capacity })
     }
 
@@ -84,9 +93,9 @@ impl Board {
 
     /// Carries over to this board, which has done nothing yet, what a gathered one left. That one has as many instances
     /// and at most as many slots. Returns how many sends each instance carried.
-    pub(crate) fn take_over(&mut self, left: *mut Handle) -> Result<Vec<u32>, Error> {
+    pub(crate) fn take_over(&mut self, left: &mut Handle) -> Result<Vec<u32>, Error> {
         let (mut carried, mut total) = (vec![0usize; self.len()], 0);
-        // SAFETY: as above. This function requires of the board whatever else the call requires.
+        // SAFETY: as above, and the other handle is lent.
         done(unsafe {
             ffi::msc_carry_over_(
                 left,

@@ -83,7 +83,13 @@ pub struct Written {
 }
 
 extern "C" {
-    pub fn msc_open_(posts: *mut Handle, count: usize, capacity: u32) -> i32;
+    pub fn msc_open_numbered_(
+        posts: *mut Handle,
+        count: usize,
+        capacity: u32,
+        origin: u64,
+        number: u64,
+    ) -> i32;
     pub fn msc_send_(
         post: *mut Handle,
         to: u32,
@@ -149,7 +155,7 @@ extern "C" {
         total: *mut usize,
     ) -> i32;
     pub fn msc_board_text_(
-        board: *mut Handle,
+        board: *const Handle,
         names: *const u8,
         names_length: usize,
         lengths: *const usize,
@@ -159,14 +165,14 @@ extern "C" {
         length: *mut usize,
     ) -> i32;
     pub fn msc_board_report_(
-        board: *mut Handle,
+        board: *const Handle,
         number: usize,
         report: *mut Report,
         buffer: *mut u32,
         room: usize,
     ) -> i32;
     pub fn msc_board_left_(
-        board: *mut Handle,
+        board: *const Handle,
         place: *const Place,
         left: *mut Left,
         name: *mut u8,

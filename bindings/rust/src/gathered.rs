@@ -4,7 +4,6 @@ use crate::board::Board;
 use crate::error::{done, Error};
 use crate::ffi::{self, Handle};
 use crate::message::Name;
-use std::cell::UnsafeCell;
 use std::fmt;
 
 /// The result of gathering a board: its chart, the races of each receive, and the messages that still wait.
@@ -30,19 +29,21 @@ use std::fmt;
 /// # }
 /// ```
 pub struct Gathered {
-    // (the library's calls take a pointer that may write, even those that only read)
-    handle: UnsafeCell<Handle>,
+    handle: Handle,
     instances: u32,
     capacity: u32,
 }
 
-// SAFETY: nothing of a gathered board belongs to a thread. It isn't shared (a cell isn't `Sync`).
+// SAFETY: nothing of a gathered board belongs to a thread.
 unsafe impl Send for Gathered {}
+
+// SAFETY: the calls that lend a gathered board only read it, and the library lets several threads do so at once.
+unsafe impl Sync for Gathered {}
 
 impl Gathered {
     /// The result of a board with this many instances, whose lanes have this many slots.
     pub(crate) fn new(handle: Handle, instances: u32, capacity: u32) -> Gathered {
-        Gathered { handle: UnsafeCell::new(handle), instances, capacity }
+        Gathered { handle, instances, capacity }
     }
 
     /// How many instances it has.
@@ -59,10 +60,10 @@ impl Gathered {
         let lengths: Vec<usize> = names.iter().map(|name| name.as_ref().len()).collect();
         let (mut text, mut length) = (Vec::new(), 0);
         loop {
-            // SAFETY: the handle is this board's alone, the buffer has the length given, and the others are lent.
+            // SAFETY: the handle is only read, the buffer has the length given, and the others are lent.
             done(unsafe {
                 ffi::msc_board_text_(
-                    self.handle.get(),
+                    &self.handle,
                     joined.as_ptr(),
                     joined.len(),
                     lengths.as_ptr(),
@@ -96,8 +97,8 @@ impl Gathered {
 
     /// Opens the next board of a run, with as many instances and lanes of `capacity` slots, and carries over to it what
     /// this one left. Each message that still waited is sent again by its sender, in order, and each lane that was
-    /// closed is closed again. Then nothing is left here. Also returns how many sends each instance carried, by
-    /// instance: they are the first events of its line on the new board.
+    /// closed is closed again. Then no message and no closed lane is left here. Also returns how many sends each
+    /// instance carried, by instance: they are the first events of its line on the new board.
     ///
     /// A race whose earlier event is a carried send may be enforced by what this board saw: leave it out. Races between
     /// an event of this board and a receive on the next one are not reported. An open coregion isn't carried over, nor
@@ -122,7 +123,7 @@ impl Gathered {
             return Err(Error::Misuse);
         }
         let mut board = Board::new(self.instances(), capacity)?;
-        let carried = board.take_over(self.handle.get())?;
+        let carried = board.take_over(&mut self.handle)?;
         Ok((board, carried))
     }
 
@@ -132,7 +133,7 @@ impl Gathered {
         loop {
             // SAFETY: as above.
             let answer = unsafe {
-                ffi::msc_board_report_(self.handle.get(), number, &mut info, races.as_mut_ptr(), races.len())
+                ffi::msc_board_report_(&self.handle, number, &mut info, races.as_mut_ptr(), races.len())
             };
             if answer != 0 {
                 return None;
@@ -154,7 +155,7 @@ impl Gathered {
                 // SAFETY: as above.
                 answer = unsafe {
                     ffi::msc_board_left_(
-                        self.handle.get(),
+                        &self.handle,
                         &place,
                         &mut info,
                         bytes.as_mut_ptr(),
@@ -178,8 +179,8 @@ impl Gathered {
 
 impl Drop for Gathered {
     fn drop(&mut self) {
-        // SAFETY: as above.
-        unsafe { ffi::msc_free_(self.handle.get()) };
+        // SAFETY: the handle is this board's alone.
+        unsafe { ffi::msc_free_(&mut self.handle) };
     }
 }
 

@@ -5,3 +5,4 @@ pub mod CarryingOn
 pub mod LaneCounts
 pub mod PostedSends
 pub mod Preparing
+pub mod Untouched

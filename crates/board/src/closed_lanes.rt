@@ -14,7 +14,7 @@ use std::alloc::{AllocError, Global};
 
 impl Parked {
     /// Whether the post closed its lane to another instance.
-    fn has_closed(&self, to: InstanceNo) -> bool
+    pub(crate) fn has_closed(&self, to: InstanceNo) -> bool
         requires among { to ≤ self.now.board.size }
         requires not_itself { to ≢ self.now.number }
         ensures { result ≡ is_closed self.now.made self.now.number to }

@@ -11,5 +11,6 @@
 mod carrying;
 pub mod laws;
 mod steps;
+mod untouched;
 
 pub use carrying::{Carried, CarryCause, CarryError, carry_over};

@@ -13,8 +13,17 @@ use Rattle.c_board.specs.declared.handle.Handle.{Handle}
 use Rattle.c_board.specs.Opening.{AreEmpty, kept_by}
 use Rattle.c_board.proofs.KeptLists.{kept_at}
 use Rattle.c_board.proofs.Lists.{put_all, take_none}
-use Rattle.c_board.specs.Chairs.{Fits, AreFit, seat_with, seats_with, kept_seats, posts_of, is_post, AreTaken, KeepOneBoard}
+use Rattle.c_board.specs.Chairs.{Fits, AreFit, seat_with, seats_with, kept_seats, posts_of, is_post, AreTaken, AreNumberedApart, HaveOneNumber, AreOfTwoBoards, AreOfOneNumber, IsOneOfAnother}
 use Rattle.c_board.specs.PostStates.{PostStateView}
+
+some_same : {X : Type 0} (x y : X) → Some x ≡ Some y → x ≡ y
+some_same x y e = cc
+
+split_last : (i n : ℕ) → i < n + 1 → (i < n) ⊎ (i ≡ n)
+split_last zero zero h = inr refl
+split_last zero (suc n) h = inl (omega arith)
+split_last (suc i) zero h = absurd (omega (arith, h))
+split_last (suc i) (suc n) h = ⊎_elim (λ (low : i < n). inl (omega (arith, low))) (λ (same : i ≡ n). inr (omega (arith, same))) (split_last i n (omega (arith, h)))
 
 -- one more post with its seat
 pub fit-push : (chairs : List Chair) (posts : List PostView) (chair : Chair) (post : PostView) → AreFit chairs posts → Fits chair post → AreFit (chairs ++ chair ∷ []) (posts ++ post ∷ [])
@@ -113,12 +122,70 @@ seated_at (c ∷ chairs) (p ∷ posts) zero post all there = (seat_with c p, sam
     same a x e = cc
 seated_at (c ∷ chairs) (p ∷ posts) (suc i) post all there = seated_at chairs posts i post all.1 there
 
--- posts from handles that keep posts of one board are of one board
-pub one_board : (old : List (Option Kept)) (chairs : List Chair) (posts : List PostView) → KeepOneBoard old → old ≡ kept_seats (seats_with chairs posts) → AreFit chairs posts → AreOfOneBoard posts
-one_board old chairs posts one same fit i j x y at_i at_j =
+-- posts from handles whose boards have one number are of one board
+pub one_board : (old : List (Option Kept)) (chairs : List Chair) (posts : List PostView) → AreNumberedApart old → HaveOneNumber old → old ≡ kept_seats (seats_with chairs posts) → AreFit chairs posts → AreOfOneBoard posts
+one_board old chairs posts apart one same fit i j x y at_i at_j =
     let a = seated_at chairs posts i x fit at_i in
     let b = seated_at chairs posts j y fit at_j in
-    ap (λ (p : PostView). p.board) (sym a.1) ∙ one i j a.0 b.0 (ap (λ (xs : List (Option Kept)). slice_get xs i) same ∙ a.2) (ap (λ (xs : List (Option Kept)). slice_get xs j) same ∙ b.2) ∙ ap (λ (p : PostView). p.board) b.1
+    let there = ap (λ (xs : List (Option Kept)). slice_get xs i) same ∙ a.2 in
+    let other = ap (λ (xs : List (Option Kept)). slice_get xs j) same ∙ b.2 in
+    ap (λ (p : PostView). p.board) (sym a.1) ∙ apart i j a.0 b.0 there other (one i j a.0 b.0 there other) ∙ ap (λ (p : PostView). p.board) b.1
+
+-- a seat with its post, and the seat of a kept post
+kept_in_seat : (chairs : List Chair) (posts : List PostView) (i : ℕ) (chair : Chair) → AreFit chairs posts → slice_get chairs i ≡ Some chair
+    → (post : PostView) × (slice_get (kept_seats (seats_with chairs posts)) i ≡ Some (Some (Post (seat_with chair post))))
+kept_in_seat [] [] i chair all there = absurd (never there)
+  where
+    never : {X : Type 0} {x : X} → None ≡ Some x → ⊥
+    never e = cc
+kept_in_seat [] (p ∷ posts) i chair all there = absurd all
+kept_in_seat (c ∷ chairs) [] i chair all there = absurd all
+kept_in_seat (c ∷ chairs) (p ∷ posts) zero chair all there = (p, ap (λ (it : Chair). Some (Some (Post (seat_with it p)))) (same c chair there))
+  where
+    same : (a x : Chair) → Some a ≡ Some x → a ≡ x
+    same a x e = cc
+kept_in_seat (c ∷ chairs) (p ∷ posts) (suc i) chair all there = kept_in_seat chairs posts i chair all.1 there
+
+seat_of_kept : (chairs : List Chair) (posts : List PostView) (i : ℕ) (state : PostStateView) → AreFit chairs posts → slice_get (kept_seats (seats_with chairs posts)) i ≡ Some (Some (Post state))
+    → (chair : Chair) × (slice_get chairs i ≡ Some chair) × (state.board_number ≡ chair.board_number)
+seat_of_kept [] [] i state all there = absurd (never there)
+  where
+    never : {X : Type 0} {x : X} → None ≡ Some x → ⊥
+    never e = cc
+seat_of_kept [] (p ∷ posts) i state all there = absurd all
+seat_of_kept (c ∷ chairs) [] i state all there = absurd all
+seat_of_kept (c ∷ chairs) (p ∷ posts) zero state all there = (c, refl, ap (λ (it : PostStateView). it.board_number) (same state (seat_with c p) there))
+  where
+    same : (x a : PostStateView) → Some (Some (Post a)) ≡ Some (Some (Post x)) → x ≡ a
+    same x a e = cc
+seat_of_kept (c ∷ chairs) (p ∷ posts) (suc i) state all there = seat_of_kept chairs posts i state all.1 there
+
+-- the posts' boards have one number if their seats say so, and otherwise two posts are of two boards
+pub one_number : (old : List (Option Kept)) (chairs : List Chair) (posts : List PostView) → old ≡ kept_seats (seats_with chairs posts) → AreFit chairs posts → AreOfOneNumber chairs → HaveOneNumber old
+one_number old [] [] same fit one i j x y at_i at_j = absurd (never (sym (ap (λ (xs : List (Option Kept)). slice_get xs i) same) ∙ at_i))
+  where
+    never : {X : Type 0} {a : X} → None ≡ Some a → ⊥
+    never e = cc
+one_number old [] (p ∷ posts) same fit one i j x y at_i at_j = absurd fit
+one_number old (c ∷ chairs) posts same fit one i j x y at_i at_j =
+    let a = seat_of_kept (c ∷ chairs) posts i x fit (sym (ap (λ (xs : List (Option Kept)). slice_get xs i) same) ∙ at_i) in
+    let b = seat_of_kept (c ∷ chairs) posts j y fit (sym (ap (λ (xs : List (Option Kept)). slice_get xs j) same) ∙ at_j) in
+    a.2 ∙ sym (one i c a.0 refl a.1) ∙ one j c b.0 refl b.1 ∙ sym b.2
+
+pub two_boards : (old : List (Option Kept)) (chairs : List Chair) (posts : List PostView) → old ≡ kept_seats (seats_with chairs posts) → AreFit chairs posts → IsOneOfAnother chairs → AreOfTwoBoards old
+two_boards old chairs posts same fit another =
+    let a = kept_in_seat chairs posts 0 another.1 fit another.3 in
+    let b = kept_in_seat chairs posts another.0 another.2 fit another.4 in
+    (0, another.0, seat_with another.1 a.0, seat_with another.2 b.0, ap (λ (xs : List (Option Kept)). slice_get xs 0) same ∙ a.1, ap (λ (xs : List (Option Kept)). slice_get xs another.0) same ∙ b.1, another.5)
+
+-- one more seat has the number
+pub number_next : (chairs : List Chair) (n : ℕ) (one here : Chair) → slice_get chairs 0 ≡ Some one → slice_get chairs n ≡ Some here → one.board_number ≡ here.board_number
+    → ((i : ℕ) (first chair : Chair) → i < n → slice_get chairs 0 ≡ Some first → slice_get chairs i ≡ Some chair → first.board_number ≡ chair.board_number)
+    → (i : ℕ) (first chair : Chair) → i < n + 1 → slice_get chairs 0 ≡ Some first → slice_get chairs i ≡ Some chair → first.board_number ≡ chair.board_number
+number_next chairs n one here at_first there same before i first chair within at_0 at_i = ⊎_elim (λ (low : i < n). before i first chair low at_0 at_i)
+    (λ (last : i ≡ n). ap (λ (it : Chair). it.board_number) (some_same first one (sym at_0 ∙ at_first)) ∙ same
+    ∙ ap (λ (it : Chair). it.board_number) (some_same here chair (sym there ∙ subst (λ (k : ℕ). slice_get chairs k ≡ Some chair) last at_i)))
+    (split_last i n within)
 
 -- so all of them are at the table of the first
 pub at_first : (chairs : List Chair) (posts : List PostView) (chair : Chair) → slice_get chairs 0 ≡ Some chair → AreFit chairs posts → AreOfOneBoard posts
@@ -161,15 +228,6 @@ pub kept_same : (handles : List Handle) (n : ℕ) (d new : Handle) → n < lengt
 kept_same handles n d new less same = map-set (λ (handle : Handle). handle.slot.value) handles n new
     ∙ ap (λ (one : Option Kept). set (kept_by handles) n one) same
     ∙ set_same (kept_by handles) n (get_or handles n d).slot.value (kept_at handles n d less)
-
-some_same : {X : Type 0} (x y : X) → Some x ≡ Some y → x ≡ y
-some_same x y e = cc
-
-split_last : (i n : ℕ) → i < n + 1 → (i < n) ⊎ (i ≡ n)
-split_last zero zero h = inr refl
-split_last zero (suc n) h = inl (omega arith)
-split_last (suc i) zero h = absurd (omega (arith, h))
-split_last (suc i) (suc n) h = ⊎_elim (λ (low : i < n). inl (omega (arith, low))) (λ (same : i ≡ n). inr (omega (arith, same))) (split_last i n (omega (arith, h)))
 
 -- one more handle keeps a post
 pub post_next : (all : List (Option Kept)) (n : ℕ) (one : Option Kept) → slice_get all n ≡ Some one → is_post one ≡ true

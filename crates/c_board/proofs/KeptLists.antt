@@ -1,6 +1,7 @@
 -- What several handles keep, handle by handle.
 use Rattle.std.proofs.Common.{◌≡◌, ℕ, zero, suc, ◌<◌, ◌+◌, List, [], ◌∷◌, ◌++◌, length, get_or, refl, sym, ap, ◌∙◌, arith, ⊎_elim, ◌⊎◌, inl, inr, subst}
 use Rattle.std.specs.Prelude.{slice_get, Option, None, Some}
+use Rattle.c_board.specs.declared.board_number.BoardNumber.{BoardNumber}
 use Rattle.c_board.specs.declared.handle.Handle.{Handle}
 use Rattle.c_board.specs.declared.kept.Kept.{Kept}
 use Rattle.c_board.specs.declared.kept.Kept.TheVariants.{Post}
@@ -57,41 +58,41 @@ at_kept (handle ∷ handles) zero kept there = omega arith
 at_kept (handle ∷ handles) (suc i) kept there = omega (arith, at_kept handles i kept there)
 
 -- one more box is made
-pub all_next : (done : List (Box Kept Global)) (box : Box Kept Global) (post : PostView) (rest : List PostView) (all : List Kept)
-    → values_of done ++ seats_of (post ∷ rest) ≡ all → box.value ≡ Post (seated post) → values_of (done ++ box ∷ []) ++ seats_of rest ≡ all
-all_next [] box post rest all before is = ap (λ (kept : Kept). kept ∷ seats_of rest) is ∙ before
-all_next (first ∷ done) box post rest all before is = ap (λ (xs : List Kept). first.value ∷ xs) (all_next done box post rest _ refl is) ∙ before
+pub all_next : (number : BoardNumber) (done : List (Box Kept Global)) (box : Box Kept Global) (post : PostView) (rest : List PostView) (all : List Kept)
+    → values_of done ++ seats_of number (post ∷ rest) ≡ all → box.value ≡ Post (seated number post) → values_of (done ++ box ∷ []) ++ seats_of number rest ≡ all
+all_next number [] box post rest all before is = ap (λ (kept : Kept). kept ∷ seats_of number rest) is ∙ before
+all_next number (first ∷ done) box post rest all before is = ap (λ (xs : List Kept). first.value ∷ xs) (all_next number done box post rest _ refl is) ∙ before
 
 -- the seated posts, one by one
-seated_each : (posts : List PostView) (i : ℕ) (kept : Option Kept) → slice_get (all_of (seats_of posts)) i ≡ Some kept
-    → (post : PostView) × (slice_get posts i ≡ Some post) × (kept ≡ Some (Post (seated post)))
-seated_each [] i kept there = absurd (never there)
+seated_each : (number : BoardNumber) (posts : List PostView) (i : ℕ) (kept : Option Kept) → slice_get (all_of (seats_of number posts)) i ≡ Some kept
+    → (post : PostView) × (slice_get posts i ≡ Some post) × (kept ≡ Some (Post (seated number post)))
+seated_each number [] i kept there = absurd (never there)
   where
     never : {X : Type 0} {x : X} → None ≡ Some x → ⊥
     never e = cc
-seated_each (post ∷ posts) zero kept there = (post, refl, sym (some_same _ _ there))
-seated_each (post ∷ posts) (suc i) kept there = seated_each posts i kept there
+seated_each number (post ∷ posts) zero kept there = (post, refl, sym (some_same _ _ there))
+seated_each number (post ∷ posts) (suc i) kept there = seated_each number posts i kept there
 
-length-seated : (posts : List PostView) → length (all_of (seats_of posts)) ≡ length posts
-length-seated [] = refl
-length-seated (post ∷ posts) = ap suc (length-seated posts)
+length-seated : (number : BoardNumber) (posts : List PostView) → length (all_of (seats_of number posts)) ≡ length posts
+length-seated number [] = refl
+length-seated number (post ∷ posts) = ap suc (length-seated number posts)
 
 board_is : (board : BoardView) (n k : ℕ) → board.size ≡ n → board.capacity ≡ k → board ≡ record { table = board.table; size = n; capacity = k }
 board_is board n k size capacity = ap (λ (m : ℕ). record { table = board.table; size = m; capacity = board.capacity }) size ∙ ap (λ (m : ℕ). record { table = board.table; size = n; capacity = m }) capacity
 
 -- handles that keep the posts of a new board
-pub are_seated : (handles : List Handle) (k : ℕ) (board : BoardView) (posts : List PostView) (new : List Handle) → board.size ≡ length handles → board.capacity ≡ k
-    → AreNewPosts board posts → kept_by new ≡ all_of (seats_of posts)
-    → (length (kept_by new) ≡ length (kept_by handles)) × (table : TableId) × AreSeated (record { table = table; size = length (kept_by handles); capacity = k }) (kept_by new)
-are_seated handles k board posts new size capacity its kept = (
-  ap length kept ∙ length-seated posts ∙ its.as_many ∙ size ∙ sym (length-kept_by handles),
+pub are_seated : (number : BoardNumber) (handles : List Handle) (k : ℕ) (board : BoardView) (posts : List PostView) (new : List Handle) → board.size ≡ length handles → board.capacity ≡ k
+    → AreNewPosts board posts → kept_by new ≡ all_of (seats_of number posts)
+    → (length (kept_by new) ≡ length (kept_by handles)) × (table : TableId) × AreSeated number (record { table = table; size = length (kept_by handles); capacity = k }) (kept_by new)
+are_seated number handles k board posts new size capacity its kept = (
+  ap length kept ∙ length-seated number posts ∙ its.as_many ∙ size ∙ sym (length-kept_by handles),
   board.table,
-  λ i one there. go i one (seated_each posts i one (subst (λ (xs : List (Option Kept)). slice_get xs i ≡ Some one) kept there)),
+  λ i one there. go i one (seated_each number posts i one (subst (λ (xs : List (Option Kept)). slice_get xs i ≡ Some one) kept there)),
 )
   where
-    go : (i : ℕ) (one : Option Kept) → ((post : PostView) × (slice_get posts i ≡ Some post) × (one ≡ Some (Post (seated post))))
-        → one ≡ Some (Post (seated (new_post (record { table = board.table; size = length (kept_by handles); capacity = k }) (suc i))))
-    go i one found = found.2 ∙ ap (λ (post : PostView). Some (Post (seated post))) (its.each i found.0 found.1 ∙ ap (λ (b : BoardView). new_post b (suc i)) (board_is board (length (kept_by handles)) k (size ∙ sym (length-kept_by handles)) capacity))
+    go : (i : ℕ) (one : Option Kept) → ((post : PostView) × (slice_get posts i ≡ Some post) × (one ≡ Some (Post (seated number post))))
+        → one ≡ Some (Post (seated number (new_post (record { table = board.table; size = length (kept_by handles); capacity = k }) (suc i))))
+    go i one found = found.2 ∙ ap (λ (post : PostView). Some (Post (seated number post))) (its.each i found.0 found.1 ∙ ap (λ (b : BoardView). new_post b (suc i)) (board_is board (length (kept_by handles)) k (size ∙ sym (length-kept_by handles)) capacity))
 
 pub length-values : (boxes : List (Box Kept Global)) → length (all_of (values_of boxes)) ≡ length boxes
 length-values [] = refl

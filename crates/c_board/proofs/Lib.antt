@@ -7,7 +7,7 @@ pub mod Lists
 pub mod MeetLemmas
 pub mod MessageLemmas
 pub mod Names
-pub mod OpeningLemmas
+pub mod OverPosts
 pub mod SlotValues
 pub mod Values
 pub mod WordLemmas

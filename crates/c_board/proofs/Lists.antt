@@ -1,6 +1,6 @@
 -- Lists that a loop overwrites, element by element.
 use Rattle.std.proofs.Common.{◌≡◌, ℕ, zero, suc, ◌+◌, ◌<◌, ◌≤◌, ◌⊎◌, inl, inr, List, [], ◌∷◌, ◌++◌, length, take, drop, map, min, set, get_or, refl, ap, subst, arith}
-use Rattle.std.specs.Prelude.{slice_get}
+use Rattle.std.specs.Prelude.{slice_get, None, Some}
 
 -- the next element of one list overwrites the next of the other
 pub put_step : {X : Type 0} (xs ys : List X) (n : ℕ) (x : X) (rest : List X) → n < length ys → drop n xs ≡ x ∷ rest
@@ -79,3 +79,26 @@ put_min (x ∷ xs) [] zero same = refl
 put_min (x ∷ xs) [] (suc n) same = absurd (omega (arith, same))
 put_min (x ∷ xs) (y ∷ ys) zero same = absurd (omega (arith, same))
 put_min (x ∷ xs) (y ∷ ys) (suc n) same = ap (λ zs. x ∷ zs) (put_min xs ys n (omega (arith, same)))
+
+-- an element is at one of the list's places
+pub some_within : {X : Type 0} (xs : List X) (i : ℕ) (x : X) → slice_get xs i ≡ Some x → i < length xs
+some_within [] i x there = absurd (never there)
+  where
+    never : {Y : Type 0} {y : Y} → None ≡ Some y → ⊥
+    never e = cc
+some_within (y ∷ xs) zero x there = omega arith
+some_within (y ∷ xs) (suc i) x there = omega (arith, some_within xs i x there)
+
+-- a list with an element has a first one
+pub first_of : {X : Type 0} (xs : List X) → (length xs ≡ 0 → ⊥) → (x : X) × (slice_get xs 0 ≡ Some x)
+first_of [] some = absurd (some refl)
+first_of (x ∷ xs) some = (x, refl)
+
+-- the element that was read at a place is the one there
+pub read_there : {X : Type 0} (xs : List X) (i : ℕ) (x read : X) → slice_get xs i ≡ Some x → read ≡ get_or xs i read → x ≡ read
+read_there [] i x read there is = absurd (never there)
+  where
+    never : {Y : Type 0} {y : Y} → None ≡ Some y → ⊥
+    never e = cc
+read_there (y ∷ xs) zero x read there is = cc
+read_there (y ∷ xs) (suc i) x read there is = read_there xs i x read there is

@@ -4,10 +4,8 @@ use Rattle.std.specs.Prelude.{slice_get, None, Some, Result, Ok, Err, IsErrAnd}
 use Rattle.std.specs.Global.{Vec}
 use Rattle.chart.specs.Messages.{Content}
 use Rattle.c_board.specs.declared.found.MessageLengths.{MessageLengths}
-use Rattle.c_board.specs.declared.refusal.Refusal.{Refusal}
-use Rattle.c_board.specs.declared.refusal.Refusal.TheVariants as why
-use Rattle.c_board.specs.Sending.{IsMessage, MakesMessage}
-use Rattle.c_board.specs.SendingAll.{contents_in, AreMessages, ReadsMessages}
+use Rattle.c_board.specs.Sending.{IsMessage}
+use Rattle.c_board.specs.SendingAll.{contents_in, AreMessages}
 use Rattle.c_board.proofs.ChairLemmas.{drop_at, drop_all, with_none}
 use Rattle.c_board.proofs.WordLemmas.{drop_more}
 
@@ -46,29 +44,6 @@ are_more messages new message name body all its same added = subst AreMessages (
     go [] all (suc i) it there = absurd (never it there)
     go (m ∷ ms) all zero it there = all 0 it there
     go (m ∷ ms) all (suc i) it there = go ms (λ j x at. all (suc j) x at) i it there
-
--- the next one is refused
-pub content_refused : (all : List Content) (messages rest : List Content) (name body : List ℕ) (refusal : Refusal) → all ≡ messages ++ record { name = name; body = body } ∷ rest → AreMessages messages
-    → MakesMessage name body (Err refusal) → ReadsMessages all (Err refusal)
-content_refused all messages rest name body why.Memory splits are its = tt
-content_refused all messages rest name body (why.Naming error) splits are its = record { before = messages; it = record { name = name; body = body }; rest = rest; splits = splits; messages = are; refused = its }
-content_refused all messages rest name body why.BodyTooLong splits are its = record { before = messages; it = record { name = name; body = body }; rest = rest; splits = splits; messages = are; refused = its }
-content_refused all messages rest name body why.Misuse splits are its = absurd its
-content_refused all messages rest name body why.NoInstance splits are its = absurd its
-content_refused all messages rest name body why.NoEvent splits are its = absurd its
-content_refused all messages rest name body why.NotAllPosts splits are its = absurd its
-content_refused all messages rest name body why.OtherBoard splits are its = absurd its
-content_refused all messages rest name body why.NameTwice splits are its = absurd its
-content_refused all messages rest name body (why.Opening error) splits are its = absurd its
-content_refused all messages rest name body (why.Sending error) splits are its = absurd its
-content_refused all messages rest name body (why.Taking error) splits are its = absurd its
-content_refused all messages rest name body (why.Closing error) splits are its = absurd its
-content_refused all messages rest name body (why.Region error) splits are its = absurd its
-
--- a refusal that is passed on
-pub refused_on : (all : List Content) (result : Result (Vec Content) Refusal) (error : Refusal) → IsErrAnd result (λ e. e ≡ error) → ReadsMessages all (Err error) → ReadsMessages all result
-refused_on all (Ok messages) error never its = absurd never
-refused_on all (Err e) error same its = subst (λ (x : Refusal). ReadsMessages all (Err x)) (sym same) its
 
 -- all messages were read
 pub all_contents : (bytes : List ℕ) (lengths : List MessageLengths) (messages : List Content) (start n : ℕ) → length lengths ≤ n → contents_in bytes lengths ≡ messages ++ contents_in (drop start bytes) (drop n lengths) → contents_in bytes lengths ≡ messages

@@ -1,5 +1,5 @@
 -- Seats whose posts are elsewhere: a single seat, and several in order (this project's profile).
-use Rattle.std.specs.Prelude.{◌≡◌, ℕ, ◌≤◌, Bool, true, false, List, [], ◌∷◌, map, length, slice_get, unwrap_or, Option, None, Some, Result, Ok, Err}
+use Rattle.std.specs.Prelude.{◌≡◌, ◌≢◌, ℕ, ◌≤◌, Bool, true, false, List, [], ◌∷◌, map, length, slice_get, unwrap_or, Option, None, Some, Result, Ok, Err}
 use Rattle.board.specs.Views.{PostView}
 use Rattle.board.specs.Parked.{IsAtBoard}
 use Rattle.c_board.specs.Came.{came_list}
@@ -7,8 +7,8 @@ use Rattle.c_board.specs.declared.chair.Chair.{Chair}
 use Rattle.c_board.specs.declared.chair.Taken.{Taken}
 use Rattle.c_board.specs.declared.kept.Kept.{Kept}
 use Rattle.c_board.specs.declared.kept.Kept.TheVariants.{Post, Board, Away}
-use Rattle.c_board.specs.declared.refusal.Refusal.{Refusal}
-use Rattle.c_board.specs.declared.refusal.Refusal.TheVariants as why
+use Rattle.c_board.specs.declared.taking.TakingError.{TakingError}
+use Rattle.c_board.specs.declared.taking.TakingError.TheVariants.{NoHandles, NoPost, Memory, OtherBoard}
 use Rattle.c_board.specs.Opening.{AreEmpty}
 use Rattle.c_board.specs.PostStates.{PostStateView}
 
@@ -19,7 +19,12 @@ pub record Fits (chair : Chair) (post : PostView) : Type 0 where
 
 -- the seat with the post
 abbrev pub seat_with : Chair → PostView → PostStateView
-seat_with chair post = record { post = post; last = unwrap_or chair.last 0; came = came_list chair.came }
+seat_with chair post = record {
+  post = post;
+  last = unwrap_or chair.last 0;
+  came = came_list chair.came;
+  board_number = chair.board_number;
+}
 
 -- a post was taken out of its seat
 pub record IsParted (kept : Kept) (chair : Chair) (post : PostView) : Type 0 where
@@ -60,11 +65,32 @@ KeepPosts all = (i : ℕ) (kept : Option Kept) → slice_get all i ≡ Some kept
 abbrev pub IsOneNoPost : List (Option Kept) → Type 0
 IsOneNoPost all = (i : ℕ) × (kept : Option Kept) × (slice_get all i ≡ Some kept) × (is_post kept ≡ false)
 
--- all kept posts are of one board
-abbrev pub KeepOneBoard : List (Option Kept) → Type 0
-KeepOneBoard all = (i j : ℕ) (x y : PostStateView) → slice_get all i ≡ Some (Some (Post x))
+-- Boards are numbered apart: kept posts whose boards have one number are of one board. This is the caller's promise,
+-- who gives each board its number.
+abbrev pub AreNumberedApart : List (Option Kept) → Type 0
+AreNumberedApart all = (i j : ℕ) (x y : PostStateView) → slice_get all i ≡ Some (Some (Post x))
     → slice_get all j ≡ Some (Some (Post y))
-    → x.post.board ≡ y.post.board
+    → x.board_number ≡ y.board_number → x.post.board ≡ y.post.board
+
+-- the boards of all kept posts have one number
+abbrev pub HaveOneNumber : List (Option Kept) → Type 0
+HaveOneNumber all = (i j : ℕ) (x y : PostStateView) → slice_get all i ≡ Some (Some (Post x))
+    → slice_get all j ≡ Some (Some (Post y))
+    → x.board_number ≡ y.board_number
+
+-- two kept posts are of boards with different numbers
+abbrev pub AreOfTwoBoards : List (Option Kept) → Type 0
+AreOfTwoBoards all = (i j : ℕ) × (x y : PostStateView) × (slice_get all i ≡ Some (Some (Post x)))
+    × (slice_get all j ≡ Some (Some (Post y))) × (x.board_number ≢ y.board_number)
+
+-- the posts of these seats are of boards with one number, or one of them is of another board than the first
+abbrev pub AreOfOneNumber : List Chair → Type 0
+AreOfOneNumber chairs = (i : ℕ) (first chair : Chair) → slice_get chairs 0 ≡ Some first → slice_get chairs i ≡ Some chair
+    → first.board_number ≡ chair.board_number
+
+abbrev pub IsOneOfAnother : List Chair → Type 0
+IsOneOfAnother chairs = (i : ℕ) × (first chair : Chair) × (slice_get chairs 0 ≡ Some first)
+    × (slice_get chairs i ≡ Some chair) × (first.board_number ≢ chair.board_number)
 
 -- the handles kept these seats, and keep nothing now
 pub record AreTaken (old : List (Option Kept)) (chairs : List Chair) (posts : List PostView)
@@ -75,15 +101,14 @@ pub record AreTaken (old : List (Option Kept)) (chairs : List Chair) (posts : Li
 
 -- The first of these that applies keeps posts from being taken out of handles (docs/reference/refusals.md): that there
 -- are no handles, F15; that one of them keeps no post, which is a misuse; memory for the lists, F6; and that the posts
--- are of two boards, as far as that is known, which is a misuse too.
-abbrev pub IsFirstOfTaking : List (Option Kept) → Refusal → Type 0
-IsFirstOfTaking old why.NotAllPosts = old ≡ []
-IsFirstOfTaking old why.Misuse = IsOneNoPost old
-IsFirstOfTaking old why.Memory = KeepPosts old × (length old ≡ 0 → ⊥)
-IsFirstOfTaking old why.OtherBoard = KeepPosts old × (length old ≡ 0 → ⊥)
-IsFirstOfTaking old _ = ⊥
+-- are of two boards, which is a misuse too.
+abbrev pub IsFirstOfTaking : List (Option Kept) → TakingError → Type 0
+IsFirstOfTaking old NoHandles = old ≡ []
+IsFirstOfTaking old NoPost = IsOneNoPost old
+IsFirstOfTaking old Memory = KeepPosts old × (length old ≡ 0 → ⊥)
+IsFirstOfTaking old OtherBoard = KeepPosts old × AreOfTwoBoards old
 
 -- what taking the posts out of handles answers
-abbrev pub TakesPosts : List (Option Kept) → Result Taken Refusal → List (Option Kept) → Type 0
-TakesPosts old (Ok it) new = AreTaken old it.chairs.items it.posts.items new × (length old ≡ 0 → ⊥)
-TakesPosts old (Err refusal) new = (new ≡ old) × IsFirstOfTaking old refusal
+abbrev pub TakesPosts : List (Option Kept) → Result Taken TakingError → List (Option Kept) → Type 0
+TakesPosts old (Ok it) new = AreTaken old it.chairs.items it.posts.items new × (length old ≡ 0 → ⊥) × HaveOneNumber old
+TakesPosts old (Err error) new = (new ≡ old) × IsFirstOfTaking old error

@@ -4,9 +4,13 @@ pub mod Carrying
 pub mod Cells
 pub mod Chairs
 pub mod Closing
+pub mod Contents
 pub mod Copying
 pub mod EventInfos
 pub mod Gathering
+pub mod HandleLending
+pub mod Laws
+pub mod Lending
 pub mod Meeting
 pub mod Opening
 pub mod PostStates
@@ -17,4 +21,5 @@ pub mod Regions
 pub mod Reserving
 pub mod Sending
 pub mod SendingAll
+pub mod Wholes
 pub mod Words

@@ -12,8 +12,24 @@ use Rattle.board.specs.declared.error.CloseError.{CloseError}
 use Rattle.board.specs.declared.error.CloseError.TheVariants as closing
 use Rattle.board.specs.declared.error.RegionError.{RegionError}
 use Rattle.board.specs.declared.error.RegionError.TheVariants as region
-use Rattle.c_board.specs.declared.refusal.Refusal.{Refusal}
-use Rattle.c_board.specs.declared.refusal.Refusal.TheVariants as why
+use Rattle.c_board.specs.declared.misuse.Misuse.{Misuse}
+use Rattle.c_board.specs.declared.misuse.Misuse.TheVariants.{NoPost, NoBoard, InUse, WrongNumber, OtherBoard, NoMessage}
+use Rattle.c_board.specs.declared.misuse.Numbering.{Numbering}
+use Rattle.c_board.specs.declared.misuse.Numbering.TheVariants.{Alike, ByCause}
+
+-- a misuse by its cause: 101 for what is empty or was freed, 103 for what is in use, 104 for a wrong number, 105 for
+-- posts of two boards, and 100 for what has no cause of its own
+abbrev pub of_cause : Misuse → ℕ
+of_cause NoPost = 101
+of_cause NoBoard = 101
+of_cause InUse = 103
+of_cause WrongNumber = 104
+of_cause OtherBoard = 105
+of_cause NoMessage = 100
+
+abbrev pub of_misuse : Numbering → Misuse → ℕ
+of_misuse Alike _ = 100
+of_misuse ByCause it = of_cause it
 
 abbrev pub of_name : NameError → ℕ
 of_name naming.Empty = 1
@@ -50,20 +66,3 @@ of_close closing.Closed = 12
 abbrev pub of_region : RegionError → ℕ
 of_region region.CoregionOpen = 28
 of_region region.CoregionNotOpen = 29
-
--- 100 is for a misuse, also for posts of two boards. Misuse has no number in that document
-abbrev pub number_of : Refusal → ℕ
-number_of why.Misuse = 100
-number_of (why.Naming error) = of_name error
-number_of why.BodyTooLong = 5
-number_of why.Memory = 6
-number_of why.NoInstance = 14
-number_of why.NoEvent = 31
-number_of why.NotAllPosts = 15
-number_of why.OtherBoard = 100
-number_of why.NameTwice = 22
-number_of (why.Opening error) = of_board error
-number_of (why.Sending error) = of_send error
-number_of (why.Taking error) = of_take error
-number_of (why.Closing error) = of_close error
-number_of (why.Region error) = of_region error

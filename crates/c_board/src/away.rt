@@ -2,18 +2,17 @@
 ghost use Rattle.std.specs.Prelude.{◌≡◌, ◌≤◌, [], length, vec_capacity};
 ghost use Rattle.board.specs.Parked.{AreAtBoard};
 ghost use Rattle.board.specs.Meeting.{AreOfOneBoard};
-ghost use Rattle.c_board.specs.Gathering.{GathersParked, refusal_of};
+ghost use Rattle.c_board.specs.Gathering.{GathersParked};
 ghost use Rattle.c_board.specs.Meeting.{MeetsParked};
 
-use crate::refusal::Refusal;
 use board::{GatherCause, Gathered, Parked, Post, SharedTable, gather, meet_all, wake_all};
 use std::alloc::{AllocError, Global};
 
-/// Posts that come back, and the reason.
+/// Posts that come back, and why they weren't gathered.
 #[derive(Drop)]
 pub(crate) struct Returned {
     pub posts: Vec<Parked>,
-    pub refusal: Refusal,
+    pub cause: GatherCause,
 }
 
 /// Parks these posts, in their order.
@@ -25,16 +24,6 @@ pub(crate) fn park_into(parked: &mut Vec<Parked>, posts: Vec<Post>)
 {
     for post in posts {
         parked.push_reserved(post.park());
-    }
-}
-
-/// Why a board isn't gathered.
-fn refusal_of(cause: GatherCause) -> Refusal
-    ensures { result ≡ refusal_of cause }
-{
-    match cause {
-        GatherCause::NotAllPosts => Refusal::NotAllPosts,
-        GatherCause::Memory => Refusal::Memory,
     }
 }
 
@@ -53,7 +42,7 @@ pub(crate) fn gather_parked(
         Err(AllocError) => {
             return Err(Returned {
                 posts,
-                refusal: Refusal::Memory,
+                cause: GatherCause::Memory,
             });
         }
     };
@@ -62,7 +51,7 @@ pub(crate) fn gather_parked(
         Err((posts, AllocError)) => {
             return Err(Returned {
                 posts,
-                refusal: Refusal::Memory,
+                cause: GatherCause::Memory,
             });
         }
     };
@@ -72,7 +61,7 @@ pub(crate) fn gather_parked(
             park_into(&mut parked, error.posts);
             Err(Returned {
                 posts: parked,
-                refusal: refusal_of(error.cause),
+                cause: error.cause,
             })
         }
     }
@@ -82,7 +71,7 @@ pub(crate) fn gather_parked(
 #[derive(Drop)]
 pub(crate) struct Met {
     pub posts: Vec<Parked>,
-    pub answer: Result<(), Refusal>,
+    pub answer: Result<(), GatherCause>,
 }
 
 /// Lets these posts meet with their board's words. F15 or F6 refuses it, and then they come back as they were.
@@ -96,7 +85,7 @@ pub(crate) fn meet_parked(alloc: Global, words: &SharedTable, posts: Vec<Parked>
         Err(AllocError) => {
             return Met {
                 posts,
-                answer: Err(Refusal::Memory),
+                answer: Err(GatherCause::Memory),
             };
         }
     };
@@ -105,13 +94,13 @@ pub(crate) fn meet_parked(alloc: Global, words: &SharedTable, posts: Vec<Parked>
         Err((posts, AllocError)) => {
             return Met {
                 posts,
-                answer: Err(Refusal::Memory),
+                answer: Err(GatherCause::Memory),
             };
         }
     };
     let answer = match meet_all(&mut awake) {
         Ok(()) => Ok(()),
-        Err(_) => Err(Refusal::NotAllPosts),
+        Err(_) => Err(GatherCause::NotAllPosts),
     };
     park_into(&mut parked, awake);
     Met {

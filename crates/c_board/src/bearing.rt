@@ -6,10 +6,9 @@ ghost use Rattle.board.specs.Parked.{AreAtBoard};
 ghost use Rattle.board.specs.Gathering.{left_view, closed_view};
 ghost use Rattle.board.specs.Meeting.{AreOfOneBoard};
 ghost use Rattle.board.specs.LongRuns.CarryingOver.{MayAllCarry};
-ghost use Rattle.c_board.specs.Carrying.{CarriesParked, refusal_for};
+ghost use Rattle.c_board.specs.Carrying.{CarriesParked};
 
 use crate::away::park_into;
-use crate::refusal::Refusal;
 use board::long_runs::{Carried, CarryCause, CarryError, carry_over};
 use board::{ClosedLane, Left, Parked, SharedTable, wake_all};
 use std::alloc::{AllocError, Global};
@@ -19,16 +18,6 @@ use std::alloc::{AllocError, Global};
 pub(crate) struct Borne {
     pub posts: Vec<Parked>,
     pub answer: Result<Carried, CarryError>,
-}
-
-/// Why nothing is carried over.
-pub(crate) fn refusal_for(cause: CarryCause) -> Refusal
-    ensures { result ≡ refusal_for cause }
-{
-    match cause {
-        CarryCause::NotAllPosts => Refusal::NotAllPosts,
-        CarryCause::Memory => Refusal::Memory,
-    }
 }
 
 /// Nothing is carried over, for lack of memory.

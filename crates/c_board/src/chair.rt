@@ -3,6 +3,7 @@ ghost use Rattle.std.specs.Prelude.{◌≡◌, true};
 ghost use Rattle.c_board.specs.declared.kept.Kept.TheVariants.{Post};
 ghost use Rattle.c_board.specs.Chairs.{Fits, IsParted, is_post, seat_with};
 
+use crate::board_number::BoardNumber;
 use crate::came::Came;
 use crate::kept::Kept;
 use crate::naming::Known;
@@ -18,6 +19,7 @@ use std::sync::Arc;
 pub(crate) struct Chair {
     kept: Box<Kept>,
     pub(crate) table: Arc<BoardTable>,
+    pub(crate) board_number: BoardNumber,
     last: Option<InstanceNo>,
     came: Came,
 }
@@ -40,6 +42,7 @@ impl Chair {
             Kept::Post(state) => {
                 let PostState {
                     table,
+                    board_number,
                     parked,
                     last,
                     came,
@@ -48,6 +51,7 @@ impl Chair {
                 let chair = Chair {
                     kept,
                     table,
+                    board_number,
                     last,
                     came,
                 };
@@ -65,12 +69,14 @@ impl Chair {
         let Chair {
             kept,
             table,
+            board_number,
             last,
             came,
         } = self;
         let mut kept = kept;
         kept.put_seat(PostState {
             table,
+            board_number,
             parked: post,
             last,
             came,

@@ -7,6 +7,7 @@ ghost use Rattle.c_board.specs.Words.{word_of};
 
 use crate::kept::Kept;
 use crate::loose::Loose;
+use crate::post_state::PostState;
 use crate::slot::Slot;
 use std::alloc::Global;
 use std::mem;
@@ -77,5 +78,27 @@ impl Handle {
         let mut handle = self;
         handle.free(alloc);
         let Handle { word: _, slot: _ } = handle;
+    }
+}
+
+impl Handle {
+    ghost use Rattle.std.specs.Prelude.{◌≡◌};
+    ghost use Rattle.std.specs.Borrow.{sem};
+    ghost use Rattle.std.specs.Option.{option_copied_mut};
+    ghost use Rattle.c_board.specs.Contents.{post_in};
+    ghost use Rattle.c_board.specs.HandleLending.{LendsItsPost};
+
+    /// The post, if one is kept, to be used in place.
+    #[inline(always)]
+    pub(crate) fn post_mut(&mut self) -> Option<&mut PostState>
+        ensures* writes_back { sem 𝓛 (LendsItsPost self.entry result) }
+        ensures value { post_in self.old.slot.value ≡ option_copied_mut result }
+    {
+        if self.word == 0 {
+            return None;
+        }
+        let slot = &mut self.slot;
+        let kept = slot.get_mut();
+        kept.post_mut()
     }
 }

@@ -1,4 +1,5 @@
 //! A post with its board's words.
+use crate::board_number::BoardNumber;
 use crate::came::Came;
 use crate::naming::Known;
 use board::{BoardTable, Parked};
@@ -6,11 +7,12 @@ use chart::InstanceNo;
 use std::marker::Model;
 use std::sync::Arc;
 
-/// A post with its board's words. It also keeps the instance from which it received last, and the messages of the last
-/// call that received some. `known` is the name given to its last send, or any name.
+/// A post with its board's words and number. It also keeps the instance from which it received last, and the messages
+/// of the last call that received some. `known` is the name given to its last send, or any name.
 #[derive(Drop)]
 pub struct PostState {
     pub(crate) table: Arc<BoardTable>,
+    pub(crate) board_number: BoardNumber,
     pub(crate) parked: Parked,
     pub(crate) last: Option<InstanceNo>,
     pub(crate) came: Came,
@@ -29,6 +31,7 @@ impl Model for PostState {
       post = state.parked;
       last = unwrap_or state.last 0;
       came = came_list state.came;
+      board_number = state.board_number;
     } };
 
     ghost invariant = { λ state. IsAtBoard state.table.value.shared.key state.table.value.shared.table_id state.parked

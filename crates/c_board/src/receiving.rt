@@ -1,18 +1,62 @@
 //! Receives over a handle.
 ghost use Rattle.std.specs.Prelude.{◌≡◌, ◌≤◌};
-ghost use Rattle.c_board.specs.Receiving.{arrived_of, PostTakes, PostTakesAny, KeptTakes, KeptTakesAny};
-ghost use Rattle.c_board.specs.Receiving.{HandleTakes, HandleTakesAny, IsLastNamed, found_with, arrived_after};
+ghost use Rattle.c_board.specs.Receiving.{arrived_of, PostTakes, PostTakesAny, HandleTakes, HandleTakesAny};
+ghost use Rattle.c_board.specs.Receiving.{IsLastNamed, found_with, arrived_after, of_untaken, of_none_taken};
 
 use crate::any::any_after;
 use crate::came::Came;
 use crate::found::{Arrived, Found};
 use crate::handle::Handle;
-use crate::kept::Kept;
+use crate::misuse::{Misuse, Numbering};
+use crate::numbered::Numbered;
 use crate::post_state::PostState;
-use crate::refusal::Refusal;
-use board::{Arrival, Parked, Peek, Taken};
+use board::{Arrival, Parked, Peek, TakeError, Taken};
 use chart::{InstanceNo, Message};
-use std::alloc::Global;
+
+/// Why nothing is received from an instance.
+#[derive(Clone, Copy)]
+pub enum TakeRefusal {
+    /// The handle keeps no post, or there is no room for a message.
+    Misuse(Misuse),
+    /// F14: the instance's number is 0, or greater than [`chart::MAX_INSTANCES`].
+    NoInstance,
+    /// The post refuses it.
+    Post(TakeError),
+}
+
+/// Why nothing is received from any instance.
+#[derive(Clone, Copy)]
+pub enum AnyRefusal {
+    /// The handle keeps no post.
+    Misuse(Misuse),
+    /// The post refuses it.
+    Post(TakeError),
+}
+
+impl Numbered for TakeRefusal {
+    ghost number = { of_untaken };
+
+    #[inline(always)]
+    fn number(self, misuses: Numbering) -> u32 {
+        match self {
+            TakeRefusal::Misuse(misuse) => misuse.number(misuses),
+            TakeRefusal::NoInstance => 14,
+            TakeRefusal::Post(error) => error.number(misuses),
+        }
+    }
+}
+
+impl Numbered for AnyRefusal {
+    ghost number = { of_none_taken };
+
+    #[inline(always)]
+    fn number(self, misuses: Numbering) -> u32 {
+        match self {
+            AnyRefusal::Misuse(misuse) => misuse.number(misuses),
+            AnyRefusal::Post(error) => error.number(misuses),
+        }
+    }
+}
 
 /// The description of a message.
 #[inline(always)]
@@ -49,12 +93,12 @@ fn as_recorded(post: &Parked, message: Message) -> Message
 impl PostState {
     /// Receives the first message that waits on the lane from an instance, and describes it in `output`.
     #[inline(always)]
-    fn receive(&mut self, from: u32, output: &mut Arrived) -> Result<Peek, Refusal>
+    fn receive(&mut self, from: u32, output: &mut Arrived) -> Result<Peek, TakeRefusal>
         ensures answer { PostTakes self.old from (found_with result output.new) self.new }
         ensures output { output.new ≡ arrived_after output.old (found_with result output.new) }
     {
         let Some(from) = InstanceNo::new(from as usize) else {
-            return Err(Refusal::NoInstance);
+            return Err(TakeRefusal::NoInstance);
         };
         let words = &(*self.table).shared;
         match self.parked.receive(words, from) {
@@ -75,13 +119,13 @@ impl PostState {
             }
             Ok(Taken::Nothing) => Ok(Peek::Nothing),
             Ok(Taken::Ended) => Ok(Peek::Ended),
-            Err(error) => Err(Refusal::Taking(error)),
+            Err(error) => Err(TakeRefusal::Post(error)),
         }
     }
 
     /// Receives the first message that it finds on the lanes from the other instances. It looks at them in cyclic
     /// order, after the instance from which it received last.
-    fn any(&mut self) -> Result<Found, Refusal>
+    fn any(&mut self) -> Result<Found, AnyRefusal>
         ensures { PostTakesAny self.old result self.new }
     {
         let last = match self.last {
@@ -98,31 +142,7 @@ impl PostState {
             }
             Ok(Taken::Nothing) => Ok(Found::Nothing),
             Ok(Taken::Ended) => Ok(Found::Ended),
-            Err(error) => Err(Refusal::Taking(error)),
-        }
-    }
-}
-
-impl Kept {
-    /// Receives from an instance, if a post is kept.
-    #[inline(always)]
-    fn receive(&mut self, from: u32, output: &mut Arrived) -> Result<Peek, Refusal>
-        ensures answer { KeptTakes self.old from (found_with result output.new) self.new }
-        ensures output { output.new ≡ arrived_after output.old (found_with result output.new) }
-    {
-        match self {
-            Kept::Post(state) => state.receive(from, output),
-            _ => Err(Refusal::Misuse),
-        }
-    }
-
-    /// Receives from any instance, if a post is kept.
-    fn any(&mut self) -> Result<Found, Refusal>
-        ensures { KeptTakesAny self.old result self.new }
-    {
-        match self {
-            Kept::Post(state) => state.any(),
-            _ => Err(Refusal::Misuse),
+            Err(error) => Err(AnyRefusal::Post(error)),
         }
     }
 }
@@ -132,33 +152,24 @@ impl Handle {
     /// the handle until the next one comes. F14, for a number that no instance has, refuses it before the post does.
     ///
     /// The description is written to where the caller reads it: a returned value would go through memory twice.
-    pub fn receive(
-        &mut self,
-        alloc: Global,
-        from: u32,
-        output: &mut Arrived,
-    ) -> Result<Peek, Refusal>
+    pub fn receive(&mut self, from: u32, output: &mut Arrived) -> Result<Peek, TakeRefusal>
         ensures answer { HandleTakes self.old.slot.value from (found_with result output.new) self.new.slot.value }
         ensures output { output.new ≡ arrived_after output.old (found_with result output.new) }
     {
-        let Some(mut kept) = self.take(alloc) else {
-            return Err(Refusal::Misuse);
+        let Some(post) = self.post_mut() else {
+            return Err(TakeRefusal::Misuse(Misuse::NoPost));
         };
-        let result = kept.receive(from, output);
-        self.put(kept);
-        result
+        post.receive(from, output)
     }
 
     /// Receives the first message that it finds on the lanes from the other instances. It looks at them in cyclic
     /// order, beginning after the instance from which it received last. The message stays in the handle.
-    pub fn any(&mut self, alloc: Global) -> Result<Found, Refusal>
+    pub fn any(&mut self) -> Result<Found, AnyRefusal>
         ensures { HandleTakesAny self.old.slot.value result self.new.slot.value }
     {
-        let Some(mut kept) = self.take(alloc) else {
-            return Err(Refusal::Misuse);
+        let Some(post) = self.post_mut() else {
+            return Err(AnyRefusal::Misuse(Misuse::NoPost));
         };
-        let result = kept.any();
-        self.put(kept);
-        result
+        post.any()
     }
 }

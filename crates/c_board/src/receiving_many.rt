@@ -2,18 +2,16 @@
 ghost use Rattle.std.specs.Prelude.{◌≡◌, map};
 ghost use Rattle.c_board.specs.Copying.{put_over};
 ghost use Rattle.c_board.specs.Receiving.{arrived_of};
-ghost use Rattle.c_board.specs.ReceivingMany.{PostTakesMany, KeptTakesMany, HandleTakesMany};
+ghost use Rattle.c_board.specs.ReceivingMany.{PostTakesMany, HandleTakesMany};
 
 use crate::came::Came;
 use crate::found::{Arrived, FoundMany};
 use crate::handle::Handle;
-use crate::kept::Kept;
+use crate::misuse::Misuse;
 use crate::post_state::PostState;
-use crate::receiving::arrived_of;
-use crate::refusal::Refusal;
+use crate::receiving::{TakeRefusal, arrived_of};
 use board::{Arrival, TakenMany};
 use chart::InstanceNo;
-use std::alloc::Global;
 
 /// Describes these messages one by one, as many as there is room for.
 fn copy_each(arrivals: &[Arrival], output: &mut [Arrived])
@@ -27,14 +25,14 @@ fn copy_each(arrivals: &[Arrival], output: &mut [Arrived])
 
 impl PostState {
     /// Receives the first messages that wait on the lane from an instance, at most as many as `output` has places.
-    fn receive_up_to(&mut self, from: u32, output: &mut [Arrived]) -> Result<FoundMany, Refusal>
+    fn receive_up_to(&mut self, from: u32, output: &mut [Arrived]) -> Result<FoundMany, TakeRefusal>
         ensures { PostTakesMany self.old from output.old result self.new output.new }
     {
         let Some(from) = InstanceNo::new(from as usize) else {
-            return Err(Refusal::NoInstance);
+            return Err(TakeRefusal::NoInstance);
         };
         if output.is_empty() {
-            return Err(Refusal::Misuse);
+            return Err(TakeRefusal::Misuse(Misuse::WrongNumber));
         }
         let words = &(*self.table).shared;
         match self.parked.receive_up_to(words, from, output.len()) {
@@ -47,19 +45,7 @@ impl PostState {
             }
             Ok(TakenMany::Nothing) => Ok(FoundMany::Nothing),
             Ok(TakenMany::Ended) => Ok(FoundMany::Ended),
-            Err(error) => Err(Refusal::Taking(error)),
-        }
-    }
-}
-
-impl Kept {
-    /// Receives several messages, if a post is kept.
-    fn receive_up_to(&mut self, from: u32, output: &mut [Arrived]) -> Result<FoundMany, Refusal>
-        ensures { KeptTakesMany self.old from output.old result self.new output.new }
-    {
-        match self {
-            Kept::Post(state) => state.receive_up_to(from, output),
-            _ => Err(Refusal::Misuse),
+            Err(error) => Err(TakeRefusal::Post(error)),
         }
     }
 }
@@ -73,17 +59,14 @@ impl Handle {
     /// that was refused is still the first of its lane.
     pub fn receive_up_to(
         &mut self,
-        alloc: Global,
         from: u32,
         output: &mut [Arrived],
-    ) -> Result<FoundMany, Refusal>
+    ) -> Result<FoundMany, TakeRefusal>
         ensures { HandleTakesMany self.old.slot.value from output.old result self.new.slot.value output.new }
     {
-        let Some(mut kept) = self.take(alloc) else {
-            return Err(Refusal::Misuse);
+        let Some(post) = self.post_mut() else {
+            return Err(TakeRefusal::Misuse(Misuse::NoPost));
         };
-        let result = kept.receive_up_to(from, output);
-        self.put(kept);
-        result
+        post.receive_up_to(from, output)
     }
 }

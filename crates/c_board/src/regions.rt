@@ -1,49 +1,50 @@
 //! Coregions over a handle.
 ghost use Rattle.std.specs.Prelude.{◌≡◌};
-ghost use Rattle.c_board.specs.Regions.{PostOpens, PostShuts, KeptOpens, KeptShuts, HandleOpens, HandleShuts};
+ghost use Rattle.c_board.specs.Regions.{PostOpens, PostShuts, HandleOpens, HandleShuts, of_unchanged};
 
 use crate::handle::Handle;
-use crate::kept::Kept;
+use crate::misuse::{Misuse, Numbering};
+use crate::numbered::Numbered;
 use crate::post_state::PostState;
-use crate::refusal::Refusal;
-use std::alloc::Global;
+use board::RegionError;
 
-impl PostState {
-    fn open_coregion(&mut self) -> Result<(), Refusal>
-        ensures { PostOpens self.old result self.new }
-    {
-        match self.parked.open_coregion() {
-            Ok(()) => Ok(()),
-            Err(error) => Err(Refusal::Region(error)),
-        }
-    }
+/// Why a coregion is neither opened nor closed.
+#[derive(Clone, Copy)]
+pub enum RegionRefusal {
+    /// The handle keeps no post.
+    Misuse(Misuse),
+    /// F28: a coregion is open. F29: none is.
+    Post(RegionError),
+}
 
-    fn close_coregion(&mut self) -> Result<(), Refusal>
-        ensures { PostShuts self.old result self.new }
-    {
-        match self.parked.close_coregion() {
-            Ok(()) => Ok(()),
-            Err(error) => Err(Refusal::Region(error)),
+impl Numbered for RegionRefusal {
+    ghost number = { of_unchanged };
+
+    #[inline(always)]
+    fn number(self, misuses: Numbering) -> u32 {
+        match self {
+            RegionRefusal::Misuse(misuse) => misuse.number(misuses),
+            RegionRefusal::Post(error) => error.number(misuses),
         }
     }
 }
 
-impl Kept {
-    fn open_coregion(&mut self) -> Result<(), Refusal>
-        ensures { KeptOpens self.old result self.new }
+impl PostState {
+    fn open_coregion(&mut self) -> Result<(), RegionRefusal>
+        ensures { PostOpens self.old result self.new }
     {
-        match self {
-            Kept::Post(state) => state.open_coregion(),
-            _ => Err(Refusal::Misuse),
+        match self.parked.open_coregion() {
+            Ok(()) => Ok(()),
+            Err(error) => Err(RegionRefusal::Post(error)),
         }
     }
 
-    fn close_coregion(&mut self) -> Result<(), Refusal>
-        ensures { KeptShuts self.old result self.new }
+    fn close_coregion(&mut self) -> Result<(), RegionRefusal>
+        ensures { PostShuts self.old result self.new }
     {
-        match self {
-            Kept::Post(state) => state.close_coregion(),
-            _ => Err(Refusal::Misuse),
+        match self.parked.close_coregion() {
+            Ok(()) => Ok(()),
+            Err(error) => Err(RegionRefusal::Post(error)),
         }
     }
 }
@@ -51,26 +52,22 @@ impl Kept {
 impl Handle {
     /// Opens a coregion, to which the post's receives belong from now on: their order isn't claimed. F28: a coregion is
     /// open already.
-    pub fn open_coregion(&mut self, alloc: Global) -> Result<(), Refusal>
+    pub fn open_coregion(&mut self) -> Result<(), RegionRefusal>
         ensures { HandleOpens self.old.slot.value result self.new.slot.value }
     {
-        let Some(mut kept) = self.take(alloc) else {
-            return Err(Refusal::Misuse);
+        let Some(post) = self.post_mut() else {
+            return Err(RegionRefusal::Misuse(Misuse::NoPost));
         };
-        let result = kept.open_coregion();
-        self.put(kept);
-        result
+        post.open_coregion()
     }
 
     /// Closes the open coregion. F29: no coregion is open.
-    pub fn close_coregion(&mut self, alloc: Global) -> Result<(), Refusal>
+    pub fn close_coregion(&mut self) -> Result<(), RegionRefusal>
         ensures { HandleShuts self.old.slot.value result self.new.slot.value }
     {
-        let Some(mut kept) = self.take(alloc) else {
-            return Err(Refusal::Misuse);
+        let Some(post) = self.post_mut() else {
+            return Err(RegionRefusal::Misuse(Misuse::NoPost));
         };
-        let result = kept.close_coregion();
-        self.put(kept);
-        result
+        post.close_coregion()
     }
 }

@@ -55,5 +55,21 @@ impl Slot {
     }
 }
 
+impl Slot {
+    ghost use Rattle.std.specs.Prelude.{◌≡◌};
+    ghost use Rattle.std.specs.Borrow.{sem};
+    ghost use Rattle.c_board.specs.Lending.{LendsKept};
+
+    /// The content of the box, which exists. It is read and changed in place.
+    #[inline(always)]
+    pub(crate) fn get_mut(&mut self) -> &mut Kept
+        requires { self.old.value ≡ None → ⊥ }
+        ensures* writes_back { sem 𝓛 (LendsKept self.entry result) }
+        ensures value { self.old.value ≡ Some result.now }
+    {
+        unsafe { &mut *(self.at as *mut Kept) }
+    }
+}
+
 // The content of the box may move to another thread, and nobody else has the pointer.
 unsafe impl Send for Slot {}

@@ -2,15 +2,26 @@
 ghost use Rattle.std.specs.Prelude.{◌≡◌, ◌≤◌, [], length, vec_capacity, true, false, IfOk};
 ghost use Rattle.c_board.specs.Opening.{kept_by, AreEmpty};
 ghost use Rattle.c_board.specs.Chairs.{is_post, KeepPosts, IsOneNoPost, AreFit, AreTaken, TakesPosts, seats_with};
-ghost use Rattle.c_board.specs.Chairs.{kept_seats};
+ghost use Rattle.c_board.specs.Chairs.{kept_seats, AreOfOneNumber, IsOneOfAnother};
 
 use crate::chair::{Chair, Taken};
 use crate::handle::Handle;
 use crate::kept::Kept;
-use crate::refusal::Refusal;
-use board::{BoardTable, Parked};
+use board::Parked;
 use std::alloc::{AllocError, Global};
-use std::sync::Arc;
+
+/// Why posts aren't taken out of their handles: the first of these that applies.
+#[derive(Clone, Copy)]
+pub(crate) enum TakingError {
+    /// F15: there are no handles.
+    NoHandles,
+    /// A misuse: a handle keeps no post.
+    NoPost,
+    /// F6: a growth was refused.
+    Memory,
+    /// A misuse: two posts are of boards with different numbers.
+    OtherBoard,
+}
 
 impl Kept {
     /// Whether it is a post.
@@ -53,20 +64,13 @@ fn have_posts(alloc: Global, handles: &mut [Handle]) -> bool
     true
 }
 
-/// Whether two tables are one, as far as this can be detected. The owners of one table are counted together, so one
-/// more owner of the first is also one more owner of the second. No contract sees the count.
-fn is_one_table(one: &Arc<BoardTable>, other: &Arc<BoardTable>) -> bool {
-    let before = Arc::strong_count(other);
-    match Arc::try_clone(one) {
-        Ok(_one_more) => before < Arc::strong_count(other),
-        Err(_) => false,
-    }
-}
-
-/// Whether these seats are at one table, as far as this can be detected.
-fn are_at_one_table(chairs: &[Chair]) -> bool {
+/// Whether the boards of the posts in these seats have one number.
+fn have_one_number(chairs: &[Chair]) -> bool
+    ensures yes { result ≡ true → AreOfOneNumber chairs.now }
+    ensures no { result ≡ false → IsOneOfAnother chairs.now }
+{
     for chair in chairs {
-        if !is_one_table(&chairs[0].table, &chair.table) {
+        if !chairs[0].board_number.is(chair.board_number) {
             return false;
         }
     }
@@ -121,26 +125,26 @@ fn make_lists(alloc: Global, many: usize) -> Result<Taken, AllocError>
 }
 
 /// Takes the posts out of these handles, which then keep nothing. F15: there are no handles. Then a handle that keeps
-/// no post is a misuse, and F6 means that there is no memory for the lists. Posts of two boards are refused too, as far
-/// as this can be detected. After a refusal everything is as it was.
-pub(crate) fn take_posts(alloc: Global, handles: &mut [Handle]) -> Result<Taken, Refusal>
+/// no post is a misuse, F6 means that there is no memory for the lists, and posts of two boards are a misuse. After a
+/// refusal everything is as it was.
+pub(crate) fn take_posts(alloc: Global, handles: &mut [Handle]) -> Result<Taken, TakingError>
     ensures { TakesPosts (kept_by handles.old) result (kept_by handles.new) }
 {
     if handles.is_empty() {
-        return Err(Refusal::NotAllPosts);
+        return Err(TakingError::NoHandles);
     }
     if !have_posts(alloc, handles) {
-        return Err(Refusal::Misuse);
+        return Err(TakingError::NoPost);
     }
     let taken = match make_lists(alloc, handles.len()) {
         Ok(taken) => taken,
-        Err(AllocError) => return Err(Refusal::Memory),
+        Err(AllocError) => return Err(TakingError::Memory),
     };
     let mut taken = taken;
     take_each(alloc, handles, &mut taken.chairs, &mut taken.posts);
-    if !are_at_one_table(taken.chairs.as_slice()) {
+    if !have_one_number(taken.chairs.as_slice()) {
         put_posts(handles, taken.chairs, taken.posts);
-        return Err(Refusal::OtherBoard);
+        return Err(TakingError::OtherBoard);
     }
     Ok(taken)
 }

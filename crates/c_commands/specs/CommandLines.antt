@@ -3,8 +3,8 @@
 use Rattle.std.specs.Prelude.{◌≡◌, ◌⊎◌, ℕ, List, [], length, slice_get, Result, Ok, Err}
 use Rattle.cmd_base.specs.declared.error.ProgramError.{ProgramError}
 use Rattle.c_board.specs.Copying.{put_over}
-use Rattle.c_board.specs.declared.refusal.Refusal.{Refusal}
-use Rattle.c_board.specs.declared.refusal.Refusal.TheVariants as why
+use Rattle.c_board.specs.declared.misuse.Misuse.{Misuse}
+use Rattle.c_board.specs.declared.misuse.Misuse.TheVariants.{WrongNumber}
 use Rattle.texts.specs.Outs.{Stored}
 use Rattle.cli.specs.declared.view.request.Request.{Request}
 use Rattle.mscview_requests.specs.FileCounts.{files_read}
@@ -37,19 +37,19 @@ IsRefused error room_out room_err performed out err = (diagnostics : Stored)
 
 -- the request reads as many files as there are texts, and was done; or it reads another number of files, and the
 -- buffers stay as they were
-abbrev pub Views : List Bytes → Request → List ℕ → List ℕ → Result Performed Refusal → List ℕ → List ℕ → Type 0
+abbrev pub Views : List Bytes → Request → List ℕ → List ℕ → Result Performed Misuse → List ℕ → List ℕ → Type 0
 Views texts request room_out room_err (Ok performed) out err = (files_read request ≡ length texts)
     × IsViewed texts request room_out room_err performed out err
-Views texts request room_out room_err (Err why.Misuse) out err = (files_read request ≡ length texts → ⊥) × (out ≡ room_out) × (err ≡ room_err)
-Views texts request room_out room_err (Err _) out err = ⊥
+Views texts request room_out room_err (Err how) out err = (how ≡ WrongNumber) × (files_read request ≡ length texts → ⊥)
+    × (out ≡ room_out) × (err ≡ room_err)
 
 -- some words are no request
-abbrev pub RefusesWords : List ℕ → List ℕ → Result Performed Refusal → List ℕ → List ℕ → Type 0
+abbrev pub RefusesWords : List ℕ → List ℕ → Result Performed Misuse → List ℕ → List ℕ → Type 0
 RefusesWords room_out room_err (Ok performed) out err = (error : ProgramError) × lines.RefusesWords error
     × IsRefused error room_out room_err performed out err
 RefusesWords room_out room_err (Err refusal) out err = ⊥
 
 -- the request of some words was done, or the words are no request
-abbrev pub ViewsSome : List Bytes → List ℕ → List ℕ → Result Performed Refusal → List ℕ → List ℕ → Type 0
+abbrev pub ViewsSome : List Bytes → List ℕ → List ℕ → Result Performed Misuse → List ℕ → List ℕ → Type 0
 ViewsSome texts room_out room_err result out err =
     ((request : Request) × Views texts request room_out room_err result out err) ⊎ RefusesWords room_out room_err result out err

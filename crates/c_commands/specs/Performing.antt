@@ -3,8 +3,8 @@
 use Rattle.std.specs.Prelude.{◌≡◌, ℕ, ◌==◌, List, [], length, Option, None, Some, Result, Ok, Err, if◌then◌else◌}
 use Rattle.cmd_base.specs.Answers.{Answers}
 use Rattle.c_board.specs.Copying.{put_over}
-use Rattle.c_board.specs.declared.refusal.Refusal.{Refusal}
-use Rattle.c_board.specs.declared.refusal.Refusal.TheVariants as why
+use Rattle.c_board.specs.declared.misuse.Misuse.{Misuse}
+use Rattle.c_board.specs.declared.misuse.Misuse.TheVariants.{WrongNumber}
 use Rattle.texts.specs.Outs.{Sink, Stored}
 use Rattle.cmd_run.specs.Tasks.{Does, task_exit}
 use Rattle.cmd_run.specs.declared.task.Task.{Task}
@@ -37,8 +37,8 @@ pub record IsDone (task : Task) (bytes room_out room_err : List ℕ) (performed 
   pub err_length : performed.err ≡ length diagnostics.bytes
 
 -- the task is done, or there is none and the buffers stay as they were
-abbrev pub Performs : Option Task → List ℕ → List ℕ → List ℕ → Result Performed Refusal → List ℕ → List ℕ → Type 0
-Performs None bytes room_out room_err result out err = (result ≡ Err why.Misuse) × (out ≡ room_out) × (err ≡ room_err)
+abbrev pub Performs : Option Task → List ℕ → List ℕ → List ℕ → Result Performed Misuse → List ℕ → List ℕ → Type 0
+Performs None bytes room_out room_err result out err = (result ≡ Err WrongNumber) × (out ≡ room_out) × (err ≡ room_err)
 Performs (Some task) bytes room_out room_err (Ok performed) out err =
     IsDone task bytes room_out room_err performed out err
 Performs (Some task) bytes room_out room_err (Err refusal) out err = ⊥

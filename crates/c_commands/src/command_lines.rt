@@ -5,7 +5,7 @@ ghost use Rattle.c_commands.specs.CommandLines.{IsViewed, IsRefused, Views, View
 
 use crate::given::{Bytes, Texts};
 use crate::performing::Performed;
-use c_board::{Refusal, copy_out};
+use c_board::{Misuse, copy_out};
 use cli::view::{Request, requested};
 use cmd_base::{ProgramError, refused};
 use mscview_requests::{many_files, refusal, view_request};
@@ -73,7 +73,7 @@ fn refuse(alloc: Global, error: ProgramError, out: &mut [u8], err: &mut [u8]) ->
 /// reads is the first text, and so on, and standard input is one of them. Standard output goes into `out`, and standard
 /// error into `err`, as much as there is room for. The result has their whole lengths.
 ///
-/// [`Refusal::Misuse`]: the request doesn't read as many files as there are texts. Then nothing is done, and the
+/// [`Misuse::WrongNumber`]: the request doesn't read as many files as there are texts. Then nothing is done, and the
 /// buffers stay as they were.
 pub fn view_request_into(
     alloc: Global,
@@ -81,11 +81,11 @@ pub fn view_request_into(
     texts: &[Bytes<'_>],
     out: &mut [u8],
     err: &mut [u8],
-) -> Result<Performed, Refusal>
+) -> Result<Performed, Misuse>
     ensures { Views texts.now request.now out.old err.old result out.new err.new }
 {
     if many_files(request) != texts.len() {
-        return Err(Refusal::Misuse);
+        return Err(Misuse::WrongNumber);
     }
     Ok(view_texts(alloc, request, texts, out, err))
 }
@@ -97,7 +97,7 @@ fn view_words(
     texts: &[Bytes<'_>],
     out: &mut [u8],
     err: &mut [u8],
-) -> Result<Performed, Refusal>
+) -> Result<Performed, Misuse>
     ensures { ViewsSome texts.now out.old err.old result out.new err.new }
 {
     match requested(alloc, words) {
@@ -114,7 +114,7 @@ pub fn view_into(
     texts: &[Bytes<'_>],
     out: &mut [u8],
     err: &mut [u8],
-) -> Result<Performed, Refusal>
+) -> Result<Performed, Misuse>
     ensures { ViewsSome texts.now out.old err.old result out.new err.new }
 {
     match words_in(alloc, words) {

@@ -2,7 +2,7 @@
 ghost use Rattle.std.specs.Prelude.{◌≡◌};
 ghost use Rattle.c_commands.specs.Performing.{task_in, IsDone, Performs};
 
-use c_board::{Refusal, copy_out};
+use c_board::{Misuse, copy_out};
 use cmd_run::{Task, perform};
 use std::alloc::Global;
 use texts::MemoryOut;
@@ -55,7 +55,7 @@ fn perform_task(
 /// It takes memory for both texts while it works. If there is none for them, the status is 2, and `err` has the line of
 /// F24 or a part of it.
 ///
-/// [`Refusal::Misuse`]: no task has this number. Then nothing is done, and the buffers stay as they were.
+/// [`Misuse::WrongNumber`]: no task has this number. Then nothing is done, and the buffers stay as they were.
 pub fn perform_into(
     alloc: Global,
     task: u32,
@@ -63,11 +63,11 @@ pub fn perform_into(
     text: &[u8],
     out: &mut [u8],
     err: &mut [u8],
-) -> Result<Performed, Refusal>
+) -> Result<Performed, Misuse>
     ensures { Performs (task_in task seed) text.now out.old err.old result out.new err.new }
 {
     let Some(task) = task_in(task, seed) else {
-        return Err(Refusal::Misuse);
+        return Err(Misuse::WrongNumber);
     };
     Ok(perform_task(alloc, &task, text, out, err))
 }

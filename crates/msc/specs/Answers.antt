@@ -1,6 +1,6 @@
 -- The numbers that C gets (this project's profile): 0 for done, 1 if nothing waits, 2 for ended, and for a refusal its
 -- number, below 0.
-use Rattle.std.specs.Prelude.{◌≡◌, ℕ, cond, List, Option, None, Some, Result, Ok, Err}
+use Rattle.std.specs.Prelude.{◌≡◌, ℕ, cond, List, Option, Result, Ok, Err}
 use lib.IntN.{ℤ, pos, neg_ℤ}
 use Rattle.board.specs.declared.answer.Arrival.{Arrival}
 use Rattle.chart.specs.declared.instance.EventNo.{EventNo}
@@ -8,56 +8,54 @@ use Rattle.c_board.specs.declared.found.Arrived.{Arrived}
 use Rattle.c_board.specs.declared.found.Found.{Found}
 use Rattle.c_board.specs.declared.found.Found.TheVariants.{Message, Nothing, Ended}
 use Rattle.c_board.specs.declared.kept.Kept.{Kept}
-use Rattle.c_board.specs.declared.refusal.Refusal.{Refusal}
-use Rattle.c_board.specs.Refusals.{number_of}
-use Rattle.c_board.specs.Sending.{HandleSends}
+use Rattle.c_board.specs.declared.closing.CloseRefusal.{CloseRefusal}
+use Rattle.c_board.specs.declared.events.EventRefusal.{EventRefusal}
+use Rattle.c_board.specs.declared.found.MessageLengths.{MessageLengths}
+use Rattle.c_board.specs.declared.misuse.Misuse.{Misuse}
+use Rattle.c_board.specs.declared.misuse.Numbering.TheVariants.{Alike}
+use Rattle.c_board.specs.declared.receiving.AnyRefusal.{AnyRefusal}
+use Rattle.c_board.specs.declared.receiving.TakeRefusal.{TakeRefusal}
+use Rattle.c_board.specs.declared.regions.RegionRefusal.{RegionRefusal}
+use Rattle.c_board.specs.declared.reserving.ReserveRefusal.{ReserveRefusal}
+use Rattle.c_board.specs.declared.sending.SendRefusal.{SendRefusal}
+use Rattle.c_board.specs.Contents.{post_in}
+use Rattle.c_board.specs.Refusals.{of_misuse}
+use Rattle.c_board.specs.Sending.{HandleSends, of_unsent}
 use Rattle.c_board.specs.SendingAll.{HandleSendsAll}
-use Rattle.chart.specs.Messages.{Content}
-use Rattle.c_board.specs.Receiving.{HandleTakes, HandleTakesAny, arrived_after}
-use Rattle.c_board.specs.Closing.{HandleCloses}
+use Rattle.c_board.specs.Receiving.{HandleTakes, HandleTakesAny, arrived_after, of_untaken, of_none_taken}
+use Rattle.c_board.specs.Closing.{HandleCloses, of_unclosed}
 use Rattle.c_board.specs.Copying as races
-use Rattle.c_board.specs.Copying.{CopiesOut, picked_in}
+use Rattle.c_board.specs.Copying.{CopiesOut, arrival_in}
 use Rattle.c_board.specs.declared.came.Which.{Which}
-use Rattle.c_board.specs.Opening.{Opens}
 use Rattle.c_board.specs.declared.found.EventInfo.{EventInfo}
-use Rattle.c_board.specs.Regions.{HandleOpens, HandleShuts}
-use Rattle.c_board.specs.Reserving.{HandleReserves}
-use Rattle.c_board.specs.declared.boards.reports.Reported.{Reported}
-use Rattle.c_board.specs.declared.boards.left.Place.{Place}
-use Rattle.c_board.specs.declared.boards.left.Waiting.{Waiting}
-use Rattle.c_board.specs.Boards.BoardCopies.{HandleReports, HandleWaits, NameAndBody}
-use Rattle.c_board.specs.Boards.BoardText.{HandleWritesText}
-use Rattle.c_board.specs.Gathering.{Gathers}
-use Rattle.c_board.specs.Meeting.{Meets}
-use Rattle.c_board.specs.Carrying.{CarriesAll}
-use Rattle.c_board.specs.EventInfos.{HandleCopies}
+use Rattle.c_board.specs.Regions.{HandleOpens, HandleShuts, of_unchanged}
+use Rattle.c_board.specs.Reserving.{HandleReserves, of_unreserved}
+use Rattle.c_board.specs.EventInfos.{HandleCopies, of_unseen}
 use Rattle.msc.specs.declared.answers.MscEvent.{MscEvent}
-use Rattle.msc.specs.declared.answers.MscLeft.{MscLeft}
-use Rattle.msc.specs.declared.answers.MscReport.{MscReport}
 
--- the number of a refusal, below 0
-abbrev pub code_of : Refusal → ℤ
-code_of refusal = neg_ℤ (pos (number_of refusal))
+-- a refusal's number, below 0
+abbrev pub code_of : ℕ → ℤ
+code_of number = neg_ℤ (pos number)
 
--- the number of a call that was done or refused
-abbrev pub done_code : {A : Type 0} → Result A Refusal → ℤ
-done_code (Ok done) = pos 0
-done_code (Err refusal) = code_of refusal
+-- the number of a call that was done or refused, where refusals have these numbers
+abbrev pub done_code : {A E : Type 0} → (E → ℕ) → Result A E → ℤ
+done_code number (Ok done) = pos 0
+done_code number (Err refusal) = code_of (number refusal)
 
 -- the number of what a receive found, or of its refusal
-abbrev pub found_code : Result Found Refusal → ℤ
-found_code (Ok (Message arrived)) = pos 0
-found_code (Ok Nothing) = pos 1
-found_code (Ok Ended) = pos 2
-found_code (Err refusal) = code_of refusal
+abbrev pub found_code : {E : Type 0} → (E → ℕ) → Result Found E → ℤ
+found_code number (Ok (Message arrived)) = pos 0
+found_code number (Ok Nothing) = pos 1
+found_code number (Ok Ended) = pos 2
+found_code number (Err refusal) = code_of (number refusal)
 
 -- the number of the event, or otherwise what was there before
-abbrev pub event_after : ℕ → Result EventNo Refusal → ℕ
+abbrev pub event_after : {E : Type 0} → ℕ → Result EventNo E → ℕ
 event_after before (Ok event) = event.index
 event_after before (Err refusal) = before
 
 -- a number, or otherwise what was there before
-abbrev pub number_after : ℕ → Result ℕ Refusal → ℕ
+abbrev pub number_after : {E : Type 0} → ℕ → Result ℕ E → ℕ
 number_after before (Ok number) = number
 number_after before (Err refusal) = before
 
@@ -69,46 +67,43 @@ pub record Got (T : Type 0) : Type 0 where
 
 -- what a send, a receive, .. answers: some answer of the handle's call has this code and this output
 abbrev pub Sends : Option Kept → ℕ → List ℕ → List ℕ → Got ℕ → Option Kept → Type 0
-Sends old to name body got new = (answer : Result EventNo Refusal)
-    × HandleSends old to name body answer new × (got.code ≡ done_code answer)
+Sends old to name body got new = (answer : Result EventNo SendRefusal)
+    × HandleSends old to name body answer new × (got.code ≡ done_code (of_unsent Alike) answer)
     × (got.output ≡ event_after got.before answer)
 
-abbrev pub SendsAll : Option Kept → ℕ → List Content → Got ℕ → Option Kept → Type 0
-SendsAll old to all got new = (answer : Result ℕ Refusal)
-    × HandleSendsAll old to all answer new × (got.code ≡ done_code answer)
+abbrev pub SendsAll : Option Kept → ℕ → List ℕ → List MessageLengths → Got ℕ → Option Kept → Type 0
+SendsAll old to bytes lengths got new = (answer : Result ℕ SendRefusal)
+    × HandleSendsAll old to bytes lengths answer new × (got.code ≡ done_code (of_unsent Alike) answer)
     × (got.output ≡ number_after got.before answer)
 
 abbrev pub Takes : Option Kept → ℕ → Got Arrived → Option Kept → Type 0
-Takes old from got new = (answer : Result Found Refusal)
-    × HandleTakes old from answer new × (got.code ≡ found_code answer) × (got.output ≡ arrived_after got.before answer)
+Takes old from got new = (answer : Result Found TakeRefusal)
+    × HandleTakes old from answer new × (got.code ≡ found_code (of_untaken Alike) answer) × (got.output ≡ arrived_after got.before answer)
 
 abbrev pub TakesAny : Option Kept → Got Arrived → Option Kept → Type 0
-TakesAny old got new = (answer : Result Found Refusal)
-    × HandleTakesAny old answer new × (got.code ≡ found_code answer) × (got.output ≡ arrived_after got.before answer)
+TakesAny old got new = (answer : Result Found AnyRefusal)
+    × HandleTakesAny old answer new × (got.code ≡ found_code (of_none_taken Alike) answer) × (got.output ≡ arrived_after got.before answer)
 
 abbrev pub Closes : Option Kept → ℕ → ℤ → Option Kept → Type 0
-Closes old to code new = (answer : Result (Unit {0}) Refusal) × HandleCloses old to answer new
-    × (code ≡ done_code answer)
-
-abbrev pub OpensAll : ℕ → List (Option Kept) → ℤ → List (Option Kept) → Type 0
-OpensAll k old code new = (answer : Result (Unit {0}) Refusal) × Opens k old answer new × (code ≡ done_code answer)
+Closes old to code new = (answer : Result (Unit {0}) CloseRefusal) × HandleCloses old to answer new
+    × (code ≡ done_code (of_unclosed Alike) answer)
 
 -- what is copied out of the selected one of the messages that were received last, and its whole length
 abbrev pub Copies : (Arrival → List ℕ) → Which → Option Kept → List ℕ → Got ℕ → List ℕ → Type 0
-Copies what which old room got out = (answer : Result ℕ Refusal)
-    × CopiesOut what (picked_in which old) room answer out × (got.code ≡ done_code answer)
+Copies what which old room got out = (answer : Result ℕ Misuse)
+    × CopiesOut what (arrival_in which (post_in old)) room answer out × (got.code ≡ done_code (of_misuse Alike) answer)
     × (got.output ≡ number_after got.before answer)
 
 abbrev pub CopiesRaces : Which → Option Kept → List ℕ → Got ℕ → List ℕ → Type 0
-CopiesRaces which old room got out = (answer : Result ℕ Refusal)
-    × races.CopiesRaces (picked_in which old) room answer out × (got.code ≡ done_code answer)
+CopiesRaces which old room got out = (answer : Result ℕ Misuse)
+    × races.CopiesRaces (arrival_in which (post_in old)) room answer out × (got.code ≡ done_code (of_misuse Alike) answer)
     × (got.output ≡ number_after got.before answer)
 
 abbrev pub OpensRegion : Option Kept → ℤ → Option Kept → Type 0
-OpensRegion old code new = (answer : Result (Unit {0}) Refusal) × HandleOpens old answer new × (code ≡ done_code answer)
+OpensRegion old code new = (answer : Result (Unit {0}) RegionRefusal) × HandleOpens old answer new × (code ≡ done_code (of_unchanged Alike) answer)
 
 abbrev pub ShutsRegion : Option Kept → ℤ → Option Kept → Type 0
-ShutsRegion old code new = (answer : Result (Unit {0}) Refusal) × HandleShuts old answer new × (code ≡ done_code answer)
+ShutsRegion old code new = (answer : Result (Unit {0}) RegionRefusal) × HandleShuts old answer new × (code ≡ done_code (of_unchanged Alike) answer)
 
 -- the description of an event, field by field: 1 means a receive
 abbrev pub event_from : EventInfo → MscEvent
@@ -120,64 +115,14 @@ event_from output = record {
 }
 
 -- this description, or otherwise the one before
-abbrev pub filled_event : MscEvent → Result EventInfo Refusal → MscEvent
+abbrev pub filled_event : {E : Type 0} → MscEvent → Result EventInfo E → MscEvent
 filled_event before (Ok output) = event_from output
 filled_event before (Err refusal) = before
 
 abbrev pub CopiesEvent : Option Kept → ℕ → List ℕ → Got MscEvent → List ℕ → Type 0
-CopiesEvent old number room got out = (answer : Result EventInfo Refusal)
-    × HandleCopies old number room answer out × (got.code ≡ done_code answer) × (got.output ≡ filled_event got.before answer)
+CopiesEvent old number room got out = (answer : Result EventInfo EventRefusal)
+    × HandleCopies old number room answer out × (got.code ≡ done_code (of_unseen Alike) answer) × (got.output ≡ filled_event got.before answer)
 
 abbrev pub Reserves : Option Kept → ℕ → ℤ → Option Kept → Type 0
-Reserves old events code new = (answer : Result (Unit {0}) Refusal) × HandleReserves old events answer new
-    × (code ≡ done_code answer)
-
-abbrev pub GathersAll : List (Option Kept) → Option Kept → ℤ → List (Option Kept) → Option Kept → Type 0
-GathersAll old board code new made = (answer : Result (Unit {0}) Refusal) × Gathers old board answer new made
-    × (code ≡ done_code answer)
-
-abbrev pub MeetsAll : List (Option Kept) → ℤ → List (Option Kept) → Type 0
-MeetsAll old code new = (answer : Result (Unit {0}) Refusal) × Meets old answer new × (code ≡ done_code answer)
-
-abbrev pub CarriesBoard : Option Kept → List (Option Kept) → List ℕ → Got ℕ → Option Kept → List (Option Kept)
-    → List ℕ → Type 0
-CarriesBoard board old room got now new out = (answer : Result ℕ Refusal)
-    × CarriesAll board old room answer now new out × (got.code ≡ done_code answer)
-    × (got.output ≡ number_after got.before answer)
-
-abbrev pub WritesText : Option Kept → List (List ℕ) → List ℕ → Got ℕ → List ℕ → Type 0
-WritesText old names room got out = (answer : Result ℕ Refusal)
-    × HandleWritesText old names room answer out × (got.code ≡ done_code answer)
-    × (got.output ≡ number_after got.before answer)
-
--- the description of a report, field by field; and this description, or otherwise the one before
-abbrev pub report_from : Reported → MscReport
-report_from output = record { instance = output.instance; event = output.event; races = output.races }
-
-abbrev pub filled_report : MscReport → Result Reported Refusal → MscReport
-filled_report before (Ok output) = report_from output
-filled_report before (Err refusal) = before
-
-abbrev pub CopiesReport : Option Kept → ℕ → List ℕ → Got MscReport → List ℕ → Type 0
-CopiesReport old number room got out = (answer : Result Reported Refusal)
-    × HandleReports old number room answer out × (got.code ≡ done_code answer)
-    × (got.output ≡ filled_report got.before answer)
-
--- the description of a waiting message, field by field; and this description, or otherwise the one before
-abbrev pub left_from : Waiting → MscLeft
-left_from output = record { name_length = output.name; body_length = output.body }
-
-abbrev pub filled_left : MscLeft → Result (Option Waiting) Refusal → MscLeft
-filled_left before (Ok (Some output)) = left_from output
-filled_left before (Ok None) = before
-filled_left before (Err refusal) = before
-
-abbrev pub waiting_code : Result (Option Waiting) Refusal → ℤ
-waiting_code (Ok (Some output)) = pos 0
-waiting_code (Ok None) = pos 1
-waiting_code (Err refusal) = code_of refusal
-
-abbrev pub CopiesLeft : Option Kept → Place → NameAndBody → Got MscLeft → NameAndBody → Type 0
-CopiesLeft old place room got out = (answer : Result (Option Waiting) Refusal)
-    × HandleWaits old place room answer out × (got.code ≡ waiting_code answer)
-    × (got.output ≡ filled_left got.before answer)
+Reserves old events code new = (answer : Result (Unit {0}) ReserveRefusal) × HandleReserves old events answer new
+    × (code ≡ done_code (of_unreserved Alike) answer)

@@ -1,4 +1,5 @@
 pub mod Answers
+pub mod BoardAnswers
 pub mod Performing
 pub mod CommandLines
 pub mod Several

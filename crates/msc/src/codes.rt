@@ -3,26 +3,24 @@ ghost use Rattle.std.specs.Prelude.{◌≡◌};
 ghost use Rattle.c_board.specs.Receiving.{found_with, arrived_after};
 ghost use Rattle.c_board.specs.declared.found.Arrived.{Arrived};
 ghost use Rattle.msc.specs.Answers.{code_of, done_code, found_code, number_after};
-ghost use Rattle.msc.specs.Answers.{event_from, filled_event, report_from, filled_report, left_from, waiting_code};
-ghost use Rattle.msc.specs.Answers.{filled_left};
+ghost use Rattle.msc.specs.Answers.{event_from, filled_event};
 
-use crate::answers::{MscEvent, MscLeft, MscReport};
+use crate::answers::MscEvent;
 use board::Peek;
-use c_board::boards::{Reported, Waiting};
-use c_board::{Arrived, EventInfo, Found, Refusal};
+use c_board::{Arrived, EventInfo, Found, Numbered, Numbering};
 
-/// The number of a refusal, below 0.
+/// The number of a refusal, below 0. Each misuse is -100.
 #[inline(always)]
-pub(crate) fn code_of(refusal: Refusal) -> i32
-    ensures { result ≡ code_of refusal }
+pub(crate) fn code_of<E: Numbered>(refusal: E) -> i32
+    ensures { result ≡ code_of (E.number Numbering.Alike refusal) }
 {
-    -(refusal.number() as i32)
+    -(refusal.number(Numbering::Alike) as i32)
 }
 
 /// The number of a receive's answer. If a message came, its description is written to `output`.
 #[inline(always)]
-pub(crate) fn found_code(answer: Result<Found, Refusal>, output: &mut Arrived) -> i32
-    ensures code { result ≡ found_code answer }
+pub(crate) fn found_code<E: Numbered>(answer: Result<Found, E>, output: &mut Arrived) -> i32
+    ensures code { result ≡ found_code (E.number Numbering.Alike) answer }
     ensures output { output.new ≡ arrived_after output.old answer }
 {
     match answer {
@@ -38,8 +36,8 @@ pub(crate) fn found_code(answer: Result<Found, Refusal>, output: &mut Arrived) -
 
 /// The number of a receive's answer, if the message was described elsewhere.
 #[inline(always)]
-pub(crate) fn peek_code(answer: Result<Peek, Refusal>) -> i32
-    ensures { (output : Arrived) → result ≡ found_code (found_with answer output) }
+pub(crate) fn peek_code<E: Numbered>(answer: Result<Peek, E>) -> i32
+    ensures { (output : Arrived) → result ≡ found_code (E.number Numbering.Alike) (found_with answer output) }
 {
     match answer {
         Ok(Peek::Message) => 0,
@@ -50,8 +48,8 @@ pub(crate) fn peek_code(answer: Result<Peek, Refusal>) -> i32
 }
 
 /// The number of a call that was done or refused.
-pub(crate) fn done_code(answer: Result<(), Refusal>) -> i32
-    ensures { result ≡ done_code answer }
+pub(crate) fn done_code<E: Numbered>(answer: Result<(), E>) -> i32
+    ensures { result ≡ done_code (E.number Numbering.Alike) answer }
 {
     match answer {
         Ok(()) => 0,
@@ -60,8 +58,8 @@ pub(crate) fn done_code(answer: Result<(), Refusal>) -> i32
 }
 
 /// The number of a call that returned a count or was refused, and the count.
-pub(crate) fn count_code(answer: Result<usize, Refusal>, count: &mut usize) -> i32
-    ensures code { result ≡ done_code answer }
+pub(crate) fn count_code<E: Numbered>(answer: Result<usize, E>, count: &mut usize) -> i32
+    ensures code { result ≡ done_code (E.number Numbering.Alike) answer }
     ensures count { count.new ≡ number_after count.old answer }
 {
     match answer {
@@ -74,8 +72,8 @@ pub(crate) fn count_code(answer: Result<usize, Refusal>, count: &mut usize) -> i
 }
 
 /// The number of a send that was made or refused, and its first event.
-pub(crate) fn first_code(answer: Result<u32, Refusal>, event: &mut u32) -> i32
-    ensures code { result ≡ done_code answer }
+pub(crate) fn first_code<E: Numbered>(answer: Result<u32, E>, event: &mut u32) -> i32
+    ensures code { result ≡ done_code (E.number Numbering.Alike) answer }
     ensures event { event.new ≡ number_after event.old answer }
 {
     match answer {
@@ -100,8 +98,8 @@ fn event_from(output: EventInfo) -> MscEvent
 }
 
 /// The number of a call that described an event or was refused, and the description.
-pub(crate) fn event_code(answer: Result<EventInfo, Refusal>, event: &mut MscEvent) -> i32
-    ensures code { result ≡ done_code answer }
+pub(crate) fn event_code<E: Numbered>(answer: Result<EventInfo, E>, event: &mut MscEvent) -> i32
+    ensures code { result ≡ done_code (E.number Numbering.Alike) answer }
     ensures event { event.new ≡ filled_event event.old answer }
 {
     match answer {
@@ -109,56 +107,6 @@ pub(crate) fn event_code(answer: Result<EventInfo, Refusal>, event: &mut MscEven
             *event = event_from(output);
             0
         }
-        Err(refusal) => code_of(refusal),
-    }
-}
-
-/// The description of a report, as C reads it.
-fn report_from(reported: Reported) -> MscReport
-    ensures { result ≡ report_from reported }
-{
-    MscReport {
-        instance: reported.instance,
-        event: reported.event,
-        races: reported.races,
-    }
-}
-
-/// The number of a call that described a report or was refused, and the description.
-pub(crate) fn report_code(answer: Result<Reported, Refusal>, report: &mut MscReport) -> i32
-    ensures code { result ≡ done_code answer }
-    ensures report { report.new ≡ filled_report report.old answer }
-{
-    match answer {
-        Ok(reported) => {
-            *report = report_from(reported);
-            0
-        }
-        Err(refusal) => code_of(refusal),
-    }
-}
-
-/// The description of a waiting message, as C reads it.
-fn left_from(waiting: Waiting) -> MscLeft
-    ensures { result ≡ left_from waiting }
-{
-    MscLeft {
-        name_length: waiting.name,
-        body_length: waiting.body,
-    }
-}
-
-/// The number of a call that described a waiting message, found none, or was refused, and the description.
-pub(crate) fn waiting_code(answer: Result<Option<Waiting>, Refusal>, left: &mut MscLeft) -> i32
-    ensures code { result ≡ waiting_code answer }
-    ensures left { left.new ≡ filled_left left.old answer }
-{
-    match answer {
-        Ok(Some(waiting)) => {
-            *left = left_from(waiting);
-            0
-        }
-        Ok(None) => 1,
         Err(refusal) => code_of(refusal),
     }
 }

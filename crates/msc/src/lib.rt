@@ -5,6 +5,7 @@
 #![tactic(auto)]
 
 mod answers;
+mod board_codes;
 mod boards;
 mod codes;
 mod command_lines;
@@ -17,6 +18,7 @@ mod version;
 pub use answers::{MscEvent, MscLeft, MscReport};
 pub use boards::{
     msc_board_left_, msc_board_report_, msc_board_text_, msc_carry_over_, msc_gather_, msc_meet_,
+    msc_open_, msc_open_numbered_,
 };
 pub use command_lines::msc_view_;
 pub use messages::{
@@ -24,7 +26,7 @@ pub use messages::{
 };
 pub use performing::{MscLengths, msc_perform_};
 pub use posts::{
-    msc_any_, msc_close_, msc_close_coregion_, msc_event_, msc_free_, msc_open_,
-    msc_open_coregion_, msc_receive_, msc_reserve_, msc_send_, msc_send_all_,
+    msc_any_, msc_close_, msc_close_coregion_, msc_event_, msc_free_, msc_open_coregion_,
+    msc_receive_, msc_reserve_, msc_send_, msc_send_all_,
 };
 pub use version::msc_version;

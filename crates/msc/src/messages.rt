@@ -8,11 +8,9 @@ ghost use Rattle.msc.specs.Several.{TakesUpTo};
 use crate::codes::count_code;
 use crate::several::many_code;
 use c_board::{Arrived, Handle, Which};
-use std::alloc::Global;
 
 #[unsafe(no_mangle)]
 pub extern "C" fn msc_receive_up_to_(
-    alloc: Global,
     post: &mut Handle,
     from: u32,
     arrivals: &mut [Arrived],
@@ -20,54 +18,38 @@ pub extern "C" fn msc_receive_up_to_(
 ) -> i32
     ensures { TakesUpTo post.old.slot.value from arrivals.old result arrivals.new count.new post.new.slot.value }
 {
-    many_code(post.receive_up_to(alloc, from, arrivals), count)
+    many_code(post.receive_up_to(from, arrivals), count)
 }
 
 #[unsafe(no_mangle)]
-pub extern "C" fn msc_name_(
-    alloc: Global,
-    post: &mut Handle,
-    buffer: &mut [u8],
-    length: &mut usize,
-) -> i32
+pub extern "C" fn msc_name_(post: &mut Handle, buffer: &mut [u8], length: &mut usize) -> i32
     ensures same { post.new.slot.value ≡ post.old.slot.value }
     ensures answer { Copies name_in Last post.old.slot.value buffer.old
         (record { code = result; before = length.old; output = length.new }) buffer.new }
 {
-    count_code(post.copy_name(alloc, Which::Last, buffer), length)
+    count_code(post.copy_name(Which::Last, buffer), length)
 }
 
 #[unsafe(no_mangle)]
-pub extern "C" fn msc_body_(
-    alloc: Global,
-    post: &mut Handle,
-    buffer: &mut [u8],
-    length: &mut usize,
-) -> i32
+pub extern "C" fn msc_body_(post: &mut Handle, buffer: &mut [u8], length: &mut usize) -> i32
     ensures same { post.new.slot.value ≡ post.old.slot.value }
     ensures answer { Copies body_in Last post.old.slot.value buffer.old
         (record { code = result; before = length.old; output = length.new }) buffer.new }
 {
-    count_code(post.copy_body(alloc, Which::Last, buffer), length)
+    count_code(post.copy_body(Which::Last, buffer), length)
 }
 
 #[unsafe(no_mangle)]
-pub extern "C" fn msc_races_(
-    alloc: Global,
-    post: &mut Handle,
-    buffer: &mut [u32],
-    count: &mut usize,
-) -> i32
+pub extern "C" fn msc_races_(post: &mut Handle, buffer: &mut [u32], count: &mut usize) -> i32
     ensures same { post.new.slot.value ≡ post.old.slot.value }
     ensures answer { CopiesRaces Last post.old.slot.value buffer.old
         (record { code = result; before = count.old; output = count.new }) buffer.new }
 {
-    count_code(post.copy_races(alloc, Which::Last, buffer), count)
+    count_code(post.copy_races(Which::Last, buffer), count)
 }
 
 #[unsafe(no_mangle)]
 pub extern "C" fn msc_name_of_(
-    alloc: Global,
     post: &mut Handle,
     place: usize,
     buffer: &mut [u8],
@@ -77,12 +59,11 @@ pub extern "C" fn msc_name_of_(
     ensures answer { Copies name_in (At place) post.old.slot.value buffer.old
         (record { code = result; before = length.old; output = length.new }) buffer.new }
 {
-    count_code(post.copy_name(alloc, Which::At(place), buffer), length)
+    count_code(post.copy_name(Which::At(place), buffer), length)
 }
 
 #[unsafe(no_mangle)]
 pub extern "C" fn msc_body_of_(
-    alloc: Global,
     post: &mut Handle,
     place: usize,
     buffer: &mut [u8],
@@ -92,12 +73,11 @@ pub extern "C" fn msc_body_of_(
     ensures answer { Copies body_in (At place) post.old.slot.value buffer.old
         (record { code = result; before = length.old; output = length.new }) buffer.new }
 {
-    count_code(post.copy_body(alloc, Which::At(place), buffer), length)
+    count_code(post.copy_body(Which::At(place), buffer), length)
 }
 
 #[unsafe(no_mangle)]
 pub extern "C" fn msc_races_of_(
-    alloc: Global,
     post: &mut Handle,
     place: usize,
     buffer: &mut [u32],
@@ -107,5 +87,5 @@ pub extern "C" fn msc_races_of_(
     ensures answer { CopiesRaces (At place) post.old.slot.value buffer.old
         (record { code = result; before = count.old; output = count.new }) buffer.new }
 {
-    count_code(post.copy_races(alloc, Which::At(place), buffer), count)
+    count_code(post.copy_races(Which::At(place), buffer), count)
 }

@@ -3,7 +3,7 @@ ghost use Rattle.std.specs.Prelude.{◌≡◌};
 ghost use Rattle.msc.specs.Performing.{PerformsTask, performed_code, lengths_after};
 
 use crate::codes::code_of;
-use c_board::Refusal;
+use c_board::Misuse;
 use c_commands::{Performed, perform_into};
 use std::alloc::Global;
 
@@ -15,8 +15,8 @@ pub struct MscLengths {
     pub err: usize,
 }
 
-/// The exit status of a task, or the number of a refusal, and the lengths of the task's texts.
-pub(crate) fn performed_code(answer: Result<Performed, Refusal>, lengths: &mut MscLengths) -> i32
+/// The exit status of a task, or the number of a misuse, and the lengths of the task's texts.
+pub(crate) fn performed_code(answer: Result<Performed, Misuse>, lengths: &mut MscLengths) -> i32
     ensures code { result ≡ performed_code answer }
     ensures lengths { lengths.new ≡ lengths_after lengths.old answer }
 {
@@ -28,7 +28,7 @@ pub(crate) fn performed_code(answer: Result<Performed, Refusal>, lengths: &mut M
             };
             performed.status as i32
         }
-        Err(refusal) => code_of(refusal),
+        Err(misuse) => code_of(misuse),
     }
 }
 

@@ -1,21 +1,12 @@
 //! The exports for posts.
 ghost use Rattle.std.specs.Prelude.{◌≡◌, None};
-ghost use Rattle.c_board.specs.Opening.{kept_by};
-ghost use Rattle.msc.specs.Answers.{Sends, Takes, TakesAny, Closes, OpensAll, OpensRegion};
+ghost use Rattle.msc.specs.Answers.{Sends, Takes, TakesAny, Closes, OpensRegion};
 ghost use Rattle.msc.specs.Answers.{ShutsRegion, CopiesEvent, Reserves, SendsAll};
-ghost use Rattle.c_board.specs.SendingAll.{contents_in};
 
 use crate::answers::MscEvent;
 use crate::codes::{code_of, done_code, event_code, first_code, found_code, peek_code};
-use c_board::{Arrived, Handle, MessageLengths, open};
+use c_board::{Arrived, Handle, MessageLengths};
 use std::alloc::Global;
-
-#[unsafe(no_mangle)]
-pub extern "C" fn msc_open_(alloc: Global, posts: &mut [Handle], capacity: u32) -> i32
-    ensures { OpensAll capacity (kept_by posts.old) result (kept_by posts.new) }
-{
-    done_code(open(alloc, posts, capacity))
-}
 
 #[unsafe(no_mangle)]
 pub extern "C" fn msc_send_(
@@ -47,64 +38,58 @@ pub extern "C" fn msc_send_all_(
     lengths: &[MessageLengths],
     event: &mut u32,
 ) -> i32
-    ensures { SendsAll post.old.slot.value to (contents_in bytes.now lengths.now)
+    ensures { SendsAll post.old.slot.value to bytes.now lengths.now
         (record { code = result; before = event.old; output = event.new }) post.new.slot.value }
 {
     first_code(post.send_all(alloc, to, bytes, lengths), event)
 }
 
 #[unsafe(no_mangle)]
-pub extern "C" fn msc_receive_(
-    alloc: Global,
-    post: &mut Handle,
-    from: u32,
-    arrival: &mut Arrived,
-) -> i32
+pub extern "C" fn msc_receive_(post: &mut Handle, from: u32, arrival: &mut Arrived) -> i32
     ensures { Takes post.old.slot.value from (record { code = result; before = arrival.old; output = arrival.new })
         post.new.slot.value }
 {
-    peek_code(post.receive(alloc, from, arrival))
+    peek_code(post.receive(from, arrival))
 }
 
 #[unsafe(no_mangle)]
-pub extern "C" fn msc_any_(alloc: Global, post: &mut Handle, arrival: &mut Arrived) -> i32
+pub extern "C" fn msc_any_(post: &mut Handle, arrival: &mut Arrived) -> i32
     ensures { TakesAny post.old.slot.value (record { code = result; before = arrival.old; output = arrival.new })
         post.new.slot.value }
 {
-    found_code(post.any(alloc), arrival)
+    found_code(post.any(), arrival)
 }
 
 #[unsafe(no_mangle)]
-pub extern "C" fn msc_close_(alloc: Global, post: &mut Handle, to: u32) -> i32
+pub extern "C" fn msc_close_(post: &mut Handle, to: u32) -> i32
     ensures { Closes post.old.slot.value to result post.new.slot.value }
 {
-    done_code(post.close(alloc, to))
+    done_code(post.close(to))
 }
 
 #[unsafe(no_mangle)]
-pub extern "C" fn msc_open_coregion_(alloc: Global, post: &mut Handle) -> i32
+pub extern "C" fn msc_open_coregion_(post: &mut Handle) -> i32
     ensures { OpensRegion post.old.slot.value result post.new.slot.value }
 {
-    done_code(post.open_coregion(alloc))
+    done_code(post.open_coregion())
 }
 
 #[unsafe(no_mangle)]
-pub extern "C" fn msc_close_coregion_(alloc: Global, post: &mut Handle) -> i32
+pub extern "C" fn msc_close_coregion_(post: &mut Handle) -> i32
     ensures { ShutsRegion post.old.slot.value result post.new.slot.value }
 {
-    done_code(post.close_coregion(alloc))
+    done_code(post.close_coregion())
 }
 
 #[unsafe(no_mangle)]
-pub extern "C" fn msc_reserve_(alloc: Global, post: &mut Handle, events: u32) -> i32
+pub extern "C" fn msc_reserve_(post: &mut Handle, events: u32) -> i32
     ensures { Reserves post.old.slot.value events result post.new.slot.value }
 {
-    done_code(post.reserve(alloc, events))
+    done_code(post.reserve(events))
 }
 
 #[unsafe(no_mangle)]
 pub extern "C" fn msc_event_(
-    alloc: Global,
     post: &mut Handle,
     number: u32,
     event: &mut MscEvent,
@@ -114,7 +99,7 @@ pub extern "C" fn msc_event_(
     ensures answer { CopiesEvent post.old.slot.value number buffer.old
         (record { code = result; before = event.old; output = event.new }) buffer.new }
 {
-    event_code(post.event(alloc, number, buffer), event)
+    event_code(post.event(number, buffer), event)
 }
 
 #[unsafe(no_mangle)]

@@ -4,7 +4,7 @@ ghost use Rattle.msc.specs.Several.{stop_code, many_code, many_of};
 
 use crate::codes::code_of;
 use board::Stop;
-use c_board::{FoundMany, Refusal};
+use c_board::{FoundMany, TakeRefusal};
 
 /// The number of the reason why no more messages were received.
 fn stop_code(stop: Stop) -> i32
@@ -13,12 +13,12 @@ fn stop_code(stop: Stop) -> i32
     match stop {
         Stop::Asked => 0,
         Stop::NoMore => 1,
-        Stop::Refused(error) => code_of(Refusal::Taking(error)),
+        Stop::Refused(error) => code_of(error),
     }
 }
 
 /// The number of the reason why no more messages were received, or none, and how many were received.
-pub(crate) fn many_code(answer: Result<FoundMany, Refusal>, many: &mut usize) -> i32
+pub(crate) fn many_code(answer: Result<FoundMany, TakeRefusal>, many: &mut usize) -> i32
     ensures code { result ≡ many_code answer }
     ensures many { many.new ≡ many_of answer }
 {

@@ -102,7 +102,7 @@ static void boards(void) {
     is("lanes of no slot", msc_open(posts, 2, 0), MSC_BAD_CAPACITY);
     is("lanes of 65 slots", msc_open(posts, 2, 65), MSC_BAD_CAPACITY);
     is("a board", msc_open(posts, 2, 1), MSC_DONE);
-    is("a board over posts", msc_open(posts + 1, 2, 1), MSC_MISUSE);
+    is("a board over posts", msc_open(posts + 1, 2, 1), MSC_IN_USE);
     is("its second post still sends", msc_send(&posts[1], 1, "m", NULL, 0, NULL), MSC_DONE);
     msc_free(&posts[0]);
     is("a freed post", msc_send(&posts[0], 2, "m", NULL, 0, NULL), MSC_MISUSE);
@@ -174,48 +174,6 @@ static void refusals(void) {
     is("a close to itself", msc_close(&posts[0], 1), MSC_TO_ITSELF);
     is("a close to none", msc_close(&posts[0], 9), MSC_NO_SUCH_INSTANCE);
     for (int i = 0; i < 3; i++) msc_free(&posts[i]);
-}
-
-/* Several messages at once: all of them or none. */
-static void several(void) {
-    static const msc_message three[] = {{1, 2}, {2, 0}, {3, 1}}, bad[] = {{1, 2}, {0, 2}, {3, 1}};
-    static const msc_message beyond[] = {{1, 2}, {2, 0}, {3, 9}, {1, 1}};
-    msc_post posts[2] = {MSC_POST_INIT};
-    msc_arrival came;
-    uint32_t event = 9;
-    char text[64];
-    size_t length;
-    is("a board", msc_open(posts, 2, 4), MSC_DONE);
-    is("a bad name", msc_send_all(&posts[0], 2, "a12bbccc3", 9, bad, 3, &event), MSC_NAME_EMPTY);
-    is("names beyond the bytes", msc_send_all(&posts[0], 2, "a12bbccc3", 9, beyond, 4, &event), MSC_NAME_EMPTY);
-    is("to none", msc_send_all(&posts[0], 3, "a12bbccc3", 9, three, 3, &event), MSC_NO_SUCH_INSTANCE);
-    is("to itself", msc_send_all(&posts[0], 1, "a12bbccc3", 9, three, 3, &event), MSC_TO_ITSELF);
-    is("nothing was sent", msc_receive(&posts[1], 1, &came), MSC_NOTHING);
-    is("no event is reported", (int)event, 9);
-    is("no message", msc_send_all(&posts[0], 2, NULL, 0, NULL, 0, &event), MSC_DONE);
-    is("no event", (int)event, 0);
-    is("a send", msc_send(&posts[0], 2, "before", NULL, 0, NULL), MSC_DONE);
-    is("three messages", msc_send_all(&posts[0], 2, "a12bbccc3", 9, three, 3, &event), MSC_DONE);
-    is("the first one's event", (int)event, 2);
-    is("a full lane", msc_send_all(&posts[0], 2, "a12bbccc3", 9, three, 3, &event), MSC_FULL);
-    is("the one before", msc_receive(&posts[1], 1, &came), MSC_DONE);
-    is("the first", msc_receive(&posts[1], 1, &came), MSC_DONE);
-    is("its body", msc_body(&posts[1], text, 64, &length), MSC_DONE);
-    is_text("its body", text, length, "12");
-    is("the second", msc_receive(&posts[1], 1, &came), MSC_DONE);
-    is("its name", msc_name(&posts[1], text, 64, &length), MSC_DONE);
-    is_text("its name", text, length, "bb");
-    is("its body's length", (int)came.body_length, 0);
-    is("the third", msc_receive(&posts[1], 1, &came), MSC_DONE);
-    is("its name", msc_name(&posts[1], text, 64, &length), MSC_DONE);
-    is_text("its name", text, length, "ccc");
-    is("no fourth", msc_receive(&posts[1], 1, &came), MSC_NOTHING);
-    msc_free(&posts[0]);
-    msc_free(&posts[1]);
-    is("a board of one slot", msc_open(posts, 2, 1), MSC_DONE);
-    is("more than it has", msc_send_all(&posts[0], 2, "a12bbccc3", 9, three, 3, &event), MSC_TOO_MANY);
-    msc_free(&posts[0]);
-    msc_free(&posts[1]);
 }
 
 static void full_line(void) {
@@ -400,7 +358,6 @@ int main(void) {
     empty_handles();
     boards();
     refusals();
-    several();
     full_line();
     whole_boards();
     boards_in_a_row();

@@ -3,13 +3,10 @@ use Rattle.std.proofs.Common.{◌≡◌, ℕ, zero, suc, ◌+◌, ◌<◌, List,
 use Rattle.std.proofs.lemmas.Option.{slice_get-get_or}
 use Rattle.std.specs.Prelude.{IsErrAnd, slice_get, None, Some, Result, Ok, Err}
 use Rattle.chart.specs.Names.{IsName}
-use Rattle.chart.specs.Charts.{LineView}
-use Rattle.c_board.specs.declared.refusal.Refusal.{Refusal}
-use Rattle.c_board.specs.declared.refusal.Refusal.TheVariants as why
+use Rattle.c_board.specs.declared.boards.naming.NamesRefusal.{NamesRefusal}
 use Rattle.c_board.proofs.ChairLemmas.{drop_at}
 use Rattle.c_board.proofs.WordLemmas.{drop_more}
 use Rattle.c_board.specs.Boards.Naming.{words_in, AddsName, ReadsNames}
-use Rattle.c_board.specs.Boards.BoardText.{WritesText}
 
 -- the next word
 pub next_word : (bytes : List ℕ) (lengths more : List ℕ) (names : List (List ℕ)) (start many n : ℕ) → words_in bytes lengths ≡ names ++ words_in (drop start bytes) (drop n lengths)
@@ -36,30 +33,13 @@ names_next names new word all its added i name at = go names all i (subst (λ (n
     go (n ∷ ns) all (suc i) there = go ns (λ j m at. all (suc j) m at) i there
 
 -- the word is refused
-pub word_refused : (words : List (List ℕ)) (names rest new : List (List ℕ)) (word : List ℕ) (refusal : Refusal) → words ≡ names ++ word ∷ rest
+pub word_refused : (words : List (List ℕ)) (names rest new : List (List ℕ)) (word : List ℕ) (refusal : NamesRefusal) → words ≡ names ++ word ∷ rest
     → ((i : ℕ) (name : List ℕ) → slice_get names i ≡ Some name → IsName name) → AddsName names word (Err refusal) new → ReadsNames words (Err refusal)
 word_refused words names rest new word refusal splits all its = (names, word, record { rest = rest; splits = splits; names = all }, its)
 
 pub length-words : (bytes lengths : List ℕ) → length (words_in bytes lengths) ≡ length lengths
 length-words bytes [] = refl
 length-words bytes (many ∷ more) = ap suc (length-words (drop many bytes) more)
-
--- so the text is refused
-pub names_refused : (refusal : Refusal) (chart : List LineView) (names : List (List ℕ)) (room : List ℕ) → length names ≡ length chart → ReadsNames names (Err refusal) → WritesText chart names room (Err refusal) room
-names_refused why.Misuse chart names room each its = absurd its.3
-names_refused why.Memory chart names room each its = (refl, (each, inl its))
-names_refused (why.Naming error) chart names room each its = (refl, (each, its))
-names_refused why.NameTwice chart names room each its = (refl, (each, its))
-names_refused why.BodyTooLong chart names room each its = absurd its.3
-names_refused why.NoInstance chart names room each its = absurd its.3
-names_refused why.NoEvent chart names room each its = absurd its.3
-names_refused why.NotAllPosts chart names room each its = absurd its.3
-names_refused why.OtherBoard chart names room each its = absurd its.3
-names_refused (why.Opening error) chart names room each its = absurd its.3
-names_refused (why.Sending error) chart names room each its = absurd its.3
-names_refused (why.Taking error) chart names room each its = absurd its.3
-names_refused (why.Closing error) chart names room each its = absurd its.3
-names_refused (why.Region error) chart names room each its = absurd its.3
 
 -- the next name lies here
 pub word_here : (bytes lengths : List ℕ) (names : List (List ℕ)) (word : List ℕ) (start many n : ℕ) → words_in bytes lengths ≡ names ++ words_in (drop start bytes) (drop n lengths)
@@ -76,10 +56,6 @@ words_more bytes lengths names new word start many n so_far less is word_is_it a
     ∙ sym (append_assoc names (word ∷ []) (words_in (drop (start + length word) bytes) (drop (n + 1) lengths))) ∙ ap (λ (ns : List (List ℕ)). ns ++ words_in (drop (start + length word) bytes) (drop (n + 1) lengths)) (sym added)
 
 -- a refusal that is passed on
-pub text_refused : (chart : List LineView) (names : List (List ℕ)) (room : List ℕ) (result : Result ℕ Refusal) (error : Refusal) → IsErrAnd result (λ e. e ≡ error) → WritesText chart names room (Err error) room → WritesText chart names room result room
-text_refused chart names room (Ok many) error never its = absurd never
-text_refused chart names room (Err e) error same its = subst (λ (x : Refusal). WritesText chart names room (Err x) room) (sym same) its
-
-pub names_on : (words : List (List ℕ)) (result : Result (List (List ℕ)) Refusal) (error : Refusal) → IsErrAnd result (λ e. e ≡ error) → ReadsNames words (Err error) → ReadsNames words result
+pub names_on : (words : List (List ℕ)) (result : Result (List (List ℕ)) NamesRefusal) (error : NamesRefusal) → IsErrAnd result (λ e. e ≡ error) → ReadsNames words (Err error) → ReadsNames words result
 names_on words (Ok names) error never its = absurd never
-names_on words (Err e) error same its = subst (λ (x : Refusal). ReadsNames words (Err x)) (sym same) its
+names_on words (Err e) error same its = subst (λ (x : NamesRefusal). ReadsNames words (Err x)) (sym same) its

@@ -7,35 +7,43 @@ use Rattle.board.specs.declared.gathering.Left.{Left}
 use Rattle.c_board.specs.declared.boards.reports.Reported.{Reported}
 use Rattle.c_board.specs.declared.boards.left.Place.{Place}
 use Rattle.c_board.specs.declared.boards.left.Waiting.{Waiting}
+use Rattle.c_board.specs.declared.boards.left.LeftRefusal.{LeftRefusal}
+use Rattle.c_board.specs.declared.boards.left.LeftRefusal.TheVariants as left
+use Rattle.c_board.specs.declared.boards.reports.ReportRefusal.{ReportRefusal}
+use Rattle.c_board.specs.declared.boards.reports.ReportRefusal.TheVariants as report
 use Rattle.c_board.specs.declared.kept.Kept.{Kept}
-use Rattle.c_board.specs.declared.kept.Kept.TheVariants.{Post, Board, Away}
-use Rattle.c_board.specs.declared.refusal.Refusal.{Refusal}
-use Rattle.c_board.specs.declared.refusal.Refusal.TheVariants as why
+use Rattle.c_board.specs.declared.misuse.Misuse.TheVariants as misuse
+use Rattle.c_board.specs.declared.misuse.Numbering.{Numbering}
 use Rattle.c_board.specs.Copying.{put_over, counted, indices}
+use Rattle.c_board.specs.Contents.{board_in}
+use Rattle.c_board.specs.Refusals.{of_misuse}
+use Rattle.c_board.specs.Wholes.{WholeView}
 
 -- the description of a report: its receive, and how many races it has
 abbrev pub reported_of : ReportView → Reported
-reported_of report = record {
-  instance = report.receive.instance;
-  event = report.receive.index;
-  races = counted report.earlier;
+reported_of it = record {
+  instance = it.receive.instance;
+  event = it.receive.index;
+  races = counted it.earlier;
 }
 
 -- there is no such report, or it is described and its races are copied out
-abbrev pub CopiesReport : Option ReportView → List ℕ → Result Reported Refusal → List ℕ → Type 0
-CopiesReport None room result out = (result ≡ Err why.NoEvent) × (out ≡ room)
-CopiesReport (Some report) room result out = (result ≡ Ok (reported_of report))
-    × (out ≡ put_over (indices report.earlier) room)
+abbrev pub CopiesReport : Option ReportView → List ℕ → Option Reported → List ℕ → Type 0
+CopiesReport None room result out = (result ≡ None) × (out ≡ room)
+CopiesReport (Some it) room result out = (result ≡ Some (reported_of it)) × (out ≡ put_over (indices it.earlier) room)
 
--- the report with this number, from 1, of the board that is kept
-abbrev pub KeptReports : Kept → ℕ → List ℕ → Result Reported Refusal → List ℕ → Type 0
-KeptReports (Board it) number room result out = CopiesReport (ith it.reports.items number) room result out
-KeptReports (Post state) number room result out = (result ≡ Err why.Misuse) × (out ≡ room)
-KeptReports Away number room result out = (result ≡ Err why.Misuse) × (out ≡ room)
+-- what describing the report with this number, from 1, answers for the board that a handle keeps
+abbrev pub HandleReports : Option Kept → ℕ → List ℕ → Result Reported ReportRefusal → List ℕ → Type 0
+HandleReports kept number room (Ok output) out = (board : WholeView) × (board_in kept ≡ Some board)
+    × CopiesReport (ith board.gathered.reports.items number) room (Some output) out
+HandleReports kept number room (Err report.NoBoard) out = (board_in kept ≡ None) × (out ≡ room)
+HandleReports kept number room (Err report.NoEvent) out = (board : WholeView) × (board_in kept ≡ Some board)
+    × CopiesReport (ith board.gathered.reports.items number) room None out
 
-abbrev pub HandleReports : Option Kept → ℕ → List ℕ → Result Reported Refusal → List ℕ → Type 0
-HandleReports None number room result out = (result ≡ Err why.Misuse) × (out ≡ room)
-HandleReports (Some kept) number room result out = KeptReports kept number room result out
+-- the number of each refusal
+abbrev pub of_report : Numbering → ReportRefusal → ℕ
+of_report misuses report.NoBoard = of_misuse misuses misuse.NoBoard
+of_report misuses report.NoEvent = 31
 
 -- the lane is the one from q to p
 abbrev pub is_on : Left → ℕ → ℕ → Bool
@@ -44,7 +52,7 @@ is_on lane q p = lane.sender == q && lane.receiver == p
 -- the messages that wait on the lane from q to p
 abbrev pub messages_on : List Left → ℕ → ℕ → List Content
 messages_on [] q p = []
-messages_on (left ∷ more) q p = if is_on left q p then left.messages.items else messages_on more q p
+messages_on (lane ∷ more) q p = if is_on lane q p then lane.messages.items else messages_on more q p
 
 -- the description of a waiting message
 abbrev pub waiting_of : Content → Waiting
@@ -67,15 +75,14 @@ CopiesWaiting (Some message) room result out = (result ≡ Some (waiting_of mess
 
 -- the message at the place, among those left on these lanes
 abbrev pub message_at : List Left → Place → Option Content
-message_at left place = ith (messages_on left place.from place.to) place.number
+message_at lanes place = ith (messages_on lanes place.from place.to) place.number
 
--- the message at the place, of the board that is kept
-abbrev pub KeptWaits : Kept → Place → NameAndBody → Result (Option Waiting) Refusal → NameAndBody → Type 0
-KeptWaits (Board it) place room result out = (output : Option Waiting) × (result ≡ Ok output)
-    × CopiesWaiting (message_at it.left.items place) room output out
-KeptWaits (Post state) place room result out = (result ≡ Err why.Misuse) × AreKept room out
-KeptWaits Away place room result out = (result ≡ Err why.Misuse) × AreKept room out
+-- what describing the message at the place answers for the board that a handle keeps
+abbrev pub HandleWaits : Option Kept → Place → NameAndBody → Result (Option Waiting) LeftRefusal → NameAndBody → Type 0
+HandleWaits kept place room (Ok output) out = (board : WholeView) × (board_in kept ≡ Some board)
+    × CopiesWaiting (message_at board.gathered.left.items place) room output out
+HandleWaits kept place room (Err left.NoBoard) out = (board_in kept ≡ None) × AreKept room out
 
-abbrev pub HandleWaits : Option Kept → Place → NameAndBody → Result (Option Waiting) Refusal → NameAndBody → Type 0
-HandleWaits None place room result out = (result ≡ Err why.Misuse) × AreKept room out
-HandleWaits (Some kept) place room result out = KeptWaits kept place room result out
+-- the number of the refusal
+abbrev pub of_left : Numbering → LeftRefusal → ℕ
+of_left misuses left.NoBoard = of_misuse misuses misuse.NoBoard

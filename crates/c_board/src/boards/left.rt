@@ -2,13 +2,14 @@
 ghost use Rattle.std.specs.Prelude.{◌≡◌, IfSome, IfNone, slice_get, Some, [], ℕ};
 ghost use Rattle.board.specs.declared.gathering.Left.{Left};
 ghost use Rattle.c_board.specs.Copying.{put_over};
-ghost use Rattle.c_board.specs.Boards.BoardCopies.{messages_on, is_on, waiting_of, CopiesWaiting, KeptWaits};
-ghost use Rattle.c_board.specs.Boards.BoardCopies.{HandleWaits, message_at};
+ghost use Rattle.c_board.specs.Boards.BoardCopies.{messages_on, is_on, waiting_of, CopiesWaiting, message_at};
+ghost use Rattle.c_board.specs.Boards.BoardCopies.{HandleWaits, of_left};
 
-use crate::{Handle, Kept, Refusal, copy_out};
+use crate::misuse::{Misuse, Numbering};
+use crate::numbered::Numbered;
+use crate::{Handle, Kept, copy_out};
 use board::Left;
 use chart::Message;
-use std::alloc::Global;
 
 /// The place of a waiting message on a gathered board.
 #[repr(C)]
@@ -29,6 +30,23 @@ pub struct Waiting {
     pub name: usize,
     /// How many bytes its body has.
     pub body: usize,
+}
+
+/// Why a message that waits on a board isn't looked for.
+#[derive(Clone, Copy)]
+pub enum LeftRefusal {
+    /// A misuse: the handle keeps no board.
+    NoBoard,
+}
+
+impl Numbered for LeftRefusal {
+    ghost number = { λ misuses refusal. of_left misuses refusal };
+
+    fn number(self, misuses: Numbering) -> u32 {
+        match self {
+            LeftRefusal::NoBoard => Misuse::NoBoard.number(misuses),
+        }
+    }
 }
 
 /// Whether the lane has these ends.
@@ -81,39 +99,37 @@ fn copy_nth(left: &[Left], place: &Place, name: &mut [u8], body: &mut [u8]) -> O
     Some(copy_message(&messages[number - 1], name, body))
 }
 
-/// The same, if a board is kept.
+/// Describes the message at this place, of the board that is kept.
 fn copy_kept(
     kept: &Kept,
     place: &Place,
     name: &mut [u8],
     body: &mut [u8],
-) -> Result<Option<Waiting>, Refusal>
-    ensures { KeptWaits kept.now place.now (record { name = name.old; body = body.old }) result
+) -> Result<Option<Waiting>, LeftRefusal>
+    ensures { HandleWaits (Some kept.now) place.now (record { name = name.old; body = body.old }) result
         (record { name = name.new; body = body.new }) }
 {
-    match kept {
-        Kept::Board(it) => Ok(copy_nth(it.left.as_slice(), place, name, body)),
-        _ => Err(Refusal::Misuse),
-    }
+    let Some(whole) = kept.board() else {
+        return Err(LeftRefusal::NoBoard);
+    };
+    Ok(copy_nth(whole.gathered.left.as_slice(), place, name, body))
 }
 
 /// Describes the message at this place, if one waits there. The call copies out its name and its body, as much as there
 /// is room for.
 pub fn waiting_at(
-    alloc: Global,
     board: &mut Handle,
     place: &Place,
     name: &mut [u8],
     body: &mut [u8],
-) -> Result<Option<Waiting>, Refusal>
+) -> Result<Option<Waiting>, LeftRefusal>
     ensures same { board.new.slot.value ≡ board.old.slot.value }
     ensures answer { HandleWaits board.old.slot.value place.now (record { name = name.old; body = body.old }) result
         (record { name = name.new; body = body.new }) }
 {
-    let Some(kept) = board.take(alloc) else {
-        return Err(Refusal::Misuse);
-    };
-    let result = copy_kept(&*kept, place, name, body);
-    board.put(kept);
-    result
+    if board.is_empty() {
+        return Err(LeftRefusal::NoBoard);
+    }
+    let kept = board.slot.get_mut();
+    copy_kept(&*kept, place, name, body)
 }

@@ -2,11 +2,12 @@
 ghost use Rattle.std.specs.Prelude.{◌≡◌};
 ghost use Rattle.chart.specs.Events.{ith};
 ghost use Rattle.c_board.specs.Copying.{put_over, indices};
-ghost use Rattle.c_board.specs.Boards.BoardCopies.{reported_of, CopiesReport, KeptReports, HandleReports};
+ghost use Rattle.c_board.specs.Boards.BoardCopies.{reported_of, CopiesReport, HandleReports, of_report};
 
-use crate::{Handle, Kept, Refusal, copy_events};
+use crate::misuse::{Misuse, Numbering};
+use crate::numbered::Numbered;
+use crate::{Handle, Kept, copy_events};
 use chart::Report;
-use std::alloc::Global;
 
 /// The description of a report of a gathered board.
 #[derive(Clone, Copy)]
@@ -17,6 +18,26 @@ pub struct Reported {
     pub event: u32,
     /// How many races it has.
     pub races: usize,
+}
+
+/// Why a board's report isn't described: the first of these that applies.
+#[derive(Clone, Copy)]
+pub enum ReportRefusal {
+    /// A misuse: the handle keeps no board.
+    NoBoard,
+    /// F31: the board has no receive with this number.
+    NoEvent,
+}
+
+impl Numbered for ReportRefusal {
+    ghost number = { λ misuses refusal. of_report misuses refusal };
+
+    fn number(self, misuses: Numbering) -> u32 {
+        match self {
+            ReportRefusal::NoBoard => Misuse::NoBoard.number(misuses),
+            ReportRefusal::NoEvent => 31,
+        }
+    }
 }
 
 /// Describes a report, and copies out the numbers of its earlier events, as many as there is room for.
@@ -32,23 +53,26 @@ fn copy_report(report: &Report, out: &mut [u32]) -> Reported
     }
 }
 
-/// Describes the report with this number, from 1.
-fn copy_nth(reports: &[Report], number: usize, out: &mut [u32]) -> Result<Reported, Refusal>
+/// Describes the report with this number, from 1, if there is one.
+fn copy_nth(reports: &[Report], number: usize, out: &mut [u32]) -> Option<Reported>
     ensures { CopiesReport (ith reports.now number) out.old result out.new }
 {
     if number == 0 || number > reports.len() {
-        return Err(Refusal::NoEvent);
+        return None;
     }
-    Ok(copy_report(&reports[number - 1], out))
+    Some(copy_report(&reports[number - 1], out))
 }
 
-/// Describes the report with this number, from 1, if a board is kept.
-fn copy_kept(kept: &Kept, number: usize, out: &mut [u32]) -> Result<Reported, Refusal>
-    ensures { KeptReports kept.now number out.old result out.new }
+/// Describes the report with this number, from 1, of the board that is kept.
+fn copy_kept(kept: &Kept, number: usize, out: &mut [u32]) -> Result<Reported, ReportRefusal>
+    ensures { HandleReports (Some kept.now) number out.old result out.new }
 {
-    match kept {
-        Kept::Board(it) => copy_nth(it.reports.as_slice(), number, out),
-        _ => Err(Refusal::Misuse),
+    let Some(whole) = kept.board() else {
+        return Err(ReportRefusal::NoBoard);
+    };
+    match copy_nth(whole.gathered.reports.as_slice(), number, out) {
+        Some(reported) => Ok(reported),
+        None => Err(ReportRefusal::NoEvent),
     }
 }
 
@@ -56,18 +80,16 @@ fn copy_kept(kept: &Kept, number: usize, out: &mut [u32]) -> Result<Reported, Re
 /// The call copies out the report's races: the numbers of the earlier events, as many as there is room for. F31: the
 /// board has fewer receives.
 pub fn report_at(
-    alloc: Global,
     board: &mut Handle,
     number: usize,
     out: &mut [u32],
-) -> Result<Reported, Refusal>
+) -> Result<Reported, ReportRefusal>
     ensures same { board.new.slot.value ≡ board.old.slot.value }
     ensures answer { HandleReports board.old.slot.value number out.old result out.new }
 {
-    let Some(kept) = board.take(alloc) else {
-        return Err(Refusal::Misuse);
-    };
-    let result = copy_kept(&*kept, number, out);
-    board.put(kept);
-    result
+    if board.is_empty() {
+        return Err(ReportRefusal::NoBoard);
+    }
+    let kept = board.slot.get_mut();
+    copy_kept(&*kept, number, out)
 }

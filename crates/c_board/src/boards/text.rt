@@ -2,14 +2,42 @@
 ghost use Rattle.std.specs.Prelude.{◌≡◌, length, IfSome};
 ghost use Rattle.msc_text.specs.ChartText.{chart_text};
 ghost use Rattle.c_board.specs.Boards.Naming.{words_in};
-ghost use Rattle.c_board.specs.Boards.BoardText.{WritesText, KeptWritesText, HandleWritesText};
+ghost use Rattle.c_board.specs.Boards.BoardText.{HandleWritesText, of_text};
 
-use crate::boards::naming::names_in;
-use crate::{Handle, Kept, Refusal, copy_out};
+use crate::boards::naming::{NamesRefusal, names_in};
+use crate::misuse::{Misuse, Numbering};
+use crate::numbered::Numbered;
+use crate::{Handle, Kept, copy_out};
 use chart::{Chart, Names};
 use msc_text::write;
 use std::alloc::Global;
 use texts::MemoryOut;
+
+/// Why a board's text isn't copied out: the first of these that applies.
+#[derive(Clone, Copy)]
+pub enum TextRefusal {
+    /// A misuse: the handle keeps no board.
+    NoBoard,
+    /// A misuse: there is another number of names than of instances.
+    WrongNumber,
+    /// F1 to F4, F22 or F6: the names are refused.
+    Names(NamesRefusal),
+    /// F6: there is no memory for the text.
+    Memory,
+}
+
+impl Numbered for TextRefusal {
+    ghost number = { λ misuses refusal. of_text misuses refusal };
+
+    fn number(self, misuses: Numbering) -> u32 {
+        match self {
+            TextRefusal::NoBoard => Misuse::NoBoard.number(misuses),
+            TextRefusal::WrongNumber => Misuse::WrongNumber.number(misuses),
+            TextRefusal::Names(refusal) => refusal.number(misuses),
+            TextRefusal::Memory => 6,
+        }
+    }
+}
 
 /// The chart's text in memory, if there is memory for it.
 fn text_in_memory(alloc: Global, names: &Names, chart: &Chart) -> Option<MemoryOut>
@@ -23,41 +51,32 @@ fn text_in_memory(alloc: Global, names: &Names, chart: &Chart) -> Option<MemoryO
     }
 }
 
-/// Copies out the chart's text.
-fn copy_chart(
-    alloc: Global,
-    chart: &Chart,
-    names: &[u8],
-    lengths: &[usize],
-    out: &mut [u8],
-) -> Result<usize, Refusal>
-    ensures { WritesText chart.now (words_in names.now lengths.now) out.old result out.new }
-{
-    if lengths.len() != chart.lines().len() {
-        return Err(Refusal::Misuse);
-    }
-    let names = names_in(alloc, names, lengths)?;
-    // The prover learns the invariant of a list of names from a call on it.
-    let _ = names.len();
-    match text_in_memory(alloc, &names, chart) {
-        Some(text) => Ok(copy_out(text.as_bytes(), out)),
-        None => Err(Refusal::Memory),
-    }
-}
-
-/// Copies out the text of the chart, if a board is kept.
+/// Copies out the text of the board that is kept.
 fn copy_kept(
     alloc: Global,
     kept: &Kept,
     names: &[u8],
     lengths: &[usize],
     out: &mut [u8],
-) -> Result<usize, Refusal>
-    ensures { KeptWritesText kept.now (words_in names.now lengths.now) out.old result out.new }
+) -> Result<usize, TextRefusal>
+    ensures { HandleWritesText (Some kept.now) (words_in names.now lengths.now) out.old result out.new }
 {
-    match kept {
-        Kept::Board(it) => copy_chart(alloc, &it.chart, names, lengths, out),
-        _ => Err(Refusal::Misuse),
+    let Some(whole) = kept.board() else {
+        return Err(TextRefusal::NoBoard);
+    };
+    let chart = &whole.gathered.chart;
+    if lengths.len() != chart.lines().len() {
+        return Err(TextRefusal::WrongNumber);
+    }
+    let names = match names_in(alloc, names, lengths) {
+        Ok(names) => names,
+        Err(refusal) => return Err(TextRefusal::Names(refusal)),
+    };
+    // The prover learns the invariant of a list of names from a call on it.
+    let _ = names.len();
+    match text_in_memory(alloc, &names, chart) {
+        Some(text) => Ok(copy_out(text.as_bytes(), out)),
+        None => Err(TextRefusal::Memory),
     }
 }
 
@@ -70,14 +89,13 @@ pub fn copy_text(
     names: &[u8],
     lengths: &[usize],
     out: &mut [u8],
-) -> Result<usize, Refusal>
+) -> Result<usize, TextRefusal>
     ensures same { board.new.slot.value ≡ board.old.slot.value }
     ensures answer { HandleWritesText board.old.slot.value (words_in names.now lengths.now) out.old result out.new }
 {
-    let Some(kept) = board.take(alloc) else {
-        return Err(Refusal::Misuse);
-    };
-    let result = copy_kept(alloc, &*kept, names, lengths, out);
-    board.put(kept);
-    result
+    if board.is_empty() {
+        return Err(TextRefusal::NoBoard);
+    }
+    let kept = board.slot.get_mut();
+    copy_kept(alloc, &*kept, names, lengths, out)
 }

@@ -1,22 +1,22 @@
 //! Tests of calls on handles whose growth is refused.
 
-use crate::handles::calls::{gets, holds, pair};
-use c_board::{Handle, Refusal, open};
+use crate::handles::calls::{gets, holds, opened, pair};
+use c_board::{Handle, Numbered, Numbering};
 use std::alloc::Global;
 use std::process::Abort;
 use std::test::Fail;
 
 /// Whether memory was refused.
-fn is_memory<T>(answer: &Result<T, Refusal>) -> bool {
-    matches!(answer, Err(refusal) if refusal.number() == 6)
+fn is_memory<T, E: Numbered>(answer: &Result<T, E>) -> bool {
+    matches!(answer, Err(refusal) if refusal.number(Numbering::Alike) == 6)
 }
 
 /// Opens a board, at the second attempt if memory was refused.
 fn opens(rt: &impl Abort, alloc: Global, handles: &mut [Handle]) {
-    let opened = open(alloc, handles, 2);
-    if opened.is_err() {
-        holds(rt, "F6", is_memory(&opened));
-        holds(rt, "it is opened", open(alloc, handles, 2).is_ok());
+    let answer = opened(alloc, handles, 2);
+    if answer.is_err() {
+        holds(rt, "F6", is_memory(&answer));
+        holds(rt, "it is opened", opened(alloc, handles, 2).is_ok());
     }
 }
 
@@ -30,11 +30,11 @@ fn sends_again(rt: &impl Abort, alloc: Global, post: &mut Handle, body: &[u8]) {
 }
 
 /// Makes room, at the second attempt if memory was refused.
-fn reserves(rt: &impl Abort, alloc: Global, post: &mut Handle) {
-    let reserved = post.reserve(alloc, 4);
+fn reserves(rt: &impl Abort, post: &mut Handle) {
+    let reserved = post.reserve(4);
     if reserved.is_err() {
         holds(rt, "F6", is_memory(&reserved));
-        holds(rt, "room is made", post.reserve(alloc, 4).is_ok());
+        holds(rt, "room is made", post.reserve(4).is_ok());
     }
 }
 
@@ -53,7 +53,7 @@ fn refused_growths_over_handles(rt: HostRuntime) -> Result<(), Fail> {
     let mut handles = [Handle::empty(), Handle::empty()];
     opens(&rt, alloc, &mut handles);
     let [mut first, mut second] = handles;
-    reserves(&rt, alloc, &mut second);
+    reserves(&rt, &mut second);
     sends_again(&rt, alloc, &mut first, b"1234");
     sends_again(&rt, alloc, &mut first, b"");
     first.end(alloc);

@@ -1,47 +1,71 @@
 //! Tests of calls on handles that have no post.
 
-use crate::handles::calls::{holds, no_arrival, pair};
-use c_board::{Handle, Refusal, Which, open};
+use crate::handles::calls::{holds, no_arrival, opened, pair};
+use c_board::{
+    AnyRefusal, CloseRefusal, EventRefusal, Handle, Misuse, OpenRefusal, ReserveRefusal,
+    SendRefusal, TakeRefusal, Which,
+};
 use std::alloc::Global;
 use std::process::Abort;
 
 /// Asserts that each call is a misuse, and that the handle has no post afterwards.
 fn misuses(rt: &impl Abort, alloc: Global, handle: &mut Handle) {
-    let mut output = no_arrival();
+    changes_are_misuses(rt, alloc, handle);
     let mut bytes = [0; 8];
     let mut events = [0; 8];
     holds(
         rt,
-        "a send",
-        matches!(handle.send(alloc, 2, b"m", b""), Err(Refusal::Misuse)),
-    );
-    holds(
-        rt,
-        "a receive",
-        matches!(handle.receive(alloc, 2, &mut output), Err(Refusal::Misuse)),
-    );
-    holds(rt, "any", matches!(handle.any(alloc), Err(Refusal::Misuse)));
-    holds(
-        rt,
-        "a close",
-        matches!(handle.close(alloc, 2), Err(Refusal::Misuse)),
-    );
-    holds(
-        rt,
-        "room",
-        matches!(handle.reserve(alloc, 1), Err(Refusal::Misuse)),
-    );
-    holds(
-        rt,
         "an event",
-        matches!(handle.event(alloc, 1, &mut bytes), Err(Refusal::Misuse)),
+        matches!(
+            handle.event(1, &mut bytes),
+            Err(EventRefusal::Misuse(Misuse::NoPost))
+        ),
     );
     holds(
         rt,
         "races",
         matches!(
-            handle.copy_races(alloc, Which::Last, &mut events),
-            Err(Refusal::Misuse)
+            handle.copy_races(Which::Last, &mut events),
+            Err(Misuse::NoPost)
+        ),
+    );
+}
+
+/// Asserts this of the calls that change a post.
+fn changes_are_misuses(rt: &impl Abort, alloc: Global, handle: &mut Handle) {
+    let mut output = no_arrival();
+    holds(
+        rt,
+        "a send",
+        matches!(
+            handle.send(alloc, 2, b"m", b""),
+            Err(SendRefusal::Misuse(Misuse::NoPost))
+        ),
+    );
+    holds(
+        rt,
+        "a receive",
+        matches!(
+            handle.receive(2, &mut output),
+            Err(TakeRefusal::Misuse(Misuse::NoPost))
+        ),
+    );
+    holds(
+        rt,
+        "any",
+        matches!(handle.any(), Err(AnyRefusal::Misuse(Misuse::NoPost))),
+    );
+    holds(
+        rt,
+        "a close",
+        matches!(handle.close(2), Err(CloseRefusal::Misuse(Misuse::NoPost))),
+    );
+    holds(
+        rt,
+        "room",
+        matches!(
+            handle.reserve(1),
+            Err(ReserveRefusal::Misuse(Misuse::NoPost))
         ),
     );
 }
@@ -68,7 +92,7 @@ fn handles_with_posts_are_not_opened(rt: HostRuntime) {
     holds(
         &rt,
         "it is a misuse",
-        matches!(open(alloc, &mut handles, 1), Err(Refusal::Misuse)),
+        matches!(opened(alloc, &mut handles, 1), Err(OpenRefusal::InUse)),
     );
     let [mut first, second] = handles;
     holds(&rt, "it sends", first.send(alloc, 2, b"m", b"").is_ok());

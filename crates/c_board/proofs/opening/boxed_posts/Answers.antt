@@ -13,7 +13,7 @@ pub loop-post-init : goal.loop-post-init
 loop-post-init c =
     let gives = c.into_iter-post-iterator.ensures.into_iter_gives in
     record {
-      all = ap (λ (boxes : List (Box Kept Global)). values_of boxes ++ seats_of (into_iter_items c.into_iter-post-iterator.result)) c.in_ok-boxes.ensures.items;
+      all = ap (λ (boxes : List (Box Kept Global)). values_of boxes ++ seats_of c.args.board_number (into_iter_items c.into_iter-post-iterator.result)) c.in_ok-boxes.ensures.items;
       at = λ i post there. c.requires i post (subst (λ (xs : List PostView). slice_get xs i ≡ Some post) gives.0 there);
       rest = search rules;
       room = search rules;
@@ -29,9 +29,9 @@ loop-post-preserved c =
     let rest = into_iter_items c.next.new.self in
     let was = its.all in
     record {
-      all = ap (λ (boxes : List (Box Kept Global)). values_of boxes ++ seats_of rest) c.push_reserved.ensures.items
-          ∙ all_next c.loop-post.boxes.items c.in_ok-boxed_post.field-0 c.in-Some.post rest (seats_of (into_iter_items c.into_iter-post-iterator.result))
-          (subst (λ (xs : List PostView). values_of c.loop-post.boxes.items ++ seats_of xs ≡ seats_of (into_iter_items c.into_iter-post-iterator.result)) steps.0 was) c.in_ok-boxed_post.ensures;
+      all = ap (λ (boxes : List (Box Kept Global)). values_of boxes ++ seats_of c.args.board_number rest) c.push_reserved.ensures.items
+          ∙ all_next c.args.board_number c.loop-post.boxes.items c.in_ok-boxed_post.field-0 c.in-Some.post rest (seats_of c.args.board_number (into_iter_items c.into_iter-post-iterator.result))
+          (subst (λ (xs : List PostView). values_of c.loop-post.boxes.items ++ seats_of c.args.board_number xs ≡ seats_of c.args.board_number (into_iter_items c.into_iter-post-iterator.result)) steps.0 was) c.in_ok-boxed_post.ensures;
       at = λ i post there. its.at (suc i) post (ap (λ (xs : List PostView). slice_get xs (suc i)) steps.0 ∙ there);
       rest = omega (arith, steps.1, its.rest, ap length steps.0);
       room = search rules;

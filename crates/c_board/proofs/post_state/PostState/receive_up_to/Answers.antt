@@ -15,6 +15,9 @@ many_of c = search rules
 from_of : (c : goal.Joined-self) → c.in-Some.from ≡ c.args.from
 from_of c = search rules
 
+board_of : (c : goal.Joined-self) → c.self.inside.board_number ≡ c.args.self.now.board_number
+board_of c = search rules
+
 sound_of : (c : goal.Joined-self) → Sound c.args.self.now.post c.receive_up_to.new.self
 sound_of c = search rules
 
@@ -28,4 +31,4 @@ stops_of : (c : goal.Joined-self) → Stops c.args.self.now.post c.args.from (le
 stops_of c = search rules
 
 pub returns-in-Ok-Got : goal.returns-in-Ok-Got
-returns-in-Ok-Got c = (c.in-Ok-Got.arrivals, record { each = each_of c; many = many_of c; stay = refl; last = from_of c }, sound_of c, (got_of c, most_of c, stops_of c))
+returns-in-Ok-Got c = (c.in-Ok-Got.arrivals, record { each = each_of c; many = many_of c; stay = refl; last = from_of c; board = board_of c }, sound_of c, (got_of c, most_of c, stops_of c))
