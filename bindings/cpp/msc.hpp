@@ -42,7 +42,7 @@ namespace msc {
 class error : public std::exception {
 public:
     explicit error(int answer) noexcept : answer_(answer) {}
-    /* The answer of msc.h: -N for the refusal FN, MSC_MISUSE for a misuse. */
+    /* The answer of msc.h: -N for the refusal FN, and one of MSC_IS_MISUSE for a misuse. */
     int answer() const noexcept { return answer_; }
     const char *what() const noexcept override { return msc_refusal_text(answer_); }
 

@@ -48,7 +48,7 @@ __all__ = [
     "Post", "Refused", "Report", "check", "random", "replay", "version", "view",
 ]  # fmt: skip
 
-#: The words of each refusal, by its answer: -N for the refusal FN, -100 for a misuse.
+#: The words of each refusal, by its answer: -N for the refusal FN, -100 or less for a misuse.
 WORDS = {
     -1: "the name is empty",
     -2: "the name is longer than 32 bytes",
@@ -71,13 +71,17 @@ WORDS = {
     -30: "nothing is sent in a coregion",
     -31: "the line has no event of this number",
     -100: "misuse: no pointer, an empty handle, or what doesn't belong together",
+    -101: "misuse: a handle is empty",
+    -103: "misuse: a handle is in use",
+    -104: "misuse: a number doesn't fit the call",
+    -105: "misuse: the posts are of two boards",
 }
 
 
 class Refused(Exception):
     """A call was refused. It changed nothing, except that a post may have seen more.
 
-    `answer` is that of the C library: -N for the refusal FN, -100 for a misuse, such as using a gathered board.
+    `answer` is that of the C library: -N for the refusal FN, -100 or less for a misuse, such as using a gathered board.
     """
 
     def __init__(self, answer: int) -> None:

@@ -48,12 +48,20 @@ pub enum Error {
     NoSuchEvent,
     /// Arguments that don't belong together: a wrong number of names, or a next board with fewer slots.
     Misuse,
+    /// A misuse: a handle is empty, or was freed.
+    Empty,
+    /// A misuse: a handle that should be empty is in use.
+    InUse,
+    /// A misuse: a number or a count that doesn't fit the rest of the call.
+    WrongNumber,
+    /// A misuse: the posts are of two boards.
+    OtherBoard,
     /// An answer that this version of the crate doesn't know.
     Unknown(i32),
 }
 
 /// Each refusal with its answer and its words, as `msc_refusal_text` has them.
-const TABLE: [(Error, i32, &str); 21] = [
+const TABLE: [(Error, i32, &str); 25] = [
     (Error::NameEmpty, -1, "the name is empty"),
     (Error::NameTooLong, -2, "the name is longer than 32 bytes"),
     (Error::NameBadByte, -3, "a byte doesn't belong in a name"),
@@ -75,6 +83,10 @@ const TABLE: [(Error, i32, &str); 21] = [
     (Error::InCoregion, -30, "nothing is sent in a coregion"),
     (Error::NoSuchEvent, -31, "the line has no event of this number"),
     (Error::Misuse, -100, "misuse: no pointer, an empty handle, or what doesn't belong together"),
+    (Error::Empty, -101, "misuse: a handle is empty"),
+    (Error::InUse, -103, "misuse: a handle is in use"),
+    (Error::WrongNumber, -104, "misuse: a number doesn't fit the call"),
+    (Error::OtherBoard, -105, "misuse: the posts are of two boards"),
 ];
 
 impl Error {
@@ -83,7 +95,7 @@ impl Error {
         TABLE.iter().find(|row| row.1 == answer).map_or(Error::Unknown(answer), |row| row.0)
     }
 
-    /// The answer of the C library: -N for the refusal FN, -100 for a misuse.
+    /// The answer of the C library: -N for the refusal FN, -100 or less for a misuse.
     pub fn answer(self) -> i32 {
         match self {
             Error::Unknown(answer) => answer,

@@ -314,7 +314,7 @@ fn words_are_those_of_the_header() {
     assert_eq!(words, ALL.len());
 }
 
-const ALL: [Error; 21] = [
+const ALL: [Error; 25] = [
     Error::NameEmpty,
     Error::NameTooLong,
     Error::NameBadByte,
@@ -336,4 +336,8 @@ const ALL: [Error; 21] = [
     Error::InCoregion,
     Error::NoSuchEvent,
     Error::Misuse,
+    Error::Empty,
+    Error::InUse,
+    Error::WrongNumber,
+    Error::OtherBoard,
 ];
